@@ -2,8 +2,8 @@
 use Rattle.audit_devices.proofs.{Partitions.parted_on, Steps.quiet}
 use Rattle.audit_devices.proofs.Words.{◌++◌, ◌==◌, ◌∙◌, ◌∷◌, ◌≡◌, ◌≤◌, ◌⊎◌, Bool, Carried, DeviceId, Effect, Entry, Happening, History, IsIn, IsPartitionedBy}
 use Rattle.audit_devices.proofs.Words.{Keeps, List, Network, None, NoneLater, NoteBody, Nothing, Option, Scenario, Shown, Shows, Some, [], ap, arith, effect_by}
-use Rattle.audit_devices.proofs.Words.{effect_of, false, filter, if◌then◌else◌, inl, inr, is_before, last_or, members_in, ne_eqb, option_map_or, place_of}
-use Rattle.audit_devices.{proofs.Words.{records_before, refl, subject_of, subst, sym, time_of, true, ℕ}, specs.Keeping.{IsOfRecord, latest_of, shown_before}}
+use Rattle.audit_devices.proofs.Words.{effect_of, false, filter, if◌then◌else◌, inl, inr, is_before, members_in, ne_eqb, option_map_or, place_of}
+use Rattle.audit_devices.{proofs.Words.{records_before, refl, subject_of, subst, sym, time_of, true, ℕ}, specs.Keeping.{IsOfRecord, last_shown, latest_of, shown_before}}
 use Rattle.run_law.{proofs.records.Order.{all_kept, before_is, is_there}, specs.records.{Order.{AllBefore, IsBefore}, Ranks.{key, rank}}}
 use Rattle.{run_law.proofs.runs.Places.{chain, in_left, in_parts, in_right}, tte_units.proofs.general_lemmas.Lists.{filter_off, filter_on, last_pushed}}
 use Rattle.run_law.specs.declared.note.NoteBody.TheVariants as notes
@@ -56,9 +56,6 @@ kept_still {s} {hs} {d} h {history} nothing keeps = record {
 
 -- ---- a device that it shows something of
 
-abbrev shown_of : Shown → List Entry → Shown
-shown_of first es = option_map_or (λ e. e.shown) (last_or None es) first
-
 abbrev entry_of : Happening → Shown → Entry
 entry_of h shown = record { place = place_of h; shown = shown }
 
@@ -67,7 +64,7 @@ pub kept_on : {s : Scenario} {hs : List Happening} {d : DeviceId} (h : Happening
     → new.entries.items ≡ old.entries.items ++ record { place = place_of h; shown = shown } ∷ []
     → Shows s (hs ++ h ∷ []) d shown → Keeps s hs d old → Keeps s (hs ++ h ∷ []) d new
 kept_on {s} {hs} {d} h {old} new {shown} all first items shows keeps = record {
-  latest = subst (Shows s (hs ++ h ∷ []) d) (sym (ap (shown_of new.first) items ∙ newest (old.entries.items))) shows;
+  latest = subst (Shows s (hs ++ h ∷ []) d) (sym (ap (last_shown new.first) items ∙ newest (old.entries.items))) shows;
   before = λ place. by_place place (is_before (place_of h) place) refl;
   places = λ e i. by_entry e (in_parts e old.entries.items (entry_of h shown ∷ []) (subst (IsIn e) items i));
   order = λ place.
@@ -75,7 +72,7 @@ kept_on {s} {hs} {d} h {old} new {shown} all first items shows keeps = record {
       subst (IsPartitionedBy test) (sym items) (parted_on test old.entries.items (entry_of h shown) (keeps.order place) (ordered place));
 }
   where
-    newest : (es : List Entry) → shown_of new.first (es ++ entry_of h shown ∷ []) ≡ shown
+    newest : (es : List Entry) → last_shown new.first (es ++ entry_of h shown ∷ []) ≡ shown
     newest es = ap (λ (o : Option Entry). option_map_or (λ (e : Entry). e.shown) o new.first) (last_pushed None es (entry_of h shown))
 
     by_place : (place : List ℕ) → (b : Bool) → is_before (place_of h) place ≡ b → Shows s (records_before place (hs ++ h ∷ [])) d (shown_before place new)
@@ -85,16 +82,16 @@ kept_on {s} {hs} {d} h {old} new {shown} all first items shows keeps = record {
         let whole = filter_on records hs h e
         ∙ ap (λ (xs : List Happening). xs ++ h ∷ []) (all_kept records hs (λ x i.
         test_chain (place_of x) (place_of h) place (before_is (place_of x) (place_of h) (all x i)) e)) in
-        let last = ap (λ xs. shown_of new.first (filter test xs)) items
-        ∙ ap (shown_of new.first) (filter_on test old.entries.items (entry_of h shown) e)
+        let last = ap (λ xs. last_shown new.first (filter test xs)) items
+        ∙ ap (last_shown new.first) (filter_on test old.entries.items (entry_of h shown) e)
         ∙ newest (filter test old.entries.items) in
         subst (λ xs. Shows s xs d (shown_before place new)) (sym whole) (subst (Shows s (hs ++ h ∷ []) d) (sym last) shows)
     by_place place false e =
         let test : Entry → Bool = λ x. is_before x.place place in
         let records : Happening → Bool = λ x. is_before (place_of x) place in
-        let last = ap (λ xs. shown_of new.first (filter test xs)) items
-        ∙ ap (shown_of new.first) (filter_off test old.entries.items (entry_of h shown) e)
-        ∙ ap (λ x. shown_of x (filter test old.entries.items)) first in
+        let last = ap (λ xs. last_shown new.first (filter test xs)) items
+        ∙ ap (last_shown new.first) (filter_off test old.entries.items (entry_of h shown) e)
+        ∙ ap (λ x. last_shown x (filter test old.entries.items)) first in
         subst (λ xs. Shows s xs d (shown_before place new)) (sym (filter_off records hs h e))
         (subst (Shows s (records_before place hs) d) (sym last) (keeps.before place))
 

@@ -1,8 +1,8 @@
 -- What is kept of all devices goes on by one more record.
 use Rattle.{audit_devices.{proofs.Kept.{kept_still, nothing_of}, specs.declared.shown.Readings.Readings}, run_law.specs.records.Happenings.earlier}
-use Rattle.audit_devices.proofs.Words.{◌++◌, ◌<◌, ◌==◌, ◌∙◌, ◌∷◌, ◌≡◌, ◌⊎◌, Carried, DeviceId, Entry, Happening, History, IsFresh, Keeps, List, Network, None}
-use Rattle.audit_devices.proofs.Words.{NoteBody, Scenario, Shown, Some, [], ap, arith, carried_by, filter, got_within, inl, inr, is_before, last_or, length}
-use Rattle.audit_devices.proofs.Words.{members_in, nat_lt, option_map_or, place_at, place_of, records_before, refl, slice_get, slice_set, subject_of, subst}
+use Rattle.audit_devices.proofs.Words.{◌++◌, ◌<◌, ◌==◌, ◌∙◌, ◌∷◌, ◌≡◌, ◌⊎◌, Carried, DeviceId, Happening, History, IsFresh, Keeps, List, Network}
+use Rattle.audit_devices.proofs.Words.{NoteBody, Scenario, Some, [], ap, arith, carried_by, got_within, inl, inr, is_before, length}
+use Rattle.audit_devices.proofs.Words.{members_in, nat_lt, place_at, place_of, records_before, refl, slice_get, slice_set, subject_of, subst}
 use Rattle.{audit_devices.proofs.Words.{suc, sym, time_of, true, zero, ℕ}, tte_units.proofs.general_lemmas.{Bools.no_more, Lists.{set_other, set_same}}}
 use Rattle.{audit_devices.specs.{Following.IsMet, Keeping.KeepsAll, Showing.IsSteady}, run_law.proofs.records.Order.same_kept}
 use Rattle.std.{proofs.{Common.{Err, Ok, Result}, lemmas.Bool.cases_order}, specs.Prelude.{OnOk, is_ok}}
@@ -60,12 +60,6 @@ pub earlier_are : (t : ℕ) (hs : List Happening) → records_before (t ∷ []) 
 earlier_are t hs = same_kept (λ h. is_before (place_of h) (t ∷ [])) (λ h. nat_lt (time_of h) t) hs (λ h i. no_more (nat_lt (time_of h) t) (time_of h == t))
 
 -- ---- at first
-
-abbrev shown_last : Shown → List Entry → Shown
-shown_last first es = option_map_or (λ e. e.shown) (last_or None es) first
-
-abbrev shown_then : List ℕ → Shown → List Entry → Shown
-shown_then place first es = shown_last first (filter (λ e. is_before e.place place) es)
 
 pub kept_first : {s : Scenario} {network : Network} {d : DeviceId} {history : History} → s.network ≡ network
     → IsSteady s d → IsFresh network d history → Keeps s [] d history

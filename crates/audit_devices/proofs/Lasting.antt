@@ -1,8 +1,8 @@
 -- How long the same is shown.
-use Rattle.audit_devices.{proofs.{Partitions.kept_front, Words.{take, time_at, true, ℕ}}, specs.{Keeping.IsInOrder, Lasting.{IsUpTo, Lasts, end_of}}}
-use Rattle.audit_devices.proofs.Words.{◌+◌, ◌<◌, ◌==◌, ◌∙◌, ◌∷◌, ◌≡◌, ◌≤◌, Bool, Entry, History, IsPartitionPoint, IsPartitionedBy, List, None, Option, Shown}
-use Rattle.audit_devices.proofs.Words.{Some, [], ap, arith, false, filter, got_within, is_before, last_or, length, nat_lt, option_map_or, refl, slice_get, sym}
-use Rattle.std.{proofs.{Common.get_or, lemmas.{Bool.{le-leb, leb-false, leb-true, lt-ltb, ltb-true}, Option.slice_get-get_or}}, specs.Prelude.{MatchOption, nat_le}}
+use Rattle.audit_devices.{proofs.{Partitions.kept_front, Words.{take, time_at, true, ℕ}}, specs.{Keeping.{IsInOrder, last_shown}, Lasting.{IsUpTo, Lasts, end_of}}}
+use Rattle.audit_devices.proofs.Words.{◌+◌, ◌<◌, ◌==◌, ◌∙◌, ◌∷◌, ◌≡◌, ◌≤◌, Bool, Entry, History, IsPartitionPoint, IsPartitionedBy, List, None, Option}
+use Rattle.audit_devices.proofs.Words.{Some, [], ap, arith, false, filter, got_within, is_before, length, nat_lt, refl, slice_get, sym}
+use Rattle.std.{proofs.{Common.get_or, lemmas.{Bool.{le-leb, leb-false, leb-true, lt-ltb, ltb-true}, Option.slice_get-get_or}}, specs.Prelude.{IfSome, MatchOption, nat_le, option_map}}
 use Rattle.tte_units.proofs.general_lemmas.Bools.{no_more}
 
 -- a place is before all records of a later time than the first exactly where it is of an earlier time
@@ -33,10 +33,7 @@ front_at items time point t order bound parts lt next =
         let late = next first (slice_get-get_or items point d (omega (arith, from, there))) in
         absurd (omega (arith, early, late))
 
-abbrev last_of : Shown → List Entry → Shown
-last_of first es = option_map_or (λ (e : Entry). e.shown) (last_or None es) first
-
-pub lasting : (history : History) (time point : ℕ) (next : Option ℕ) → IsInOrder history → point ≤ length history.entries.items
+lasting : (history : History) (time point : ℕ) (next : Option ℕ) → IsInOrder history → point ≤ length history.entries.items
     → IsPartitionPoint (λ e. nat_le (time_at e.place) time ≡ true) (λ e. nat_le (time_at e.place) time ≡ false) history.entries.items point
     → ((t : ℕ) (e : Entry) → IsUpTo next t → slice_get history.entries.items point ≡ Some e → t ≤ time_at e.place)
     → ((e : Entry) → slice_get history.entries.items point ≡ Some e → time < time_at e.place) → Lasts history time next
@@ -44,13 +41,37 @@ lasting history time point next order bound parts up later t lt le =
     let items = history.entries.items in
     let there = front_at items time point t order bound parts lt (λ e is. up t e le is) in
     let here = front_at items time point (time + 1) order bound parts (omega arith) (λ e is. let after = later e is in omega (arith, after)) in
-    ap (last_of history.first) (there ∙ sym here)
+    ap (last_shown history.first) (there ∙ sym here)
 
 -- what stands behind the point is later
 pub later_at : (items : List Entry) (time point : ℕ) (e : Entry)
     → IsPartitionPoint (λ e. nat_le (time_at e.place) time ≡ true) (λ e. nat_le (time_at e.place) time ≡ false) items point
     → slice_get items point ≡ Some e → time < time_at e.place
 later_at items time point e parts is = grind (arith, got_within, get_or, slice_get-get_or, time_at, leb-false)
+
+abbrev IsParted : List Entry → ℕ → ℕ → Type 0
+IsParted items time point = IsPartitionPoint (λ e. nat_le (time_at e.place) time ≡ true) (λ e. nat_le (time_at e.place) time ≡ false) items point
+
+-- the time of the entry behind the point, if there is one, is later, and up to it the same is shown
+pub later_behind : (items : List Entry) (time point : ℕ) → IsParted items time point → (o : Option Entry) → slice_get items point ≡ o
+    → IfSome (option_map (λ (e : Entry). time_at e.place) o) (λ next. time < next)
+later_behind items time point parts None none = tt
+later_behind items time point parts (Some e) is = later_at items time point e parts is
+
+pub lasting_to : (history : History) (time point : ℕ) → IsInOrder history → point ≤ length history.entries.items
+    → IsParted history.entries.items time point → (o : Option Entry) → slice_get history.entries.items point ≡ o
+    → Lasts history time (option_map (λ (e : Entry). time_at e.place) o)
+lasting_to history time point order bound parts None none =
+    lasting history time point None order bound parts (λ t e up is. let no : None ≡ Some e = sym none ∙ is in absurd cc)
+    (λ e is. later_at history.entries.items time point e parts is)
+lasting_to history time point order bound parts (Some x) found =
+    lasting history time point (Some (time_at x.place)) order bound parts
+    (λ t e up is.
+    let same : Some x ≡ Some e = sym found ∙ is in
+    let one : x ≡ e = cc in
+    let times = ap (λ (y : Entry). time_at y.place) one in
+    omega (arith, up, times))
+    (λ e is. later_at history.entries.items time point e parts is)
 
 -- the entries up to a time are the first
 pub ordered_by : (items : List Entry) (time : ℕ) → ((place : List ℕ) → IsPartitionedBy (λ e. is_before e.place place) items)

@@ -8,9 +8,13 @@ use Rattle.audit_devices.specs.{Effects.subject_of, Showing.{IsSteady, Shown, Sh
 use Rattle.audit_devices.specs.{Following.IsMet, declared.history.Entry.Entry}
 use Rattle.audit_devices.specs.declared.{effect.Carried.Carried, history.History.History, standings.Standings.Standings}
 
+-- what the last of these entries shows, or what is shown at first
+abbrev pub last_shown : Shown → List Entry → Shown
+last_shown first entries = option_map_or (λ e. e.shown) (last_or None entries) first
+
 -- what was shown last, or at first
 abbrev pub latest_of : History → Shown
-latest_of history = option_map_or (λ e. e.shown) (last_or None history.entries.items) history.first
+latest_of history = last_shown history.first history.entries.items
 
 -- the time of a place
 abbrev pub time_at : List ℕ → ℕ
@@ -18,9 +22,7 @@ time_at place = get_or place 0 0
 
 -- what was shown last before a place, or at first
 abbrev pub shown_before : List ℕ → History → Shown
-shown_before place history =
-    option_map_or (λ e. e.shown) (last_or None (filter (λ e. is_before e.place place) history.entries.items))
-    history.first
+shown_before place history = last_shown history.first (filter (λ e. is_before e.place place) history.entries.items)
 
 -- the entry is at the place of one of the records
 pub record IsOfRecord (hs : List Happening) (e : Entry) : Type 0 where

@@ -1,4 +1,6 @@
-ghost use Rattle.std.specs.Prelude.{◌≡◌, ◌∷◌, ◌++◌, ◌<◌, [], List, is_ok, if◌then◌else◌, IfSome, OnOk};
+ghost use Rattle.std.specs.List.Sorted.{IsPartitionPoint};
+ghost use Rattle.std.specs.Prelude.{◌+◌, ◌++◌, ◌<◌, ◌∷◌, ◌≡◌, ◌≤◌, IfSome, List, OnOk, [], false, if◌then◌else◌, is_ok};
+ghost use Rattle.std.specs.Prelude.{length, nat_le, option_map, slice_get, take, true};
 ghost use Rattle.net_plan.specs.Ranges.{IsInRange};
 
 use crate::effect::shows_nothing;
@@ -23,7 +25,7 @@ pub(crate) struct History {
 }
 
 impl History {
-    ghost use Rattle.audit_devices.specs.{Following.IsMet, Keeping.{IsInOrder, Keeps, latest_of, shown_before}};
+    ghost use Rattle.audit_devices.specs.{Following.IsMet, Keeping.{IsInOrder, Keeps, last_shown, latest_of, shown_before, time_at}};
     ghost use Rattle.{audit_devices.specs.Lasting.Lasts, run_law.specs.records.Ranks.place_of};
     ghost use Rattle.run_law.specs.{records.{Happenings.Happening, Order.AllBefore}, scenario.Scenarios.Scenario};
 
@@ -103,22 +105,47 @@ impl History {
         let point = self
             .entries
             .partition_point(|entry| entry.place.is_before(place));
-        let (front, _) = self.entries.split_at(point);
+        self.shown_by(point)
+    }
+
+    /// What is shown at the times later than this one, and the time of the first entry that is later. Up to then the
+    /// same is shown.
+    pub(crate) fn after(&self, time: u64) -> (&Shown, Option<u64>)
+        ensures shown { IsInOrder self.now → result.0.now ≡ shown_before ((time + 1) ∷ []) self.now }
+        ensures later { IsInOrder self.now → IfSome result.1 (λ next. time < next) }
+        ensures lasts { IsInOrder self.now → Lasts self.now time result.1 }
+    {
+        let point = self.count_up_to(time);
+        (self.shown_by(point), self.time_behind(point))
+    }
+
+    /// How many entries are of times up to this one.
+    fn count_up_to(&self, time: u64) -> usize
+        ensures bound { result ≤ length self.now.entries.items }
+        ensures part { IsInOrder self.now → IsPartitionPoint (λ e. nat_le (time_at e.place) time ≡ true)
+            (λ e. nat_le (time_at e.place) time ≡ false) self.now.entries.items result }
+    {
+        self.entries
+            .partition_point(|entry| entry.place.time() <= time)
+    }
+
+    /// What so many entries, from the first on, show.
+    fn shown_by(&self, count: usize) -> &Shown
+        requires { count ≤ length self.now.entries.items }
+        ensures { result.now ≡ last_shown self.now.first (take count self.now.entries.items) }
+    {
+        let (front, _) = self.entries.split_at(count);
         match front.last() {
             Some(entry) => &entry.shown,
             None => &self.first,
         }
     }
 
-    /// The time of the first entry that is later than this time. Up to then the same is shown.
-    pub(crate) fn next_after(&self, time: u64) -> Option<u64>
-        ensures later { IsInOrder self.now → IfSome result (λ next. time < next) }
-        ensures lasts { IsInOrder self.now → Lasts self.now time result }
+    /// The time of the entry behind so many, if there is one.
+    fn time_behind(&self, count: usize) -> Option<u64>
+        ensures { result ≡ option_map (λ e. time_at e.place) (slice_get self.now.entries.items count) }
     {
-        let point = self
-            .entries
-            .partition_point(|entry| entry.place.time() <= time);
-        match self.entries.get(point) {
+        match self.entries.get(count) {
             Some(entry) => Some(entry.place.time()),
             None => None,
         }

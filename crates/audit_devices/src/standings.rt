@@ -101,8 +101,8 @@ impl Standings {
             → ShowsWithin s hs device time result.1 result.0.now }
     {
         let history = &self.histories[device.0 as usize];
-        let end = end_of(history.next_after(time), until);
-        (history.before(&Place::of_time(time + 1)), end)
+        let (shown, next) = history.after(time);
+        (shown, end_of(next, until))
     }
 
     /// What the records show of the device that are of earlier times, or of this one and of a lower rank.

@@ -59,6 +59,12 @@ impl DeviceTakings {
             → result ≡ last_or None (filter (is_taking_before time link cause) (taken_of self.now vl)) }
     {
         let takings = self.vls.as_slice().get(vl.0 as usize)?;
+        // Mostly the frame that comes next asks, and all came before it.
+        if let Some(last) = takings.last() {
+            if last.is_before(time, link, cause) {
+                return Some(*last);
+            }
+        }
         let point = takings.partition_point(|taking| taking.is_before(time, link, cause));
         let (front, _) = takings.split_at(point);
         front.last().copied()
