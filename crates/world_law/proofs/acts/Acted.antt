@@ -4,10 +4,10 @@ use Rattle.{run_law.specs.control.Hearing.{heard_by_schedule, heard_enough, is_i
 use Rattle.run_law.specs.{device.States.is_synchronised, machines.{Answers.{with_clique, with_corrected, with_done}, Tasks.{IsDeedOf, IsUndone, IsWaiting}}}
 use Rattle.std.proofs.Common.{Contains}
 use Rattle.sync_state.{proofs.StateFacts.{no_longer, no_point}, specs.{Calls.state_by, declared.plan.SyncPlan.SyncPlan, membership.Members.count_of}}
-use Rattle.{tte_units.specs.declared.frames.members.Members.Members, world_law.proofs.Words.{point_in, pos, refl, sending, subst, sym, true, value_of, ℕ, ℤ}}
+use Rattle.{tte_units.specs.declared.frames.members.Members.Members, world_law.proofs.Words.{point_in, pos, refl, sending, sym, true, value_of, ℕ, ℤ}}
 use Rattle.world_law.proofs.Words.{◌&&◌, ◌*◌, ◌++◌, ◌+ℤ◌, ◌+◌, ◌-ℤ◌, ◌<ℤ◌, ◌∙◌, ◌∷◌, ◌≡◌, ◌≤ℤ◌, Act, AreClusters, AsyncClique, Bool, Cleared, ClockTask}
 use Rattle.world_law.proofs.Words.{Cluster, Compressed, Corrected, DeviceId, Integrating, IsActOf, IsPending, Joining, List, MayCall, Moment, Network, Node}
-use Rattle.world_law.proofs.Words.{Off, Ripe, Some, Standing, State, Summary, SyncClique, Synchronised, Task, Units, Verdict, [], acting, after_correction}
+use Rattle.world_law.proofs.Words.{Off, Ripe, Some, State, Summary, SyncClique, Synchronised, Task, Units, Verdict, [], acting, after_correction}
 use Rattle.world_law.proofs.Words.{after_emission, amount, ap, arith, called, correcting, correction_value, dispatching, doing, emitting, false, filter}
 use Rattle.world_law.proofs.Words.{heard_as, if◌then◌else◌, inl, inr, ints, last_or, nat_le, next_point, no_cluster, observation_window, own_hearing, plan_of}
 use Rattle.run_law.specs.declared.steps.Act.TheVariants as acts
@@ -25,7 +25,7 @@ pub record IsAlike (node new : Node) : Type 0 where
 pub deed_alike : (network : Network) (device : DeviceId) {node new : Node} (deed : ClockTask) → IsAlike node new
     → IsDeedOf network device new deed → IsDeedOf network device node deed
 deed_alike network device (sending cycle) a own =
-    (own.0, sym (ap (λ (x : Standing). x.state) a.standing) ∙ own.1, own.2)
+    (own.0, sym (rw a.standing) ∙ own.1, own.2)
 deed_alike network device (correcting cycle) a own = sym (ap next_point a.standing) ∙ own
 deed_alike network device (dispatching row cycle) a own = grind (arith, last_or, filter, value_of, dispatching)
 
@@ -46,12 +46,12 @@ module _ (network : Network) (device : DeviceId) (node new : Node) where
   pending_alike moment (emitting sent) a points emitted p =
       inl ((sym a.broken ∙ p.0, waiting_alike points emitted p.1), refl)
   pending_alike moment (doing deed) a points emitted p =
-      inl ((sym a.broken ∙ p.0, undone_alike a p.1), ap (λ (x : Standing). value_of network deed -ℤ x.adjustment.0) a.standing)
+      inl ((sym a.broken ∙ p.0, undone_alike a p.1), rw a.standing)
 
 -- ---- the device begins anew
 
 pub beyond_it : (changed reading adjustment value : ℤ) → changed ≡ (reading +ℤ adjustment) → changed <ℤ value → reading <ℤ (value -ℤ adjustment)
-beyond_it changed reading adjustment value is lt = omega (arith, ints, is, lt)
+beyond_it changed reading adjustment value is lt = omega (arith, ints)
 
 -- where its clock showed this much after the change, and nothing is left of its points, all that it has before it is
 -- for later readings
@@ -59,7 +59,7 @@ anew : (network : Network) (device : DeviceId) (node new : Node) (moment : Momen
     → new.points ≡ [] → IsPending network device new task → IsCarried network device node new moment task
 anew network device node new moment (emitting sent) changed none p =
     absurd (no_cluster (observation_window network) p.1.clusters p.1.cluster
-    (subst (λ ps. AreClusters (observation_window network) ps p.1.clusters) none p.1.are) p.1.there)
+    (rw none at p.1.are) p.1.there)
 anew network device node new moment (doing deed) changed none p = inr (beyond_it _ _ _ _ changed p.1.ahead)
 
 -- ---- the acts
@@ -70,8 +70,8 @@ done_more node moment deed = grind (arith, Contains-append_left)
 after_deed : (network : Network) (device : DeviceId) (node new : Node) (moment : Moment) (deed : ClockTask) (task : Task)
     → new ≡ called moment acting (with_done node deed) → IsPending network device new task → IsCarried network device node new moment task
 after_deed network device node new moment deed task is p =
-    subst (λ n. IsPending network device n task → IsCarried network device node n moment task) (sym is)
-    (pending_alike network device node (called moment acting (with_done node deed)) moment task (done_more node moment deed) refl (λ c there. there)) p
+    (rw (sym is) at (pending_alike network device node (called moment acting (with_done node deed)) moment task
+    (done_more node moment deed) refl (λ c there. there))) p
 
 -- a device hears a frame as one of four things
 pub heard_so : (plan : SyncPlan) (precision : ℤ) (state : State) (adjustment point : ℤ) (cycle : ℕ) (members : Members) (P : Ripe → Type 0) → P ripe.Within
@@ -117,12 +117,12 @@ kept_waiting network device node false sent cm clusters are cluster there is not
 one_more : (state : State) (number cycle n : ℕ) → point_in state number ≡ Some cycle → point_in state (number + 1) ≡ Some n → n ≡ cycle + 1
 one_more Off number cycle n e f = absurd cc
 one_more Integrating number cycle n e f = absurd cc
-one_more Joining number cycle n e f = let a : number ≡ cycle = cc in let b : number + 1 ≡ n = cc in omega (arith, a, b)
-one_more Synchronised number cycle n e f = let a : number ≡ cycle = cc in let b : number + 1 ≡ n = cc in omega (arith, a, b)
+one_more Joining number cycle n e f = let a : number ≡ cycle = cc in let b : number + 1 ≡ n = cc in omega arith
+one_more Synchronised number cycle n e f = let a : number ≡ cycle = cc in let b : number + 1 ≡ n = cc in omega arith
 
 pub next_turn : (r c cycle n : ℕ) (a reading precision : ℤ) → n ≡ cycle + 1 → reading <ℤ ((pos (cycle * r + c) -ℤ a) +ℤ precision) → precision ≤ℤ pos r
     → reading <ℤ (pos (n * r + c) -ℤ a)
-next_turn r c cycle n a reading precision is lt wide = let more : n * r ≡ (cycle + 1) * r = ap (λ k. k * r) is in omega (arith, ints, lt, wide, more)
+next_turn r c cycle n a reading precision is lt wide = let more : n * r ≡ (cycle + 1) * r = rw is in omega (arith, ints)
 
 module _ (network : Network) (device : DeviceId) (node : Node) (moment : Moment) where
   corrected_by : (heard : Summary) (by : Units) (task : Task)
@@ -216,12 +216,9 @@ module _ (network : Network) (device : DeviceId) (node : Node) (moment : Moment)
   acted (acts.Dispatch row cycle) new may wide (first, is) task p =
       after_deed network device node new moment (dispatching row cycle) task is p
   acted (acts.Emit sent heard) new may wide (first, so, is) task p =
-      let whole : new ≡ called moment acting (after_emission network device node moment sent
-      (own_hearing network device node sent)) = is
+      let whole = is
       ∙ ap (λ r. called moment acting (after_emission network device node moment sent r)) so in
-      subst (λ n. IsPending network device n task → IsCarried network device node n moment task) (sym whole)
-      (after_emission_by network device node moment sent task) p
+      (rw (sym whole) at (after_emission_by network device node moment sent task)) p
   acted (acts.Correct cycle verdict) new may wide (first, (heard, comes, is)) task p =
-      subst (λ n. IsPending network device n task → IsCarried network device node n moment task) (sym is)
-      (after_point heard cycle verdict task first.pending.1.own
-      (may.in_time (doing (correcting cycle)) first.pending) wide) p
+      (rw (sym is) at (after_point heard cycle verdict task first.pending.1.own
+      (may.in_time (doing (correcting cycle)) first.pending) wide)) p

@@ -1,7 +1,7 @@
 -- A dispatch is told apart from other losses by its cause.
 use Rattle.world_law.proofs.Words.{◌++◌, ◌<◌, ◌∙◌, ◌≡◌, ◌⊎◌, DeviceId, Dispatches, Happening, IsDue, IsFounded, IsIn}
 use Rattle.world_law.proofs.Words.{IsSendLost, LinkId, List, None, NoteBody, Scenario, Some, VlId, ap, arith, by_number, cases_Bool}
-use Rattle.world_law.proofs.Words.{if◌then◌else◌, Bool, rank, ◌≤◌, false, true, dispatch_body, earlier, filter, in_filter, inl, inr, is_accepted, is_cut, last_in, numbered}
+use Rattle.world_law.proofs.Words.{if◌then◌else◌, rank, ◌≤◌, false, true, dispatch_body, earlier, filter, in_filter, inl, inr, is_accepted, is_cut, last_in, numbered}
 use Rattle.world_law.proofs.{Words.{ℕ, place_of, subst, sym, time_of, way_from}, runs.Agreement.in_earlier, runs.Firsts.earlier_still}
 use Rattle.run_law.proofs.law.FirstPlaces.{numbered_front}
 use Rattle.run_law.specs.declared.note.NoteBody.TheVariants as kinds
@@ -21,7 +21,8 @@ pub send_apart : {s : Scenario} (hs coming : List Happening) {js : List Happenin
 send_apart {s} hs coming {device} {now} founded of_now on lost d =
     let event = on lost.event lost.is.there in
     let all = hs ++ coming in
-    let same : earlier now all ≡ earlier now hs = earlier_still now hs coming (λ z i. let at = of_now z i in omega (arith, at)) in
+    let same : earlier now all ≡ earlier now hs = earlier_still now hs coming (λ z i. let at = of_now z i in
+    omega arith) in
     elim d.at_hand [
       | inl sender ↦ none_some lost.event (subst (λ n. numbered all n ≡ Some lost.event) sender.1 event)
       | inr took ↦ elim (last_in None (filter (λ h. is_accepted device d.entry.row.vl h.note.body) (earlier now all)) took.1.taken took.1.last) [
@@ -36,7 +37,7 @@ send_apart {s} hs coming {device} {now} founded of_now on lost d =
             let same : lost.event ≡ took.1.taken = same_some lost.event took.1.taken (sym event ∙ it) in
             let at = lost.is.same_time in
             let times : time_of lost.event ≡ time_of took.1.taken = ap time_of same in
-            omega (arith, lt, at, times)
+            omega arith
       ]
     ]
 
@@ -49,6 +50,6 @@ module _ (s : Scenario) (device : DeviceId) (now : ℕ) (link : LinkId) (cause :
   -- the record of a dispatch stands behind all others of the acts
   pub dispatch_late : 9 ≤ rank (dispatch_body s device now link cause vl cycle)
   dispatch_late =
-      elim (is_cut s link (way_from s.network device link) now) as (λ (b : Bool). 9 ≤ rank
+      elim (is_cut s link (way_from s.network device link) now) as (λ b. 9 ≤ rank
       (if b then kinds.Lost device link cause
       else kinds.TtSent device link cause vl cycle)) [ true ↦ omega arith | false ↦ omega arith ]

@@ -3,20 +3,20 @@ use Rattle.std.proofs.Common.{◌<◌, Contains, negsuc, true}
 use Rattle.std.proofs.lemmas.{Bool.cases_eq, List.Elements.{Contains-append_left, Contains-push, Contains-push_cases}}
 use Rattle.tte_units.proofs.general_lemmas.Lists.{none_in}
 use Rattle.world_law.proofs.{acts.Acting.point_number, devices.Borne.by_last, rows.{AtHand.{has_frame, value_is}, Dispatching.IsLawful}}
-use Rattle.world_law.proofs.runs.Firsts.{dispatches_same, reaches_back, standing_in, up_back}
-use Rattle.world_law.proofs.Words.{◌++◌, ◌-ℤ◌, ◌<ℤ◌, ◌∙◌, ◌∷◌, ◌≡◌, ◌≤ℤ◌, ◌≤◌, ◌⊎◌, AreClusters, ClockTask, Compressed, DeviceId, Dispatches, Emits, HadComeTo}
+use Rattle.world_law.proofs.runs.Firsts.{dispatches_same, reaches_back, up_back}
+use Rattle.world_law.proofs.Words.{◌-ℤ◌, ◌<ℤ◌, ◌∙◌, ◌∷◌, ◌≡◌, ◌≤ℤ◌, ◌≤◌, ◌⊎◌, ClockTask, Compressed, DeviceId, Dispatches, Emits, HadComeTo}
 use Rattle.world_law.proofs.Words.{Happening, HasDoneTask, IsActing, IsAtCorrection, IsIn, IsLeft, IsPending, Judgement, LinkId, List, Node, Reaches}
-use Rattle.world_law.proofs.Words.{RowId, Scenario, Sends, Some, Task, Units, VlId, [], adjustment_before, ap, arith, changed_at, correcting}
+use Rattle.world_law.proofs.Words.{RowId, Scenario, Sends, Some, Task, VlId, [], adjustment_before, ap, arith, changed_at, correcting}
 use Rattle.world_law.proofs.Words.{dispatching, doing, earlier, emitting, false, frames_taken, inl, inr, ints, is_broken, is_timed, never_both, next_point}
-use Rattle.world_law.proofs.Words.{observation_window, plan_of, points_of, pos, reading_for, sending, state_before, subst, sym, time_of, value_of, ℕ, ℤ}
+use Rattle.world_law.proofs.Words.{plan_of, points_of, pos, reading_for, sending, state_before, sym, time_of, value_of, ℕ, ℤ}
 use Rattle.run_law.specs.control.Corrections.{standing_before}
 
 -- ---- a list has a thing or not
 
 pub contains_or : {X : Type 0} (x : X) → ((y : X) → (y ≡ x) ⊎ (y ≡ x → ⊥)) → (xs : List X) → Contains xs x ⊎ (Contains xs x → ⊥)
 contains_or {X} x same xs =
-    by_last (λ (l : List X). Contains l x ⊎ (Contains l x → ⊥)) (inr (λ c. none_in x c)) (λ l y known. elim (same y) [
-      | inl e ↦ inl (subst (λ (z : X). Contains (l ++ y ∷ []) z) e (Contains-push l y))
+    by_last (λ l. Contains l x ⊎ (Contains l x → ⊥)) (inr (λ c. none_in x c)) (λ l y known. elim (same y) [
+      | inl e ↦ inl (rw (sym e) (Contains-push l y))
       | inr other ↦ elim known [
         | inl c ↦ inl (Contains-append_left l (y ∷ []) x c)
         | inr none ↦ inr (λ c. elim (Contains-push_cases l y x c) [ inl old ↦ none old | inr e ↦ other e ])
@@ -30,10 +30,18 @@ same_deed (dispatching row m) (dispatching other n) = grind (arith, cases_eq, di
 same_deed c d = inr (λ e. cc)
 
 same_int : (a b : ℤ) → (a ≡ b) ⊎ (a ≡ b → ⊥)
-same_int (pos m) (pos n) = elim (cases_eq m n) [ inl e ↦ inl (ap pos e) | inr other ↦ inr (λ e. other (omega (arith, ints, e))) ]
-same_int (negsuc m) (negsuc n) = elim (cases_eq m n) [ inl e ↦ inl (ap negsuc e) | inr other ↦ inr (λ e. other (omega (arith, ints, e))) ]
-same_int (pos m) (negsuc n) = inr (λ e. omega (arith, ints, e))
-same_int (negsuc m) (pos n) = inr (λ e. omega (arith, ints, e))
+same_int (pos m) (pos n) = elim (cases_eq m n) [
+  | inl e ↦ inl (ap pos e)
+  | inr other ↦
+      inr (λ e. other (omega (arith, ints)))
+]
+same_int (negsuc m) (negsuc n) = elim (cases_eq m n) [
+  | inl e ↦ inl (ap negsuc e)
+  | inr other ↦
+      inr (λ e. other (omega (arith, ints)))
+]
+same_int (pos m) (negsuc n) = inr (λ e. omega (arith, ints))
+same_int (negsuc m) (pos n) = inr (λ e. omega (arith, ints))
 
 same_frame : (c d : Compressed) → (d ≡ c) ⊎ (d ≡ c → ⊥)
 same_frame c d = grind (arith, same_int, cases_eq)
@@ -69,10 +77,10 @@ module _ (s : Scenario) (js : List Happening) (now : ℕ) (device : DeviceId) (n
   read_so : {v : ℤ} → IsPresent s js now device node → Reaches s js device v now
       → (v -ℤ node.standing.adjustment.0) ≤ℤ pos (s.reading device now)
   read_so {v} w r =
-      subst (λ (a : Units). (v -ℤ a.0) ≤ℤ pos (s.reading device now)) (sym w.left.counted.adjustment) r.reach.reached
+      rw w.left.counted.adjustment r.reach.reached
 
   ahead_so : {v : ℤ} → IsPresent s js now device node → Reaches s js device v now → node.changed <ℤ v
-  ahead_so {v} w r = subst (λ z. z <ℤ v) (sym w.left.counted.changed) r.below
+  ahead_so {v} w r = rw w.left.counted.changed r.below
 
   pub sending_due : {cycle : ℕ} → IsPresent s js now device node → Sends s js device now cycle
       → (Contains node.done (sending cycle) → ⊥) → IsDueTask s device node now (doing (sending cycle))
@@ -99,7 +107,7 @@ emitting_due {s} w points e not = (
     record {
       cm = e.cm;
       clusters = e.clusters;
-      are = subst (λ ps. AreClusters (observation_window s.network) ps e.clusters) (points ∙ sym (w.left.points e.cm)) e.are;
+      are = rw (points ∙ sym (w.left.points e.cm)) at e.are;
       cluster = e.cluster;
       there = e.there;
       is = e.is;
@@ -131,8 +139,8 @@ pub dispatching_due : {s : Scenario} {js : List Happening} {now : ℕ} {device :
 dispatching_due {s} {js} {now} {device} {node} {cycle} w f d not =
     let row : RowId = record { 0 = d.place } in
     let reached : Reaches s js device (value_of s.network (dispatching row cycle)) now =
-    subst (λ z. Reaches s js device z now) (sym (value_is row cycle d.row)) d.reached in
-    let frame = has_frame {s = s} {node = node} {row = row} {entry = d.entry} (record {
+    rw (value_is row cycle d.row) d.reached in
+    let frame = has_frame (record {
       range = f.lawful.range;
       rules = f.lawful.rules;
       steady = f.lawful.steady;
@@ -163,7 +171,7 @@ pub act_due : {s : Scenario} {js hs : List Happening} {now : ℕ} {device : Devi
     → IsDueTask s device node now task
 act_due w f same points (IsActing.emits sent verdict e) not = emitting_due w points e not
 act_due {s} {js} {hs} {now} {device} {node} w f same points (IsActing.sends cycle d) not =
-    sending_due s js now device node {cycle = cycle} w
+    sending_due s js now device node w
     (record {
       master = d.master;
       up = up_back s hs js now device same d.up;
@@ -171,25 +179,24 @@ act_due {s} {js} {hs} {now} {device} {node} w f same points (IsActing.sends cycl
       reached = reaches_back s hs js now device same d.reached;
     }) not
 act_due {s} {js} {hs} {now} {device} w f same points (IsActing.corrects cycle c) not =
-    correcting_due {cycle = cycle} w
+    correcting_due w
     (record {
-      next = subst (λ l. next_point (standing_in s device now l) ≡ Some cycle) same c.next;
+      next = rw same at c.next;
       reached = reaches_back s hs js now device same c.reached;
       correct = c.correct;
     }) not
 act_due {s} {js} {hs} {now} {device} {node} w f same points (IsActing.dispatches link cause vl cycle d) not =
     let e = dispatches_same s hs js now device link cause vl cycle same d in
-    subst (λ (n : ℕ). IsDueTask s device node now (doing (dispatching (let row : RowId = record { 0 = n } in row) cycle))) e.1
-    (dispatching_due w f e.0
-    (λ there. not (subst (λ (n : ℕ). Contains node.done (dispatching (let row : RowId = record { 0 = n } in row) cycle)) e.1 there)))
+    rw e.1 at (dispatching_due w f e.0
+    (λ there. not (rw e.1 at there)))
 
 -- nor had its clock come to what is reached at the instant before it
 had_not : {s : Scenario} {js : List Happening} {now : ℕ} {device : DeviceId} {node : Node} {v : ℤ}
     → IsPresent s js now device node → Reaches s js device v now → (x : ℕ) → changed_at js device now ≤ x → x < now
     → (v -ℤ node.standing.adjustment.0) ≤ℤ pos (s.reading device x) → ⊥
 had_not {s} {device} {v} w r x from lt at =
-    never_both _ _ (r.reach.not_before x (omega (arith, ints, from)) (omega (arith, ints, lt)))
-    (subst (λ (a : Units). (v -ℤ a.0) ≤ℤ pos (s.reading device x)) w.left.counted.adjustment at)
+    never_both _ _ (r.reach.not_before x (omega (arith, ints)) (omega (arith, ints)))
+    (rw w.left.counted.adjustment at at)
 
 pub came_not : {s : Scenario} {js hs : List Happening} {now : ℕ} {device : DeviceId} {node : Node} {task : Task}
     → IsPresent s js now device node → earlier now hs ≡ earlier now js → IsActing s hs now device task
@@ -201,8 +208,6 @@ came_not {s} {js} {hs} {now} {device} w same (IsActing.sends cycle d) x =
 came_not {s} {js} {hs} {now} {device} w same (IsActing.corrects cycle c) x =
     had_not w (reaches_back s hs js now device same c.reached) x.0 x.1 x.2 x.3
 came_not {s} {js} {hs} {now} {device} w same (IsActing.dispatches link cause vl cycle d) x =
-    let row : RowId = record { 0 = d.place } in
     had_not w
-    (subst (λ z. Reaches s js device z now) (sym (value_is row cycle d.row))
-    (reaches_back s hs js now device same d.reached))
+    (rw (sym (value_is (record { 0 = d.place }) cycle d.row)) at (reaches_back s hs js now device same d.reached))
     x.0 x.1 x.2 x.3

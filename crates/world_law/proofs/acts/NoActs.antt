@@ -3,20 +3,20 @@
 use Rattle.world_law.proofs.runs.Settled.{frame_source, settled_of}
 use Rattle.world_law.proofs.runs.TaskPlaces.{acts_before, placed_so}
 use Rattle.world_law.proofs.acts.Dues.{IsPresent, act_due, came_not, done_or}
-use Rattle.world_law.proofs.Words.{◌+◌, ◌≤ℤ◌, HadComeTo, IsPending, before_later, is_at_source, task_place}
+use Rattle.world_law.proofs.Words.{◌+◌, ◌≤ℤ◌, IsPending, before_later, is_at_source, task_place}
 use Rattle.world_law.proofs.devices.Working.{came_sooner}
 use Rattle.{net_plan.specs.declared.tables.Role.Role, sync_state.specs.Standing.state_at_start}
 use Rattle.{run_law.specs.declared.judgement.Why.TheVariants.On, world_law.proofs.{devices.TurnedOn.{IsQuiet, quiet_rest}, lists.Lists.{behind_no, map_none}}}
 use Rattle.{run_law.specs.scenario.Devices.{has_role, start_of}, world_law.proofs.devices.OwnRecords.keeps_state}
 use Rattle.world_law.proofs.Words.{◌++◌, ◌<◌, ◌∙◌, ◌∷◌, ◌≡◌, ◌≤◌, AreOfNetwork, Bool, Compressed, Device, DeviceId, Emits, Happening}
-use Rattle.world_law.proofs.Words.{HaveBefallen, Integrating, IsActing, IsBefore, IsHeld, IsIn, IsKept, IsLeft}
-use Rattle.world_law.proofs.Words.{Judgement, List, Network, Node, None, Note, NoteBody, Off, Scenario, Some, Stands, State, Synchronised, Task, World}
-use Rattle.world_law.proofs.Words.{[], act_place, after_last, ap, append-nil, append_assoc, arith, cases_Bool, cases_lt, chain, changed_at, device_at, earlier}
-use Rattle.world_law.proofs.Words.{ends_stretch, false, filter_map, frames_taken, happenings, if◌then◌else◌, in_filter, in_left, in_parts}
-use Rattle.world_law.proofs.Words.{in_right, inl, inr, is_broken, is_turned_on_at, is_turning, length, moves, nat_lt, next_cycle}
+use Rattle.world_law.proofs.Words.{HaveBefallen, Integrating, IsActing, IsBefore, IsHeld, IsIn, IsKept}
+use Rattle.world_law.proofs.Words.{Judgement, List, Network, Node, Note, NoteBody, Off, Scenario, Some, Stands, State, Task, World}
+use Rattle.world_law.proofs.Words.{[], act_place, after_last, ap, append-nil, append_assoc, arith, cases_Bool, cases_lt, chain, device_at, earlier}
+use Rattle.world_law.proofs.Words.{ends_stretch, false, filter_map, happenings, in_filter, in_left, in_parts}
+use Rattle.world_law.proofs.Words.{in_right, inl, inr, is_broken, is_turning, length, moves, nat_lt, next_cycle}
 use Rattle.world_law.proofs.Words.{option_map_or, place_of, point_by, point_in, points_of, pos, rank, reading_for, refl}
 use Rattle.world_law.proofs.Words.{slice_get_within}
-use Rattle.world_law.proofs.{Words.{state_after, state_before, state_with, subst, sym, time_of, true, ℕ}, devices.Resting.{IsPast, IsWorked, are_past, at_rest}}
+use Rattle.world_law.proofs.{Words.{state_after, state_before, state_with, sym, time_of, true, ℕ}, devices.Resting.{IsPast, IsWorked, are_past, at_rest}}
 use Rattle.world_law.proofs.{acts.Acting.IsUnmoved, runs.Foremost.{NoActBefore, acting_task, none_but_acts, not_on_after}}
 use Rattle.world_law.proofs.{giving.GivenParts.no_later_breaks, runs.Firsts.{earlier_still, of_high_rank}}
 use Rattle.world_law.proofs.lists.Orders.{cases_int}
@@ -41,7 +41,7 @@ quiet_stretch device body (inr e) = turning_stretch device body e
 
 pub points_same : (zs hs : List Happening) (device : DeviceId) → ((z : Happening) → IsIn z zs → IsQuiet device z.note.body × (4 ≤ rank z.note.body))
     → points_of (hs ++ zs) device ≡ points_of hs device
-points_same [] hs device quiet = ap (λ l. points_of l device) (append-nil hs)
+points_same [] hs device quiet = rw (append-nil hs)
 points_same (z ∷ zs) hs device quiet =
     grind (
       arith,
@@ -61,7 +61,7 @@ points_same (z ∷ zs) hs device quiet =
 -- ---- a device that the network does not have does nothing
 
 no_device : (network : Network) (device : DeviceId) (is : Device) → length network.device ≤ device.0 → device_at network device ≡ Some is → ⊥
-no_device network device is le there = let lt = slice_get_within network.device device.0 is there in omega (arith, lt, le)
+no_device network device is le there = let lt = slice_get_within network.device device.0 is there in omega arith
 
 no_role : (network : Network) (kind : Role → Bool) (device : DeviceId) → length network.device ≤ device.0 → has_role network kind device ≡ true → ⊥
 no_role network kind device le = grind (arith, device_at, option_map_or, no_device)
@@ -73,8 +73,7 @@ never_moved : (device : DeviceId) (old : State) (hs : List Happening) → ((h : 
     → Rattle.std.specs.Prelude.fold (λ state h. state_with device state h.note.body) old hs ≡ old
 never_moved device old [] still = refl
 never_moved device old (h ∷ hs) still =
-    ap (λ (z : State). Rattle.std.specs.Prelude.fold (λ state g. state_with device state g.note.body) z hs)
-    (keeps_state device old h.note.body (still h (inl refl))) ∙ never_moved device old hs (λ g i. still g (inr i))
+    rw (keeps_state device old h.note.body (still h (inl refl))) (never_moved device old hs (λ g i. still g (inr i)))
 
 module _ (s : Scenario) (hs : List Happening) (device : DeviceId) (t : ℕ) where
   state_of_none : length s.network.device ≤ device.0 → AreOfNetwork s hs → state_before s hs device t ≡ Off
@@ -85,19 +84,19 @@ module _ (s : Scenario) (hs : List Happening) (device : DeviceId) (t : ℕ) wher
   none_acts le known (IsActing.sends cycle d) = no_role s.network _ device le d.master
   none_acts le known (IsActing.emits sent verdict e) = no_role s.network _ device le e.cm
   none_acts le known (IsActing.corrects cycle c) =
-      let none : None ≡ Some cycle =
+      let none =
       sym (ap (λ z. point_in z (next_cycle s hs device t)) (state_of_none le known)) ∙ c.next in cc
   none_acts le known (IsActing.dispatches link cause vl cycle d) =
-      let bad : Off ≡ Synchronised = sym (state_of_none le known) ∙ d.up.synchronised in cc
+      let bad = sym (state_of_none le known) ∙ d.up.synchronised in cc
 
   -- ---- nor does a broken one
 
   pub broken_acts : {task : Task} → is_broken s device t ≡ true → IsActing s hs t device task → ⊥
-  broken_acts broken (IsActing.sends cycle d) = let bad : true ≡ false = sym broken ∙ d.up.correct in cc
-  broken_acts broken (IsActing.emits sent verdict e) = let bad : true ≡ false = sym broken ∙ e.correct in cc
-  broken_acts broken (IsActing.corrects cycle c) = let bad : true ≡ false = sym broken ∙ c.correct in cc
+  broken_acts broken (IsActing.sends cycle d) = let bad = sym broken ∙ d.up.correct in cc
+  broken_acts broken (IsActing.emits sent verdict e) = let bad = sym broken ∙ e.correct in cc
+  broken_acts broken (IsActing.corrects cycle c) = let bad = sym broken ∙ c.correct in cc
   broken_acts broken (IsActing.dispatches link cause vl cycle d) =
-      let bad : true ≡ false = sym broken ∙ d.up.correct in cc
+      let bad = sym broken ∙ d.up.correct in cc
 
   -- ---- and one that looks for the common time acts only by emissions
 
@@ -105,12 +104,11 @@ module _ (s : Scenario) (hs : List Happening) (device : DeviceId) (t : ℕ) wher
       → (sent : Compressed) × (verdict : Judgement) × Emits s hs device t sent verdict
   looking_acts looking (IsActing.emits sent verdict e) = (sent, verdict, e)
   looking_acts looking (IsActing.sends cycle d) =
-      absurd (let bad : Integrating ≡ Synchronised = sym looking ∙ d.up.synchronised in cc)
+      absurd (cc)
   looking_acts looking (IsActing.corrects cycle c) =
-      absurd (let none : None ≡ Some cycle = sym (ap (λ z. point_in z (next_cycle s hs device t)) looking)
-      ∙ c.next in cc)
+      absurd (cc)
   looking_acts looking (IsActing.dispatches link cause vl cycle d) =
-      absurd (let bad : Integrating ≡ Synchronised = sym looking ∙ d.up.synchronised in cc)
+      absurd (cc)
 
 -- ---- a device that is kept
 
@@ -135,7 +133,7 @@ pub present : {M : Type 0} {stands : M → Network → DeviceId → Node → Typ
     (k : IsKept stands s hs coming frontier now device machine) → k.up ≡ now
     → IsPresent s (hs ++ coming) now device k.node
 present {s} {hs} {coming} {device} k up =
-    record { left = subst (λ n. IsLeft s (hs ++ coming) device n k.node) up k.left; sound = k.sound }
+    record { left = rw up at k.left; sound = k.sound }
 
 pub kept_no_act : {M : Type 0} {stands : M → Network → DeviceId → Node → Type 0} {s : Scenario}
     {hs coming : List Happening} {frontier p : List ℕ} {now t : ℕ} {device : DeviceId} {machine : M}
@@ -148,18 +146,16 @@ kept_no_act {M} {stands} {s} {hs} {coming} {frontier} {p} {now} {t} {device} {ma
     past worked befallen later le idle a not b =
     elim (cases_lt now t) [
       | inr ge ↦ let same : t ≡ now =
-          omega (arith, ge, le) in at_present (subst (λ n. IsActing s hs n device task) same a)
-          (subst (λ n. IsBefore (task_place s.network n device task) frontier → ⊥) same not)
-          (subst (λ n. IsBefore (task_place s.network n device task) p) same b)
+          omega arith in at_present (rw same at a)
+          (rw same at not)
+          (rw same at b)
       | inl lt ↦
           let empty = behind_it.none t device lt (acts_before s.network t device task p b) in
           let k0 : (x : IsKept stands s hs [] frontier now device machine)
-          × (x.node ≡ k.node) = subst (λ l. (x : IsKept stands s hs l frontier now device machine) × (x.node ≡ k.node))
-          empty (k, refl)
+          × (x.node ≡ k.node) = rw (sym empty) (k, refl)
           in
-          let idle0 : IsIdleBefore s device now k0.0.node p = subst (λ n. IsIdleBefore s device now n p) (sym k0.1) idle in
-          let law0 : IsLawful s hs device = subst (λ l. IsLawful s l device)
-          (ap (λ (l : List Happening). hs ++ l) empty ∙ append-nil hs) law in
+          let idle0 : IsIdleBefore s device now k0.0.node p = rw k0.1 idle in
+          let law0 : IsLawful s hs device = rw (ap (λ (l : List Happening). hs ++ l) empty ∙ append-nil hs) at law in
           afterwards lt k0.0 idle0 law0
     ]
   where
@@ -169,12 +165,12 @@ kept_no_act {M} {stands} {s} {hs} {coming} {frontier} {p} {now} {t} {device} {ma
         let js = hs ++ coming in
         let past_all : (h : Happening) → IsIn h js → time_of h ≤ now = λ h i. elim (in_parts h hs coming i) [
           | inl given ↦ past.past h given
-          | inr fresh ↦ let at = behind_it.of_now h fresh in omega (arith, at)
+          | inr fresh ↦ omega arith
         ] in
-        let same : earlier now js ≡ earlier now hs = earlier_still now hs coming (λ z i. let at = behind_it.of_now z i in omega (arith, at)) in
+        let same = earlier_still now hs coming (λ z i. omega arith) in
         elim k.acted [
           | inl yet ↦
-              let points : points_of js device ≡ points_of hs device = points_same coming hs device
+              let points = points_same coming hs device
               (λ z i. (
                 quiet_rest s device now z.note.body (k.still yet.0 z (in_right z hs coming i) (behind_it.of_now z i)),
                 behind_it.late z i device (acts_before s.network now device task p b),
@@ -187,17 +183,14 @@ kept_no_act {M} {stands} {s} {hs} {coming} {frontier} {p} {now} {t} {device} {ma
                     idle now (omega arith) task due.0 due.1 b
                 | inl did ↦
                     came_not w (sym same) a
-                    (subst (λ n. HadComeTo s device k.node (changed_at js device n) now task) yet.0
-                    (came_sooner now k.worked task did not))
+                    (rw yet.0 at (came_sooner now k.worked task did not))
               ]
           | inr over ↦ elim (k.told over.0) [
             | inl out ↦ not (out.all task a)
             | inr (inr joining) ↦ behind_it.lone joining.by joining.there joining.sent (task_place s.network now device task) not b
             | inr (inl just) ↦
-                let looking : state_before s hs device now ≡ Integrating = ap (λ w. if is_turned_on_at s device now then Integrating
-                else state_after s w device) (sym same) ∙ just.looking in
-                let e = looking_acts s hs device now looking a in
-                let bad : true ≡ false = sym e.2.cm ∙ just.other in cc
+                let e = looking_acts s hs device now (rw (sym same) just.looking) a in
+                cc
           ]
         ]
 
@@ -211,11 +204,10 @@ kept_no_act {M} {stands} {s} {hs} {coming} {frontier} {p} {now} {t} {device} {ma
           | inl less ↦ less
           | inr ge ↦
               let at = placed_so s.network now device other in
-              absurd (idle0 now (omega arith) other pending ge (subst (λ q. IsBefore q p) (sym at.is) (sooner at.rank (device.0 ∷ at.rest))))
+              absurd (idle0 now (omega arith) other pending ge (rw at.is (sooner at.rank (device.0 ∷ at.rest))))
         ]) in
-        let few = rest.soon in
         let u : IsUnmoved s hs device rest.from t = record {
-          le = omega (arith, few, lt);
+          le = omega arith;
           still = λ h i from before. rest.still h i from;
           not_on = rest.off;
           not_on_later = not_on_after t device befallen lt;
@@ -223,11 +215,11 @@ kept_no_act {M} {stands} {s} {hs} {coming} {frontier} {p} {now} {t} {device} {ma
               ∙ sym (no_later_breaks s frontier now rest.from device befallen rest.le);
           never_falls = law0.steady.never_falls;
         } in
-        let taken = k0.taken ∙ ap (λ l. frames_taken s l device) (append-nil hs) in
+        let taken = k0.taken ∙ (rw (append-nil hs)) in
         let due = acting_task u rest.left rest.done rest.sent
         (λ link cause vl cycle d. dispatching_task u rest.left rest.done law0
-        (λ h i. let early = past.past h i in omega (arith, early, le)) taken d) a in
-        idle0 t le due.0 due.1 due.2 (subst (λ q. IsBefore q p) (sym due.3) b)
+        (λ h i. omega arith) taken d) a in
+        idle0 t le due.0 due.1 due.2 (rw due.3 b)
 
 -- ---- all devices
 
@@ -239,7 +231,7 @@ behind_of coming frontier now p of worked after = record {
   of_now = of;
   late = λ z i device b. elim (cases_lt (rank z.note.body) 4) [
     | inr ge ↦ ge
-    | inl low ↦ let at = of z i in absurd (after z i (chain (place_of z) (act_place now device) p (inr (at, inl (omega (arith, low)))) b))
+    | inl low ↦ absurd (after z i (chain (place_of z) (act_place now device) p (inr (of z i, inl (omega arith))) b))
   ];
   none = λ t device lt b. from t device lt b coming of after;
   lone = λ z i four w not b. after z i
@@ -251,7 +243,8 @@ behind_of coming frontier now p of worked after = record {
         → ((z : Happening) → IsIn z l → IsBefore (place_of z) p → ⊥) → l ≡ []
     from t device lt b [] of_l seen = refl
     from t device lt b (z ∷ l) of_l seen =
-        let at = of_l z (inl refl) in absurd (seen z (inl refl) (chain (place_of z) (act_place t device) p (inl (omega (arith, lt, at))) b))
+        let at = of_l z (inl refl) in absurd (seen z (inl refl)
+        (chain (place_of z) (act_place t device) p (inl (omega arith)) b))
 
 held_no_act : {M : Type 0} {stands : M → Network → DeviceId → Node → Type 0} {s : Scenario}
     {hs coming : List Happening} {frontier p : List ℕ} {now t : ℕ} {device : DeviceId} {machine : M} {task : Task}

@@ -1,7 +1,7 @@
 -- An event that does not turn a device on, and does not break it, leaves it as it was.
 use Rattle.{run_law.specs.machines.Answers.node_turned_on, world_law.{proofs.runs.Agreement.{heard_same, local_same, next_same}, specs.device.Left.IsCounted}}
-use Rattle.world_law.proofs.Words.{◌∙◌, ◌≡◌, ◌≤◌, Agree, Bool, DeviceId, Event, Happening, Integrating, IsIn, IsLeft, List, Network, Node, ap, arith, earlier}
-use Rattle.world_law.proofs.Words.{false, if◌then◌else◌, is_broken, is_timed, is_turned_on_at, refl, scenario, state_after, time_of, true, ℕ}
+use Rattle.world_law.proofs.Words.{◌∙◌, ◌≡◌, ◌≤◌, Agree, DeviceId, Event, Happening, IsIn, IsLeft, List, Network, Node, arith, earlier}
+use Rattle.world_law.proofs.Words.{false, is_broken, is_timed, is_turned_on_at, refl, scenario, state_after, time_of, true, ℕ}
 
 -- the clocks read the same up to the time
 abbrev pub ReadAlike : (DeviceId → ℕ → ℕ) → (DeviceId → ℕ → ℕ) → ℕ → Type 0
@@ -32,8 +32,7 @@ module _ (n : Network) (f g : DeviceId → ℕ → ℕ) (events more : List Even
       → IsLeft (scenario n f events) hs device t node → IsLeft (scenario n g more) hs device t node
   stands_still sound same left = record {
     counted = counts_still sound left.counted;
-    state = left.state ∙ ap (λ (b : Bool). if b then Integrating else state_after (scenario n f events)
-        (earlier t hs) device) same;
+    state = left.state ∙ (rw same);
     points = left.points;
   }
 

@@ -3,12 +3,12 @@ use Rattle.{compression.specs.Clusters.point_at, std.proofs.Common.arith}
 use Rattle.{run_law.specs.control.Collections.master_of, sync_state.specs.membership.Hearing.Hearing, world_law.proofs.devices.OwnRecords.{keeps_state, own_no}}
 use Rattle.{run_law.specs.control.Corrections.heard_by, world_law.{proofs.Words.{time_of, true, ℕ}, specs.device.{Own.own, Told.since_at}}}
 use Rattle.{run_law.specs.scenario.Devices.{channel_of, channel_of_link}, world_law.proofs.lists.Lists.{behind_no, behind_yes, filter_no, filter_yes}}
-use Rattle.world_law.proofs.Words.{◌&&◌, ◌++◌, ◌+ℤ◌, ◌+◌, ◌==◌, ◌||◌, ◌∙◌, ◌∷◌, ◌≡◌, ◌≤◌, Bool, DeviceId, Happening, IfSome, Integrating, IsLeft, List}
-use Rattle.world_law.proofs.Words.{Network, Node, None, NoteBody, Option, Scenario, Some, Units, [], adjustment_before, adjustment_with, after_last, and_right}
+use Rattle.world_law.proofs.Words.{◌&&◌, ◌++◌, ◌==◌, ◌||◌, ◌∙◌, ◌∷◌, ◌≡◌, Bool, DeviceId, Happening, IsLeft, List}
+use Rattle.world_law.proofs.Words.{Network, Node, None, NoteBody, Option, Scenario, Some, [], adjustment_before, adjustment_with, after_last, and_right}
 use Rattle.world_law.proofs.Words.{ap, append-nil, append_assoc, bears_on, borne, cases_Bool, changed_at, changes_adjustment, cons_option, cycle_after}
 use Rattle.world_law.proofs.Words.{cycle_in, earlier, ends_stretch, false, filter, filter-append, filter_map, fold, has_cleared, heard_since, hearing_by}
-use Rattle.world_law.proofs.Words.{if◌then◌else◌, inl, inr, integration_cycle, is_joined_by, is_turned_on_at, last_or, members_in, moves, nat_lt, not}
-use Rattle.world_law.proofs.Words.{option_map, option_map_or, point_by, points_of, pos, recorded_cycle, refl, same_kept, state_after, state_with, subst, sym}
+use Rattle.world_law.proofs.Words.{if◌then◌else◌, inl, inr, integration_cycle, is_joined_by, members_in, moves, nat_lt, not}
+use Rattle.world_law.proofs.Words.{option_map, point_by, points_of, recorded_cycle, refl, same_kept, state_after, state_with, subst, sym}
 use Rattle.world_law.proofs.devices.OwnRecords.{changes_no_other, filter_own, fold_own, joins_no_other, keeps_adjustment, keeps_cycle, keeps_integration}
 use Rattle.run_law.specs.declared.judgement.Judgement.TheVariants as judgements
 use Rattle.run_law.specs.declared.judgement.Why.TheVariants as whys
@@ -29,7 +29,7 @@ ends_no_other device (notes.State other state cause why) e = e
 ends_no_other device other e = joins_no_other device other (moves_no_other device other e)
 
 off : {A : Type 0} (b : Bool) (x y : A) → b ≡ false → (if b then x else y) ≡ y
-off b x y e = ap (λ (c : Bool). if c then x else y) e
+off b x y e = rw e
 
 pub gives_no_point : (device : DeviceId) (h : Happening) (body : NoteBody) → bears_on device body ≡ false → point_by device h body ≡ None
 gives_no_point device h (notes.Permanent other link cause point verdict) e =
@@ -60,14 +60,14 @@ by_last P none step xs = from_last P step [] xs none
 
 -- what stands behind the last that passes p, of those that pass q, where what passes p passes q
 behind_kept : {X : Type 0} (p q : X → Bool) → ((x : X) → q x ≡ false → p x ≡ false) → (xs : List X) → after_last p (filter q xs) ≡ filter q (after_last p xs)
-behind_kept {X} p q fails xs = by_last (λ (l : List X). after_last p (filter q l) ≡ filter q (after_last p l)) refl (λ l x same.
+behind_kept {X} p q fails xs = by_last (λ l. after_last p (filter q l) ≡ filter q (after_last p l)) refl (λ l x same.
     elim (cases_Bool (q x)) [
       | inl kept ↦
           ap (after_last p) (filter_yes q l x kept)
           ∙ elim (cases_Bool (p x)) [
             | inl passes ↦ behind_yes p (filter q l) x passes ∙ sym (ap (filter q) (behind_yes p l x passes))
-            | inr stays ↦ behind_no p (filter q l) x stays ∙ ap (λ (k : List X). k ++ x ∷ []) same ∙ sym (filter_yes q (after_last p l) x kept)
-                ∙ sym (ap (filter q) (behind_no p l x stays))
+            | inr stays ↦ behind_no p (filter q l) x stays ∙ (rw same (sym (filter_yes q (after_last p l) x kept)
+                ∙ sym (ap (filter q) (behind_no p l x stays))))
           ]
       | inr left ↦
           ap (after_last p) (filter_no q l x left) ∙ same ∙ sym (filter_no q (after_last p l) x left) ∙ sym (ap (filter q) (behind_no p l x (fails x left)))
@@ -123,15 +123,14 @@ module _ (s : Scenario) (hs gs : List Happening) (device : DeviceId) (t : ℕ) w
         integration = integrations (earlier t hs) ∙ ap (fold _ _) owned ∙ sym (integrations (earlier t gs));
         cycle = cycles (earlier t hs) ∙ ap (fold _ _) owned ∙ sym (cycles (earlier t gs));
         change =
-            ap (λ (l : List Happening). option_map_or time_of (last_or None l) 0)
-            (changes (earlier t hs) ∙ ap (filter _) owned ∙ sym (changes (earlier t gs)));
+            rw (changes (earlier t hs) ∙ ap (filter _) owned ∙ sym (changes (earlier t gs)));
       }
 
   pub tell_alike : borne device hs ≡ borne device gs → TellAlike s hs gs device t
   tell_alike same =
       tell_owned
-      (own_before device t hs ∙ ap (λ l. own device (earlier t l)) same ∙ sym
-      (own_before device t gs))
+      (own_before device t hs ∙ (rw same (sym
+      (own_before device t gs))))
 
   pub cleared_alike : (by : ℕ) → TellAlike s hs gs device t
       → has_cleared s hs device t by ≡ has_cleared s gs device t by
@@ -171,13 +170,13 @@ pub heard_alike : (s : Scenario) (hs gs : List Happening) (device : DeviceId) (t
 heard_alike s hs gs device t same =
     let a = tell_alike s hs gs device t same in
     heard_borne s device t (has_cleared s hs device t) hs
-    ∙ ap (λ l. heard_of s device t (has_cleared s hs device t) (since_at device t l)) same
-    ∙ sym (heard_borne s device t (has_cleared s hs device t) gs)
+    ∙ (rw same
+    (sym (heard_borne s device t (has_cleared s hs device t) gs)
     ∙ ap (filter_map (λ h. hearing_by s.network device h h.note.body))
     (same_kept (λ h. not (has_cleared s hs device t t) || has_cleared s hs device t (time_of h)) (λ h. not (has_cleared s gs device t t)
     || has_cleared s gs device t (time_of h)) (since_at device t gs)
-    (λ h i. ap (λ (b : Bool). not b || has_cleared s hs device t (time_of h)) (cleared_alike s hs gs device t t a)
-    ∙ ap (λ (b : Bool). not (has_cleared s gs device t t) || b) (cleared_alike s hs gs device t (time_of h) a)))
+    (λ h i. rw (cleared_alike s hs gs device t t a)
+    (rw (cleared_alike s hs gs device t (time_of h) a))))))
 
 pub points_alike : (hs gs : List Happening) (device : DeviceId) → borne device hs ≡ borne device gs → points_of hs device ≡ points_of gs device
 points_alike hs gs device same =
@@ -187,8 +186,8 @@ points_alike hs gs device same =
     (after_last (λ h. ends_stretch device h.note.body) l)
     ∙ ap (filter_map (λ h. point_by device h h.note.body))
     (sym (behind_kept (λ h. ends_stretch device h.note.body) q (λ h misses. ends_no_other device h.note.body misses) l)) in
-    to hs ∙ ap (λ (l : List Happening). filter_map (λ h. point_by device h h.note.body) (after_last (λ h. ends_stretch device h.note.body) l)) same
-    ∙ sym (to gs)
+    to hs ∙ (rw same
+    (sym (to gs)))
 
 -- the device stands by the records that bear on it
 pub left_alike : {s : Scenario} {hs : List Happening} (gs : List Happening) {device : DeviceId} {t : ℕ} {node : Node}
@@ -202,20 +201,18 @@ left_alike {s} {hs} gs {device} {t} same left =
         integrated = left.counted.integrated ∙ a.integration;
         number = λ timed.
             left.counted.number timed
-            ∙ ap (λ (b : Bool). if b then recorded_cycle (earlier t hs) device + 1 else recorded_cycle (earlier t hs) device)
-            (cleared_alike s hs gs device t t a)
-            ∙ ap (λ n. if has_cleared s gs device t t then n + 1 else n) a.cycle;
+            ∙ (rw (cleared_alike s hs gs device t t a)
+            ((rw a.cycle)));
         changed =
             left.counted.changed
-            ∙ ap (λ (n : ℕ). pos (s.reading device n) +ℤ (adjustment_before s hs device t).0) a.change
-            ∙ ap (λ (u : Units). pos (s.reading device (changed_at gs device t)) +ℤ u.0) a.adjustment;
+            ∙ (rw a.change
+            ((rw a.adjustment)));
         heard = λ timed. left.counted.heard timed ∙ heard_alike s hs gs device t same;
         started =
-            subst (λ (o : Option ℕ). IfSome o (λ cycle. cycle ≤ recorded_cycle (earlier t gs) device)) a.integration
-            (subst (λ (n : ℕ). IfSome (integration_cycle (earlier t hs) device) (λ cycle. cycle ≤ n)) a.cycle left.counted.started);
+            rw a.integration at (rw a.cycle at left.counted.started);
         broken = left.counted.broken;
       };
-      state = left.state ∙ ap (λ x. if is_turned_on_at s device t then Integrating else x) a.state;
+      state = left.state ∙ (rw a.state);
       points = λ cm. left.points cm ∙ points_alike hs gs device same;
     }
 
@@ -226,5 +223,5 @@ pub other_comes : {s : Scenario} (hs ahead : List Happening) {device : DeviceId}
 other_comes hs ahead {device} h misses left =
     let q = λ (g : Happening). bears_on device g.note.body in
     left_alike ((hs ++ h ∷ []) ++ ahead)
-    (filter-append q hs ahead ∙ ap (λ (l : List Happening). l ++ filter q ahead) (sym (filter_no q hs h misses)) ∙ sym (filter-append q (hs ++ h ∷ []) ahead))
+    (filter-append q hs ahead ∙ (rw (sym (filter_no q hs h misses)) (sym (filter-append q (hs ++ h ∷ []) ahead))))
     left

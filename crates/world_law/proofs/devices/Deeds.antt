@@ -6,6 +6,6 @@ pub rests : (s : Scenario) (hs : List Happening) {device : DeviceId} {t changed 
     → HasDoneFrom s.network (s.reading device) device node changed t t → changed_at hs device t ≡ changed
     → HasDone s hs device t node
 rests s hs has same = record {
-  undone = λ deed u x from lt. has.undone deed u x (omega (arith, from, same)) lt;
-  done = λ deed there. let x = has.done deed there in (x.0, omega (arith, x.1, same), x.2, x.3);
+  undone = λ deed u x from lt. has.undone deed u x (omega arith) lt;
+  done = λ deed there. let x = has.done deed there in (x.0, omega (arith, x.1), x.2, x.3);
 }

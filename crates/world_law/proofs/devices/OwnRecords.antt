@@ -1,9 +1,9 @@
 -- A record that does not bear on a device leaves it as it was.
-use Rattle.{run_law.specs.device.States.joined_adjustment, world_law.{proofs.lists.Lists.filter_no, specs.device.Own.own}}
-use Rattle.world_law.proofs.Words.{◌++◌, ◌+◌, ◌<◌, ◌∙◌, ◌∷◌, ◌≡◌, ◌≤◌, Bool, DeviceId, Happening, IsStill, Joining, List, None, NoteBody, Option, Scenario}
+use Rattle.{world_law.{proofs.lists.Lists.filter_no, specs.device.Own.own}}
+use Rattle.world_law.proofs.Words.{◌++◌, ◌<◌, ◌∙◌, ◌∷◌, ◌≡◌, ◌≤◌, Bool, DeviceId, Happening, IsStill, Joining, List, None, NoteBody, Option, Scenario}
 use Rattle.world_law.proofs.Words.{Some, State, Units, [], adjustment_before, adjustment_with, ap, arith, cases_Bool, cases_lt, changed_at, changes_adjustment}
-use Rattle.world_law.proofs.Words.{cycle_after, cycle_in, earlier, false, filter, fold, if◌then◌else◌, inr, integration_cycle, is_joined_by, last_or, le-ltb}
-use Rattle.world_law.proofs.Words.{lt-ltb, moves, nat_lt, option_map_or, recorded_cycle, refl, state_after, state_with, sym, time_of, true, ℕ}
+use Rattle.world_law.proofs.Words.{cycle_after, cycle_in, earlier, false, filter, fold, if◌then◌else◌, inr, integration_cycle, is_joined_by, le-ltb}
+use Rattle.world_law.proofs.Words.{lt-ltb, moves, nat_lt, recorded_cycle, refl, state_after, state_with, sym, time_of, true, ℕ}
 use Rattle.run_law.specs.declared.judgement.Judgement.TheVariants as judgements
 use Rattle.run_law.specs.declared.note.NoteBody.TheVariants as notes
 
@@ -16,28 +16,28 @@ joins_no_other device (notes.State other state cause why) e = refl
 joins_no_other device other e = e
 
 pub keeps_state : (device : DeviceId) (old : State) (body : NoteBody) → moves device body ≡ false → state_with device old body ≡ old
-keeps_state device old (notes.State other state cause why) e = ap (λ (b : Bool). if b then state else old) e
-keeps_state device old other e = ap (λ (b : Bool). if b then Joining else old) (joins_no_other device other e)
+keeps_state device old (notes.State other state cause why) e = rw e
+keeps_state device old other e = ap (λ b. if b then Joining else old) (joins_no_other device other e)
 
 pub keeps_adjustment : (s : Scenario) (device : DeviceId) (cycle : ℕ) (old : Units) (body : NoteBody) → moves device body ≡ false
     → adjustment_with s device cycle old body ≡ old
-keeps_adjustment s device cycle old (notes.Corrected other number by adjustment) e = ap (λ (b : Bool). if b then adjustment else old) e
+keeps_adjustment s device cycle old (notes.Corrected other number by adjustment) e = rw e
 keeps_adjustment s device cycle old (notes.Permanent other link cause point judgements.Integrates) e =
-    ap (λ (b : Bool). if b then joined_adjustment s device cycle point else old) e
+    rw e
 keeps_adjustment s device cycle old (notes.Compressed other opened at of_cycle members judgements.Integrates) e =
-    ap (λ (b : Bool). if b then joined_adjustment s device of_cycle at else old) e
+    rw e
 keeps_adjustment s device cycle old other e = refl
 
 module _ (device : DeviceId) where
   pub keeps_cycle : (next : ℕ) (h : Happening) (body : NoteBody) → moves device body ≡ false
       → cycle_after device next h body ≡ next
-  keeps_cycle next h (notes.Corrected other cycle by adjustment) e = ap (λ (b : Bool). if b then cycle + 1 else next) e
-  keeps_cycle next h other e = ap (λ (b : Bool). if b then cycle_in h else next) (joins_no_other device other e)
+  keeps_cycle next h (notes.Corrected other cycle by adjustment) e = rw e
+  keeps_cycle next h other e = ap (λ b. if b then cycle_in h else next) (joins_no_other device other e)
 
   pub keeps_integration : (last : Option ℕ) (h : Happening) → moves device h.note.body ≡ false
       → (if is_joined_by device h.note.body then Some (cycle_in h) else last) ≡ last
   keeps_integration last h e =
-      ap (λ (b : Bool). if b then Some (cycle_in h) else last) (joins_no_other device h.note.body e)
+      rw (joins_no_other device h.note.body e)
 
   pub changes_no_other : (body : NoteBody) → moves device body ≡ false → changes_adjustment device body ≡ false
   changes_no_other (notes.Corrected other cycle by adjustment) e = e
@@ -47,11 +47,11 @@ module _ (device : DeviceId) where
 
   pub own_no : (h : Happening) (hs : List Happening) → moves device h.note.body ≡ false
       → own device (h ∷ hs) ≡ own device hs
-  own_no h hs e = ap (λ (b : Bool). if b then h ∷ own device hs else own device hs) e
+  own_no h hs e = rw e
 
   pub own_yes : (h : Happening) (hs : List Happening) → moves device h.note.body ≡ true
       → own device (h ∷ hs) ≡ h ∷ own device hs
-  own_yes h hs e = ap (λ (b : Bool). if b then h ∷ own device hs else own device hs) e
+  own_yes h hs e = rw e
 
 pub fold_own : {B : Type 0} (device : DeviceId) (f : B → Happening → B) → ((z : B) (h : Happening) → moves device h.note.body ≡ false → f z h ≡ z)
     → (z : B) (hs : List Happening) → fold f z hs ≡ fold f z (own device hs)
@@ -71,14 +71,14 @@ pub same_before : (t : ℕ) (hs : List Happening) (h : Happening) → t ≤ time
 same_before t hs h le = filter_no (λ g. nat_lt (time_of g) t) hs h (le-ltb (time_of h) t le)
 
 pub earlier_yes : (t : ℕ) (h : Happening) (hs : List Happening) → time_of h < t → earlier t (h ∷ hs) ≡ h ∷ earlier t hs
-earlier_yes t h hs lt = ap (λ (b : Bool). if b then h ∷ earlier t hs else earlier t hs) (lt-ltb (time_of h) t lt)
+earlier_yes t h hs lt = rw (lt-ltb (time_of h) t lt)
 
 pub earlier_no : (t : ℕ) (h : Happening) (hs : List Happening) → t ≤ time_of h → earlier t (h ∷ hs) ≡ earlier t hs
-earlier_no t h hs le = ap (λ (b : Bool). if b then h ∷ earlier t hs else earlier t hs) (le-ltb (time_of h) t le)
+earlier_no t h hs le = rw (le-ltb (time_of h) t le)
 
 own_kept : (device : DeviceId) (t later : ℕ) (h : Happening) (hs : List Happening) → own device (earlier later hs) ≡ own device (earlier t hs)
     → own device (h ∷ earlier later hs) ≡ own device (h ∷ earlier t hs)
-own_kept device t later h hs e = ap (λ (l : List Happening). if moves device h.note.body then h ∷ l else l) e
+own_kept device t later h hs e = rw e
 
 -- where none bears on the device from one time to another, its own records before the two are the same
 pub own_still : (device : DeviceId) (t later : ℕ) → t ≤ later → (hs : List Happening) → IsStill hs device t later
@@ -121,5 +121,4 @@ module _ (hs : List Happening) (device : DeviceId) (t later : ℕ) (le : t ≤ l
   change_still =
       let same = filter_own device (λ h. changes_adjustment device h.note.body)
       (λ h e. changes_no_other device h.note.body e) in
-      ap (λ (l : List Happening). option_map_or time_of (last_or None l) 0)
-      (same (earlier later hs) ∙ ap (filter _) (own_still device t later le hs still) ∙ sym (same (earlier t hs)))
+      rw (same (earlier later hs) ∙ ap (filter _) (own_still device t later le hs still) ∙ sym (same (earlier t hs)))

@@ -1,10 +1,10 @@
 -- Time passes at a device that no record moves.
 use Rattle.{run_law.proofs.records.Order.after_same, sync_state.specs.membership.Hearing.Hearing}
-use Rattle.world_law.proofs.Words.{◌&&◌, ◌+ℤ◌, ◌+◌, ◌-◌, ◌==◌, ◌||◌, ◌∙◌, ◌≡◌, ◌≤◌, Bool, DeviceId, Happening, IfSome, Integrating, IsLeft, IsStill, List, Node}
-use Rattle.world_law.proofs.Words.{Option, Scenario, Units, adjustment_before, after_last, ap, arith, cases_lt, changed_at, changes_adjustment}
-use Rattle.world_law.proofs.Words.{correction_value, earlier, false, filter, filter_map, has_cleared, heard_since, hearing_by, if◌then◌else◌, inl, inr, int_le}
+use Rattle.world_law.proofs.Words.{◌&&◌, ◌+ℤ◌, ◌-◌, ◌||◌, ◌∙◌, ◌≡◌, ◌≤◌, Bool, DeviceId, Happening, IfSome, IsLeft, IsStill, List, Node}
+use Rattle.world_law.proofs.Words.{Scenario, Units, after_last, ap, arith, cases_lt, changes_adjustment}
+use Rattle.world_law.proofs.Words.{correction_value, earlier, false, filter_map, has_cleared, heard_since, hearing_by, inl, inr, int_le}
 use Rattle.world_law.proofs.Words.{int_lt, integration_cycle, is_broken, is_integration_cycle, is_timed, is_turned_on_at, le-ltb, local_at_change, lt-ltb}
-use Rattle.world_law.proofs.Words.{nat_lt, next_cycle, not, option_map_or, pos, recorded_cycle, same_kept, state_after, state_before, subst, sym, time_of, true}
+use Rattle.world_law.proofs.Words.{nat_lt, next_cycle, not, pos, recorded_cycle, same_kept, state_after, state_before, sym, time_of, true}
 use Rattle.world_law.proofs.{Words.ℕ, devices.OwnRecords.{adjustment_still, change_still, changes_no_other, cycle_still, integration_still, state_still}}
 
 -- has a joiner cleared by the time, where its last adjustment came at `changed`?
@@ -17,20 +17,16 @@ cleared_as s device joining cycle changed adjustment by =
 pub joining_still : (hs : List Happening) (device : DeviceId) (t later : ℕ) → t ≤ later → IsStill hs device t later
     → is_integration_cycle (earlier later hs) device ≡ is_integration_cycle (earlier t hs) device
 joining_still hs device t later le still =
-    ap (λ (o : Option ℕ). option_map_or (λ cycle. recorded_cycle (earlier later hs) device == cycle) o false) (integration_still hs device t later le still)
-    ∙ ap (λ (n : ℕ). option_map_or (λ cycle. n == cycle) (integration_cycle (earlier t hs) device) false) (cycle_still hs device t later le still)
+    rw (integration_still hs device t later le still)
+    (rw (cycle_still hs device t later le still))
 
 pub cleared_still : (s : Scenario) (hs : List Happening) (device : DeviceId) (t later by : ℕ) → t ≤ later → IsStill hs device t later
     → has_cleared s hs device later by ≡ has_cleared s hs device t by
 cleared_still s hs device t later by le still =
-    ap (λ b. cleared_as s device b (recorded_cycle (earlier later hs) device) (changed_at hs device later) (adjustment_before s hs device later) by)
-    (joining_still hs device t later le still)
-    ∙ ap (λ n. cleared_as s device (is_integration_cycle (earlier t hs) device) n (changed_at hs device later) (adjustment_before s hs device later) by)
-    (cycle_still hs device t later le still)
-    ∙ ap (λ n. cleared_as s device (is_integration_cycle (earlier t hs) device) (recorded_cycle (earlier t hs) device) n
-    (adjustment_before s hs device later) by) (change_still hs device t later le still)
-    ∙ ap (λ u. cleared_as s device (is_integration_cycle (earlier t hs) device) (recorded_cycle (earlier t hs) device) (changed_at hs device t) u by)
-    (adjustment_still s hs device t later le still)
+    rw (joining_still hs device t later le still)
+    (rw (cycle_still hs device t later le still)
+    ((rw (change_still hs device t later le still)
+    ((rw (adjustment_still s hs device t later le still))))))
 
 -- the records behind the last change before a time are those behind the last change before a later one
 pub since_still : (hs : List Happening) (device : DeviceId) (t later : ℕ) → t ≤ later → IsStill hs device t later
@@ -40,15 +36,15 @@ since_still hs device t later le still =
     after_same (λ h. nat_lt (time_of h) later && changes_adjustment device h.note.body) (λ h. nat_lt (time_of h) t && changes_adjustment device h.note.body) hs
     (λ h i.
     elim (cases_lt (time_of h) t) [
-      | inl lt ↦ ap (λ (b : Bool). b && changes_adjustment device h.note.body) (lt-ltb (time_of h) later (omega (arith, lt, le))
+      | inl lt ↦ rw (lt-ltb (time_of h) later (omega arith)
           ∙ sym (lt-ltb (time_of h) t lt))
       | inr ge ↦
           elim (cases_lt (time_of h) later) [
             | inl lt ↦
-                ap (λ (b : Bool). b && changes_adjustment device h.note.body) (lt-ltb (time_of h) later lt)
-                ∙ changes_no_other device h.note.body (still h i ge lt)
-                ∙ sym (ap (λ (b : Bool). b && changes_adjustment device h.note.body) (le-ltb (time_of h) t ge))
-            | inr far ↦ ap (λ (b : Bool). b && changes_adjustment device h.note.body) (le-ltb (time_of h) later far ∙ sym (le-ltb (time_of h) t ge))
+                rw (lt-ltb (time_of h) later lt)
+                (changes_no_other device h.note.body (still h i ge lt)
+                ∙ sym (rw (le-ltb (time_of h) t ge)))
+            | inr far ↦ rw (le-ltb (time_of h) later far ∙ sym (le-ltb (time_of h) t ge))
           ]
     ])
 
@@ -62,43 +58,35 @@ module _ (s : Scenario) (hs : List Happening) (device : DeviceId) (t later : ℕ
       → heard_since s hs device later ≡ heard_since s hs device t
   heard_still flag =
       let since = after_last (λ h. nat_lt (time_of h) t && changes_adjustment device h.note.body) hs in
-      ap (λ (l : List Happening). heard_of s device
-      (filter (λ h. not (has_cleared s hs device later later) || has_cleared s hs device later (time_of h)) l))
-      (since_still hs device t later le still)
-      ∙ ap (λ (b : Bool). heard_of s device (filter (λ h. not b || has_cleared s hs device later (time_of h)) since))
-      flag
-      ∙ ap (heard_of s device)
+      rw (since_still hs device t later le still)
+      (rw flag
+      (ap (heard_of s device)
       (same_kept (λ h. not (has_cleared s hs device t t) || has_cleared s hs device later (time_of h))
       (λ h. not (has_cleared s hs device t t)
       || has_cleared s hs device t (time_of h)) since
-      (λ h i. ap (λ (b : Bool). not (has_cleared s hs device t t) || b)
-      (cleared_still s hs device t later (time_of h) le still)))
+      (λ h i. rw (cleared_still s hs device t later (time_of h) le still)))))
 
   pub next_still : has_cleared s hs device later later ≡ has_cleared s hs device t t
       → next_cycle s hs device later ≡ next_cycle s hs device t
   next_still flag =
-      ap (λ (b : Bool). if b then recorded_cycle (earlier later hs) device + 1 else recorded_cycle (earlier later hs)
-      device) flag
-      ∙ ap (λ n. if has_cleared s hs device t t then n + 1 else n) (cycle_still hs device t later le still)
+      rw flag
+      (rw (cycle_still hs device t later le still))
 
   pub local_still : local_at_change s hs device later ≡ local_at_change s hs device t
   local_still =
-      ap (λ (n : ℕ). pos (s.reading device n) +ℤ (adjustment_before s hs device later).0)
-      (change_still hs device t later le still)
-      ∙ ap (λ (u : Units). pos (s.reading device (changed_at hs device t)) +ℤ u.0)
-      (adjustment_still s hs device t later le still)
+      rw (change_still hs device t later le still)
+      (rw (adjustment_still s hs device t later le still))
 
 -- what no event turns on at the time stands as the records before it say
 pub not_turned_on : (s : Scenario) (hs : List Happening) (device : DeviceId) (t : ℕ) → is_turned_on_at s device t ≡ false
     → state_before s hs device t ≡ state_after s (earlier t hs) device
-not_turned_on s hs device t off = ap (λ (b : Bool). if b then Integrating else state_after s (earlier t hs) device) off
+not_turned_on s hs device t off = rw off
 
 pub started_still : (hs : List Happening) (device : DeviceId) (t later : ℕ) → t ≤ later → IsStill hs device t later
     → IfSome (integration_cycle (earlier t hs) device) (λ cycle. cycle ≤ recorded_cycle (earlier t hs) device)
     → IfSome (integration_cycle (earlier later hs) device) (λ cycle. cycle ≤ recorded_cycle (earlier later hs) device)
 started_still hs device t later le still h =
-    subst (λ (o : Option ℕ). IfSome o (λ cycle. cycle ≤ recorded_cycle (earlier later hs) device)) (sym (integration_still hs device t later le still))
-    (subst (λ (n : ℕ). IfSome (integration_cycle (earlier t hs) device) (λ cycle. cycle ≤ n)) (sym (cycle_still hs device t later le still)) h)
+    rw (integration_still hs device t later le still) (rw (cycle_still hs device t later le still) h)
 
 -- the same, where what it has cleared counts only if it has a next correction point
 pub passes_if : {s : Scenario} {hs : List Happening} {device : DeviceId} {t : ℕ} (later : ℕ) {node : Node}

@@ -1,11 +1,11 @@
 -- Where a device stands does not rest on the numbers of the records.
 use Rattle.{std.proofs.{Common.arith, lemmas.List.map_push}, world_law.proofs.{devices.Borne.by_last, lists.Lists.{behind_no, behind_yes}}}
-use Rattle.world_law.proofs.Words.{◌&&◌, ◌++◌, ◌+ℤ◌, ◌+◌, ◌==◌, ◌||◌, ◌∙◌, ◌∷◌, ◌≡◌, ◌≤◌, Bool, DeviceId, Happening, IfSome, Integrating, IsLeft, List, Network}
-use Rattle.world_law.proofs.Words.{Node, None, NoteBody, Option, Scenario, Some, State, Units, [], adjustment_after, adjustment_before, adjustment_with}
-use Rattle.world_law.proofs.Words.{after_last, ap, cases_Bool, changed_at, changes_adjustment, cons_option, cycle_after, cycle_in, earlier, ends_stretch, false}
+use Rattle.world_law.proofs.Words.{◌&&◌, ◌++◌, ◌||◌, ◌∙◌, ◌∷◌, ◌≡◌, Bool, DeviceId, Happening, Integrating, IsLeft, List, Network}
+use Rattle.world_law.proofs.Words.{Node, None, NoteBody, Option, Scenario, Some, [], adjustment_after, adjustment_before, adjustment_with}
+use Rattle.world_law.proofs.Words.{after_last, ap, cases_Bool, changed_at, changes_adjustment, cons_option, cycle_after, cycle_in, earlier, ends_stretch}
 use Rattle.world_law.proofs.Words.{filter, filter_map, fold, has_cleared, heard_since, hearing_by, if◌then◌else◌, inl, inr, integration_cycle}
-use Rattle.world_law.proofs.Words.{is_integration_cycle, is_joined_by, is_turned_on_at, last_or, nat_lt, not, option_map_or, plain, plains}
-use Rattle.world_law.proofs.{Words.{point_by, points_of, pos, recorded_cycle, refl, state_after, state_with, subst, sym, time_of, ℕ}, devices.Passes.cleared_as}
+use Rattle.world_law.proofs.Words.{is_joined_by, is_turned_on_at, last_or, nat_lt, not, option_map_or, plain, plains}
+use Rattle.world_law.proofs.{Words.{point_by, points_of, recorded_cycle, refl, state_after, state_with, sym, time_of, ℕ}}
 use Rattle.run_law.specs.declared.note.NoteBody.TheVariants as notes
 
 -- ---- one record
@@ -28,7 +28,7 @@ hearing_plain network device h other = refl
 fold_plain : {B : Type 0} (f : B → Happening → B) → ((b : B) (h : Happening) → f b (plain h) ≡ f b h) → (z : B) (hs : List Happening)
     → fold f z (plains hs) ≡ fold f z hs
 fold_plain f same z [] = refl
-fold_plain {B} f same z (h ∷ hs) = ap (λ (b : B). fold f b (plains hs)) (same z h) ∙ fold_plain f same (f z h) hs
+fold_plain {B} f same z (h ∷ hs) = ap (λ b. fold f b (plains hs)) (same z h) ∙ fold_plain f same (f z h) hs
 
 pub filter_plain : (p q : Happening → Bool) → ((h : Happening) → p (plain h) ≡ q h) → (hs : List Happening) → filter p (plains hs) ≡ plains (filter q hs)
 filter_plain p q same [] = refl
@@ -36,7 +36,7 @@ filter_plain p q same (h ∷ hs) = grind (arith, plain, filter, plains, (filter_
 
 map_plain : {Y : Type 0} (f : Happening → Option Y) → ((h : Happening) → f (plain h) ≡ f h) → (hs : List Happening) → filter_map f (plains hs) ≡ filter_map f hs
 map_plain f same [] = refl
-map_plain {Y} f same (h ∷ hs) = ap (λ (o : Option Y). cons_option o (filter_map f (plains hs))) (same h) ∙ ap (cons_option (f h)) (map_plain f same hs)
+map_plain {Y} f same (h ∷ hs) = rw (same h) (ap (cons_option (f h)) (map_plain f same hs))
 
 last_plain : (o : Option Happening) (other : Option Happening) (hs : List Happening) → option_map_or time_of o 0 ≡ option_map_or time_of other 0
     → option_map_or time_of (last_or o (plains hs)) 0 ≡ option_map_or time_of (last_or other hs) 0
@@ -44,15 +44,15 @@ last_plain o other [] same = same
 last_plain o other (h ∷ hs) same = last_plain (Some (plain h)) (Some h) hs refl
 
 behind_plain : (p q : Happening → Bool) → ((h : Happening) → p (plain h) ≡ q h) → (hs : List Happening) → after_last p (plains hs) ≡ plains (after_last q hs)
-behind_plain p q same hs = by_last (λ (l : List Happening). after_last p (plains l) ≡ plains (after_last q l)) refl (λ l h e.
+behind_plain p q same hs = by_last (λ l. after_last p (plains l) ≡ plains (after_last q l)) refl (λ l h e.
     ap (after_last p) (map_push plain l h)
     ∙ elim (cases_Bool (q h)) [
       | inl passes ↦ behind_yes p (plains l) (plain h) (same h ∙ passes) ∙ sym (ap plains (behind_yes q l h passes))
       | inr stays ↦
           behind_no p (plains l) (plain h) (same h ∙ stays)
-          ∙ ap (λ (k : List Happening). k ++ plain h ∷ []) e
-          ∙ sym (map_push plain (after_last q l) h)
-          ∙ sym (ap plains (behind_no q l h stays))
+          ∙ (rw e
+          (sym (map_push plain (after_last q l) h)
+          ∙ sym (ap plains (behind_no q l h stays))))
     ]) hs
 
 -- ---- what the records tell
@@ -78,13 +78,11 @@ cycles_plain hs device = fold_plain (λ next h. cycle_after device next h h.note
 module _ (hs : List Happening) (device : DeviceId) where
   pub changes_at_plain : (t : ℕ) → changed_at (plains hs) device t ≡ changed_at hs device t
   changes_at_plain t =
-      ap (λ (l : List Happening). option_map_or time_of
-      (last_or None (filter (λ h. changes_adjustment device h.note.body) l)) 0) (earlier_plain t hs)
-      ∙ ap (λ (l : List Happening). option_map_or time_of (last_or None l) 0)
-      (filter_plain (λ h. changes_adjustment device h.note.body) (λ h. changes_adjustment device h.note.body)
+      rw (earlier_plain t hs)
+      (rw (filter_plain (λ h. changes_adjustment device h.note.body) (λ h. changes_adjustment device h.note.body)
       (λ h. refl)
       (earlier t hs))
-      ∙ last_plain None None (filter (λ h. changes_adjustment device h.note.body) (earlier t hs)) refl
+      (last_plain None None (filter (λ h. changes_adjustment device h.note.body) (earlier t hs)) refl))
 
   pub points_plain : points_of (plains hs) device ≡ points_of hs device
   points_plain =
@@ -96,33 +94,23 @@ module _ (hs : List Happening) (device : DeviceId) where
 
   integration_plain : (t : ℕ) → integration_cycle (earlier t (plains hs)) device
       ≡ integration_cycle (earlier t hs) device
-  integration_plain t = ap (λ l. integration_cycle l device) (earlier_plain t hs)
-      ∙ integrations_plain (earlier t hs) device
+  integration_plain t = rw (earlier_plain t hs)
+      (integrations_plain (earlier t hs) device)
 
 recorded_plain : (hs : List Happening) (device : DeviceId) (t : ℕ) → recorded_cycle (earlier t (plains hs)) device ≡ recorded_cycle (earlier t hs) device
-recorded_plain hs device t = ap (λ l. recorded_cycle l device) (earlier_plain t hs) ∙ cycles_plain (earlier t hs) device
+recorded_plain hs device t = rw (earlier_plain t hs) (cycles_plain (earlier t hs) device)
 
 module _ (s : Scenario) (hs : List Happening) (device : DeviceId) (t : ℕ) where
   pub before_plain : adjustment_before s (plains hs) device t ≡ adjustment_before s hs device t
-  before_plain = ap (λ l. adjustment_after s l device) (earlier_plain t hs) ∙ adjustments_plain s
-      (earlier t hs) device
+  before_plain = rw (earlier_plain t hs) (adjustments_plain s
+      (earlier t hs) device)
 
   cleared_plain : (by : ℕ) → has_cleared s (plains hs) device t by ≡ has_cleared s hs device t by
   cleared_plain by =
-      ap (λ (o : Option ℕ). cleared_as s device (option_map_or
-      (λ cycle. recorded_cycle (earlier t (plains hs)) device == cycle) o false)
-      (recorded_cycle (earlier t (plains hs)) device) (changed_at (plains hs) device t)
-      (adjustment_before s (plains hs) device t) by)
-      (integration_plain hs device t)
-      ∙ ap (λ (n : ℕ). cleared_as s device (option_map_or (λ cycle. n == cycle)
-      (integration_cycle (earlier t hs) device) false) n
-      (changed_at (plains hs) device t) (adjustment_before s (plains hs) device t) by) (recorded_plain hs device t)
-      ∙ ap (λ n. cleared_as s device (is_integration_cycle (earlier t hs) device)
-      (recorded_cycle (earlier t hs) device) n
-      (adjustment_before s (plains hs) device t) by) (changes_at_plain hs device t)
-      ∙ ap (λ u. cleared_as s device (is_integration_cycle (earlier t hs) device)
-      (recorded_cycle (earlier t hs) device) (changed_at hs device t) u by)
-      (before_plain)
+      rw (integration_plain hs device t)
+      (rw (recorded_plain hs device t)
+      ((rw (changes_at_plain hs device t)
+      ((rw (before_plain))))))
 
   pub heard_plain : heard_since s (plains hs) device t ≡ heard_since s hs device t
   heard_plain =
@@ -131,14 +119,12 @@ module _ (s : Scenario) (hs : List Happening) (device : DeviceId) (t : ℕ) wher
       (time_of h) in
       let m = λ (h : Happening). not (has_cleared s hs device t t) || has_cleared s hs device t (time_of h) in
       let since = after_last p hs in
-      ap (λ (l : List Happening). filter_map (λ h. hearing_by s.network device h h.note.body) (filter k l))
-      (behind_plain p p (λ h. refl) hs)
-      ∙ ap (filter_map (λ h. hearing_by s.network device h h.note.body))
-      (filter_plain k m (λ h. ap (λ (b : Bool). not b || has_cleared s (plains hs) device t (time_of h))
-      (cleared_plain t)
-      ∙ ap (λ (b : Bool). not (has_cleared s hs device t t) || b) (cleared_plain (time_of h))) since)
+      rw (behind_plain p p (λ h. refl) hs)
+      (ap (filter_map (λ h. hearing_by s.network device h h.note.body))
+      (filter_plain k m (λ h. rw (cleared_plain t)
+      (rw (cleared_plain (time_of h)))) since)
       ∙ map_plain (λ h. hearing_by s.network device h h.note.body)
-      (λ h. hearing_plain s.network device h h.note.body) (filter m since)
+      (λ h. hearing_plain s.network device h h.note.body) (filter m since))
 
   -- the device stands by the records without their numbers
   pub left_plain : {node : Node} → IsLeft s hs device t node → IsLeft s (plains hs) device t node
@@ -149,27 +135,21 @@ module _ (s : Scenario) (hs : List Happening) (device : DeviceId) (t : ℕ) wher
       integrated = left.counted.integrated ∙ sym (integration_plain hs device t);
       number = λ timed.
           left.counted.number timed
-          ∙ sym (ap (λ (b : Bool). if b then recorded_cycle (earlier t (plains hs)) device + 1 else recorded_cycle
-          (earlier t (plains hs)) device)
-          (cleared_plain t)
-          ∙ ap (λ n. if has_cleared s hs device t t then n + 1 else n) (recorded_plain hs device t));
+          ∙ sym (rw (cleared_plain t)
+          (rw (recorded_plain hs device t)));
       changed =
           left.counted.changed
-          ∙ sym (ap (λ (n : ℕ). pos (s.reading device n) +ℤ (adjustment_before s (plains hs) device t).0)
-          (changes_at_plain hs device t)
-          ∙ ap (λ (u : Units). pos (s.reading device (changed_at hs device t)) +ℤ u.0) (before_plain));
+          ∙ sym (rw (changes_at_plain hs device t)
+          (rw (before_plain)));
       heard = λ timed. left.counted.heard timed ∙ sym (heard_plain);
       started =
-          subst (λ (o : Option ℕ). IfSome o (λ cycle. cycle ≤ recorded_cycle (earlier t (plains hs)) device))
-          (sym (integration_plain hs device t))
-          (subst (λ (n : ℕ). IfSome (integration_cycle (earlier t hs) device) (λ cycle. cycle ≤ n))
-          (sym (recorded_plain hs device t)) left.counted.started);
+          rw (integration_plain hs device t) (rw (recorded_plain hs device t) left.counted.started);
       broken = left.counted.broken;
     };
     state =
-        left.state ∙ ap (λ (x : State). if is_turned_on_at s device t then Integrating else x)
-        (sym (ap (λ l. state_after s l device) (earlier_plain t hs) ∙ states_plain s
-        (earlier t hs) device));
+        left.state ∙ ap (λ x. if is_turned_on_at s device t then Integrating else x)
+        (sym (rw (earlier_plain t hs) (states_plain s
+        (earlier t hs) device)));
     points = λ cm. left.points cm ∙ sym (points_plain hs device);
   }
 
@@ -181,28 +161,21 @@ module _ (s : Scenario) (hs : List Happening) (device : DeviceId) (t : ℕ) wher
       integrated = left.counted.integrated ∙ integration_plain hs device t;
       number = λ timed.
           left.counted.number timed
-          ∙ ap (λ (b : Bool). if b then recorded_cycle (earlier t (plains hs)) device + 1 else recorded_cycle
-          (earlier t (plains hs)) device)
-          (cleared_plain t)
-          ∙ ap (λ n. if has_cleared s hs device t t then n + 1 else n) (recorded_plain hs device t);
+          ∙ (rw (cleared_plain t)
+          ((rw (recorded_plain hs device t))));
       changed =
           left.counted.changed
-          ∙ ap (λ (n : ℕ). pos (s.reading device n) +ℤ (adjustment_before s (plains hs) device t).0)
-          (changes_at_plain hs device t)
-          ∙ ap (λ (u : Units). pos (s.reading device (changed_at hs device t)) +ℤ u.0) (before_plain);
+          ∙ (rw (changes_at_plain hs device t)
+          ((rw (before_plain))));
       heard = λ timed. left.counted.heard timed ∙ heard_plain;
       started =
-          subst (λ (n : ℕ). IfSome (integration_cycle (earlier t hs) device) (λ cycle. cycle ≤ n))
-          (recorded_plain hs device t)
-          (subst (λ (o : Option ℕ). IfSome o (λ cycle. cycle ≤ recorded_cycle (earlier t (plains hs)) device))
-          (integration_plain hs device t)
-          left.counted.started);
+          rw (recorded_plain hs device t) at (rw (integration_plain hs device t) at left.counted.started);
       broken = left.counted.broken;
     };
     state =
-        left.state ∙ ap (λ (x : State). if is_turned_on_at s device t then Integrating else x)
-        (ap (λ l. state_after s l device) (earlier_plain t hs) ∙ states_plain s (earlier t hs)
-        device);
+        left.state ∙ ap (λ x. if is_turned_on_at s device t then Integrating else x)
+        (rw (earlier_plain t hs) (states_plain s (earlier t hs)
+        device));
     points = λ cm. left.points cm ∙ points_plain hs device;
   }
 
@@ -210,9 +183,8 @@ module _ (s : Scenario) (hs : List Happening) (device : DeviceId) (t : ℕ) wher
 pub told_by_others : {s : Scenario} {hs : List Happening} (gs : List Happening) {device : DeviceId} {t : ℕ}
     {node : Node} → plains hs ≡ plains gs → IsLeft s hs device t node → IsLeft s gs device t node
 told_by_others {s} {hs} gs {device} {t} {node} same left =
-    left_numbered s gs device t (subst (λ l. IsLeft s l device t node) same
-    (left_plain s hs device t left))
+    left_numbered s gs device t (rw same at (left_plain s hs device t left))
 
 pub plains_parts : (hs gs : List Happening) → plains (hs ++ gs) ≡ plains hs ++ plains gs
 plains_parts [] gs = refl
-plains_parts (h ∷ hs) gs = ap (λ (l : List Happening). plain h ∷ l) (plains_parts hs gs)
+plains_parts (h ∷ hs) gs = rw (plains_parts hs gs)

@@ -5,7 +5,7 @@ use Rattle.{run_law.proofs.records.Order.time_before, world_law.proofs.{devices.
 use Rattle.world_law.proofs.Words.{◌++◌, ◌+◌, ◌<ℤ◌, ◌∙◌, ◌∷◌, ◌≡◌, ◌≤ℤ◌, ◌≤◌, DeviceId, Happening, HasDone, HasSent}
 use Rattle.world_law.proofs.Words.{HaveBefallen, IsBefore, IsDue, IsFounded, IsIn, IsKept, IsLeft, IsOfThisTime, IsPending, IsTurnedOnBy, List, Network, Node}
 use Rattle.world_law.proofs.Words.{Note, Scenario, Stands, Task, World, [], ap, append-nil, arith, cases_Bool, cases_lt, changed_at, doing, emitting, false}
-use Rattle.world_law.proofs.Words.{happenings, in_right, inl, inr, ints, is_turned_on_at, key, members_in, moves, place_of, pos, rank, reading_for, refl, subst}
+use Rattle.world_law.proofs.Words.{happenings, in_right, inl, inr, ints, is_turned_on_at, key, members_in, moves, place_of, pos, rank, reading_for, refl}
 use Rattle.world_law.proofs.Words.{sym, time_of, true, ℕ}
 use Rattle.world_law.proofs.{devices.TurnedOn.{IsInTime, IsQuietInstant, change_quiet, left_after_on, quiet_rest}, runs.Foremost.{not_on_after, unmoved_by}}
 
@@ -35,7 +35,7 @@ pub in_order : (hs : List Happening) → ((front rest : List Happening) (x : Hap
     → IsInTime hs
 in_order hs stands front rest x e h i =
     let at = Rattle.run_law.proofs.runs.Places.parted h rest i in
-    let split : hs ≡ (front ++ x ∷ at.0) ++ h ∷ at.1 = e ∙ ap (λ (l : List Happening). front ++ x ∷ l) at.2
+    let split = e ∙ ap (λ l. front ++ x ∷ l) at.2
     ∙ sym (Rattle.std.proofs.Common.append_assoc front (x ∷ at.0) (h ∷ at.1)) in
     time_before (time_of x) (time_of h) (rank x.note.body ∷ key (members_in x) x.note.body) (rank h.note.body ∷ key (members_in h) h.note.body)
     (stands (front ++ x ∷ at.0) at.1 h split x (in_right x front (x ∷ at.0) (inl refl)))
@@ -48,7 +48,7 @@ pub are_past : {C M : Type 0} {reading : C → ℕ → ℕ} {stands : M → Netw
     → IsPast (happenings s.network notes) world.now
 are_past {s} {notes} old = record {
   past = λ h i. elim (old.not_later (place_of h) (old.run.within h i))
-      [ inl lt ↦ omega (arith, lt) | inr bad ↦ absurd bad.1 ];
+      [ inl lt ↦ omega arith | inr bad ↦ absurd bad.1 ];
   in_time = in_time_of s (happenings s.network notes) old.run.founded;
 }
 
@@ -77,7 +77,7 @@ left_next {s} {hs} {frontier} {device} {now} {node} q still befallen r on_by fal
       | inr not_on ↦
           let u : IsUnmoved s hs device now (now + 1) = record {
             le = omega arith;
-            still = λ h i from lt. unmoved_by s device now h.note.body not_on (still h i (omega (arith, from, lt)));
+            still = λ h i from lt. unmoved_by s device now h.note.body not_on (still h i (omega arith));
             not_on = not_on;
             not_on_later = off;
             not_broken = same;
@@ -92,17 +92,16 @@ left_next {s} {hs} {frontier} {device} {now} {node} q still befallen r on_by fal
                   | inl cleared ↦
                       let task = had_come_by u left (λ cycle own ahead there.
                       let less = r cycle there in let number = (point_number node.standing.state node.standing.number cycle own).1 in absurd
-                      (omega (arith, less, number))) timed not_yet
+                      (omega arith)) timed not_yet
                       cleared sound in
                       let here : now + 1 - 1 ≡ now = omega arith in
-                      absurd (never_both _ _ (idle task.0 task.1) (subst (λ (n : ℕ). reading_for s.network node task.0 ≤ℤ pos (s.reading device n)) here
-                      task.2))
+                      absurd (never_both _ _ (idle task.0 task.1) (rw here at task.2))
                 ]
           ]) left
     ]
   where
     never_both : (a b : Rattle.std.proofs.Common.ℤ) → a <ℤ b → b ≤ℤ a → ⊥
-    never_both a b lt le = omega (arith, ints, lt, le)
+    never_both a b lt le = omega (arith, ints)
 
 module _ {M : Type 0} (stands : M → Network → DeviceId → Node → Type 0) (s : Scenario) (hs : List Happening)
     (frontier : List ℕ) (now : ℕ) (device : DeviceId) (machine : M) where
@@ -110,25 +109,24 @@ module _ {M : Type 0} (stands : M → Network → DeviceId → Node → Type 0) 
   rests_over : (k : IsKept stands s hs [] frontier now device machine) → k.up ≡ now + 1 → HaveBefallen s frontier now
       → IsPast hs now → IsNoLater s device frontier now → Rests s hs device now k.node
   rests_over k up befallen past no_later =
-      let whole : hs ++ [] ≡ hs = append-nil hs in
-      let le : now + 1 ≤ k.up = omega (arith, up) in
+      let whole = append-nil hs in
+      let le : now + 1 ≤ k.up = omega arith in
       let change : changed_at (hs ++ []) device k.up ≡ changed_at hs device (now + 1) =
-      ap (λ n. changed_at (hs ++ []) device n) up
-      ∙ ap (λ l. changed_at l device (now + 1)) whole in
+      rw up
+      (ap (λ l. changed_at l device (now + 1)) whole) in
       let done = done_by now k.worked no_later.later (now + 1) le in
       record {
         from = now + 1;
         le = omega arith;
         soon = omega arith;
-        left = subst (λ l. IsLeft s l device (now + 1) k.node) whole
-            (subst (λ n. IsLeft s (hs ++ []) device n k.node) up k.left);
+        left = rw whole at (rw up at k.left);
         done = rests s hs done (sym change);
         sent = record {
-          unsent = λ c w x lt. k.worked.unsent c w x (omega (arith, lt, up));
+          unsent = λ c w x lt. k.worked.unsent c w x (omega arith);
           sent = (sent_by now k.worked no_later.later (now + 1) le).sent;
         };
         off = not_on_after (now + 1) device befallen (omega arith);
-        still = λ h i from. let early = past.past h i in absurd (omega (arith, early, from));
+        still = λ h i from. let early = past.past h i in absurd (omega arith);
       }
 
   -- and where it is not, but nothing of it is due
@@ -136,9 +134,9 @@ module _ {M : Type 0} (stands : M → Network → DeviceId → Node → Type 0) 
       → IsPast hs now → IsWorked hs frontier now → IsNoLater s device frontier now → IsIdleAt s device k.node now
       → Rests s hs device now k.node
   rests_next k up befallen past worked no_later idle =
-      let whole : hs ++ [] ≡ hs = append-nil hs in
+      let whole = append-nil hs in
       let inside : (h : Happening) → IsIn h hs → IsIn h (hs ++ []) =
-      λ h i. subst (λ l. IsIn h l) (sym whole) i in
+      λ h i. rw whole i in
       let still : (h : Happening) → IsIn h hs → time_of h ≡ now → IsAtRest s device now h.note.body =
       λ h i at. k.still up h (inside h i) at in
       let q : IsQuietInstant s hs device now = record {
@@ -146,43 +144,37 @@ module _ {M : Type 0} (stands : M → Network → DeviceId → Node → Type 0) 
         quiet = λ h i at. quiet_rest s device now h.note.body (still h i at);
         in_time = past.in_time;
       } in
-      let left : IsLeft s hs device now k.node = subst (λ l. IsLeft s l device now k.node) whole
-      (subst (λ n. IsLeft s (hs ++ []) device n k.node) up k.left) in
-      let sound : k.node.broken ≡ false = left.counted.broken ∙ k.sound in
-      let change : changed_at hs device (now + 1) ≡ changed_at (hs ++ []) device k.up = change_quiet q
+      let left : IsLeft s hs device now k.node = rw whole at (rw up at k.left) in
+      let sound = left.counted.broken ∙ k.sound in
+      let change = change_quiet q
       ∙ ap (λ n. changed_at hs device n) (sym up) ∙ ap (λ l. changed_at l device k.up)
       (sym whole) in
-      let done = done_by now k.worked no_later.later now (omega (arith, up)) in
+      let done = done_by now k.worked no_later.later now (omega arith) in
       record {
         from = now + 1;
         le = omega arith;
         soon = omega arith;
         left = left_next q still befallen k.cleared (λ on.
             let was = k.turned on in
-            subst (λ l. IsTurnedOnBy l device now) whole
-            (was.turned (worked was.number was.event was.befell))) no_later.falls sound idle left;
+            rw whole at (was.turned (worked was.number was.event was.befell))) no_later.falls sound idle left;
         done = record {
           undone = λ deed u x from lt. elim (cases_lt x now) [
-            | inl before ↦ done.undone deed u x (omega (arith, from, change)) before
+            | inl before ↦ done.undone deed u x (omega arith) before
             | inr ge ↦ let at : x ≡ now =
-                omega (arith, ge, lt) in subst (λ (n : ℕ). pos (s.reading device n) <ℤ reading_for s.network k.node
-                (doing deed)) (sym at)
-                (idle (doing deed) (sound, u))
+                omega arith in rw at (idle (doing deed) (sound, u))
           ];
-          done = λ deed there. let x = done.done deed there in (x.0, omega (arith, x.1, change), x.2, x.3);
+          done = λ deed there. let x = done.done deed there in (x.0, omega (arith, x.1), x.2, x.3);
         };
         sent = record {
           unsent = λ c w x lt. elim (cases_lt x now) [
-            | inl before ↦ k.worked.unsent c w x (omega (arith, before, up))
+            | inl before ↦ k.worked.unsent c w x (omega arith)
             | inr ge ↦ let at : x ≡ now =
-                omega (arith, ge, lt) in subst (λ (n : ℕ). pos (s.reading device n) <ℤ reading_for s.network k.node
-                (emitting c)) (sym at)
-                (idle (emitting c) (sound, w))
+                omega arith in rw at (idle (emitting c) (sound, w))
           ];
-          sent = (sent_by now k.worked no_later.later now (omega (arith, up))).sent;
+          sent = (sent_by now k.worked no_later.later now (omega arith)).sent;
         };
         off = not_on_after (now + 1) device befallen (omega arith);
-        still = λ h i from. let early = past.past h i in absurd (omega (arith, early, from));
+        still = λ h i from. let early = past.past h i in absurd (omega arith);
       }
 
   -- where nothing of it is due at the instant

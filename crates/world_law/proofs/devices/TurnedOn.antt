@@ -2,11 +2,11 @@
 -- common time.
 use Rattle.{run_law.{proofs.records.Happenings.fold_parts, specs.declared.judgement.Why.TheVariants.On}, world_law.proofs.devices.Passes.not_turned_on}
 use Rattle.{run_law.specs.scenario.Devices.start_of, sync_state.specs.Standing.state_at_start, world_law.proofs.Words.ℕ}
-use Rattle.world_law.proofs.Words.{◌++◌, ◌+ℤ◌, ◌+◌, ◌<◌, ◌∙◌, ◌∷◌, ◌≡◌, ◌≤◌, ◌⊎◌, Bool, DeviceId, Happening, IfSome, Integrating, IsAtRest, IsIn, IsLeft, both_ways}
-use Rattle.world_law.proofs.Words.{IsTurnedOnBy, List, Node, NoteBody, Option, Scenario, State, Units, [], adjustment_before, adjustment_with, ap, arith}
-use Rattle.world_law.proofs.Words.{cases_lt, changed_at, changes_adjustment, cycle_after, cycle_in, earlier, false, filter, fold, if◌then◌else◌, in_right, inl}
+use Rattle.world_law.proofs.Words.{◌++◌, ◌+◌, ◌<◌, ◌∙◌, ◌∷◌, ◌≡◌, ◌≤◌, ◌⊎◌, Bool, DeviceId, Happening, Integrating, IsAtRest, IsIn, IsLeft, both_ways}
+use Rattle.world_law.proofs.Words.{IsTurnedOnBy, List, Node, NoteBody, Scenario, State, Units, [], adjustment_before, adjustment_with, ap, arith}
+use Rattle.world_law.proofs.Words.{cases_lt, changed_at, changes_adjustment, cycle_after, cycle_in, earlier, false, filter, fold, in_right, inl}
 use Rattle.world_law.proofs.Words.{inr, integration_cycle, is_broken, is_joined_by, is_timed, is_turned_on_at, is_turning, last_or, local_at_change, moves}
-use Rattle.world_law.proofs.Words.{nat_le, nat_lt, option_map_or, parted, pos, recorded_cycle, refl, state_after, state_with, subst, sym, time_of, true, up_to}
+use Rattle.world_law.proofs.Words.{nat_le, nat_lt, option_map_or, parted, recorded_cycle, refl, state_after, state_with, sym, time_of, true, up_to}
 use Rattle.world_law.proofs.devices.OwnRecords.{changes_no_other, earlier_no, earlier_yes, joins_no_other, keeps_adjustment, keeps_cycle, keeps_state}
 use Rattle.run_law.specs.declared.note.NoteBody.TheVariants as notes
 
@@ -61,7 +61,7 @@ module _ (device : DeviceId) (next : ℕ) (h : Happening) where
   quiet_cycle body (inr e) = turning_cycle body e
 
 pub turning_state : (device : DeviceId) (old : State) (body : NoteBody) → is_turning device body ≡ true → state_with device old body ≡ Integrating
-turning_state device old (notes.State other Integrating cause On) e = ap (λ (b : Bool). if b then Integrating else old) e
+turning_state device old (notes.State other Integrating cause On) e = rw e
 turning_state device old other e = absurd cc
 
 -- ---- folds over the records before a time
@@ -86,8 +86,8 @@ next_is_up_to now (h ∷ hs) = grind (arith, nat_lt, time_of, up_to, nat_le, cas
 pub all_up_to : (now : ℕ) (hs : List Happening) → ((h : Happening) → IsIn h hs → time_of h ≤ now) → up_to now hs ≡ hs
 all_up_to now [] past = refl
 all_up_to now (h ∷ hs) past =
-    ap (λ (b : Bool). if b then h ∷ up_to now hs else up_to now hs) (Rattle.std.proofs.lemmas.Bool.le-leb (time_of h) now (past h (inl refl)))
-    ∙ ap (λ (l : List Happening). h ∷ l) (all_up_to now hs (λ g i. past g (inr i)))
+    rw (Rattle.std.proofs.lemmas.Bool.le-leb (time_of h) now (past h (inl refl)))
+    (rw (all_up_to now hs (λ g i. past g (inr i))))
 
 -- ---- the state
 
@@ -110,15 +110,13 @@ module _ {s : Scenario} {hs : List Happening} {device : DeviceId} {now : ℕ} (q
       let begun = fold f (state_at_start (start_of s.network device)) at.0 in
       let rest : (h : Happening) → IsIn h at.1 → IsQuiet device h.note.body = λ h i.
       let inside : IsIn h hs =
-      subst (λ l. IsIn h l) (sym at.2) (in_right h at.0 (on.by ∷ at.1) (inr i)) in
+      rw at.2 (in_right h at.0 (on.by ∷ at.1) (inr i)) in
       let from = q.in_time at.0 at.1 on.by at.2 h i in
-      let to = q.past h inside in
-      let by_at = on.at in
-      q.quiet h inside (omega (arith, from, to, by_at)) in
-      ap (λ l. state_after s l device) (all_up_to now hs q.past ∙ at.2)
-      ∙ fold_parts f (state_at_start (start_of s.network device)) at.0 (on.by ∷ at.1)
-      ∙ ap (λ (z : State). fold f z at.1) (turning_state device begun on.by.note.body on.turning)
-      ∙ looking_on device at.1 rest
+      q.quiet h inside (omega arith) in
+      rw (all_up_to now hs q.past ∙ at.2)
+      (fold_parts f (state_at_start (start_of s.network device)) at.0 (on.by ∷ at.1)
+      ∙ ap (λ z. fold f z at.1) (turning_state device begun on.by.note.body on.turning)
+      ∙ looking_on device at.1 rest)
 
   -- ---- the node
 
@@ -126,8 +124,8 @@ module _ {s : Scenario} {hs : List Happening} {device : DeviceId} {now : ℕ} (q
   adjustment_quiet =
       fold_still (λ adjustment h. adjustment_with s device (cycle_in h) adjustment h.note.body) now (now + 1)
       (omega arith) hs (λ h i from lt z.
-      let past = q.past h i in quiet_adjustment s device (cycle_in h) z h.note.body
-      (q.quiet h i (omega (arith, from, past)))) _
+      quiet_adjustment s device (cycle_in h) z h.note.body
+      (q.quiet h i (omega arith))) _
 
   integration_quiet : integration_cycle (earlier (now + 1) hs) device ≡ integration_cycle (earlier now hs) device
   integration_quiet = grind (arith, fold_still, is_joined_by, cycle_in, quiet_joins)
@@ -135,22 +133,22 @@ module _ {s : Scenario} {hs : List Happening} {device : DeviceId} {now : ℕ} (q
   cycle_quiet : recorded_cycle (earlier (now + 1) hs) device ≡ recorded_cycle (earlier now hs) device
   cycle_quiet =
       fold_still (λ next h. cycle_after device next h h.note.body) now (now + 1) (omega arith) hs (λ h i from lt z.
-      let past = q.past h i in quiet_cycle device z h h.note.body (q.quiet h i (omega (arith, from, past)))) 1
+      quiet_cycle device z h h.note.body (q.quiet h i (omega arith))) 1
 
   pub change_quiet : changed_at hs device (now + 1) ≡ changed_at hs device now
   change_quiet = grind (arith, option_map_or, time_of, last_or, filter_still, changes_adjustment, quiet_changes)
 
   local_quiet : local_at_change s hs device (now + 1) ≡ local_at_change s hs device now
   local_quiet =
-      ap (λ (n : ℕ). pos (s.reading device n) +ℤ (adjustment_before s hs device (now + 1)).0) (change_quiet)
-      ∙ ap (λ (u : Units). pos (s.reading device (changed_at hs device now)) +ℤ u.0) (adjustment_quiet)
+      rw (change_quiet)
+      (rw (adjustment_quiet))
 
 pub left_after_on : {s : Scenario} {hs : List Happening} {device : DeviceId} {now : ℕ} {node : Node}
     → IsQuietInstant s hs device now → is_turned_on_at s device now ≡ true
     → is_turned_on_at s device (now + 1) ≡ false → is_broken s device (now + 1) ≡ is_broken s device now
     → IsTurnedOnBy hs device now → IsLeft s hs device now node → IsLeft s hs device (now + 1) node
 left_after_on {s} {hs} {device} {now} {node} q on off same turned left =
-    let looking : node.standing.state ≡ Integrating = left.state ∙ ap (λ (b : Bool). if b then Integrating else state_after s (earlier now hs) device) on in
+    let looking = left.state ∙ (rw on) in
     let untimed : is_timed node.standing.state ≡ true → ⊥ = λ timed. both_ways _ (ap is_timed looking) timed in
     record {
       counted = record {
@@ -161,16 +159,11 @@ left_after_on {s} {hs} {device} {now} {node} q on off same turned left =
         changed = left.counted.changed ∙ sym (local_quiet q);
         heard = λ timed. absurd (untimed timed);
         started =
-            subst (λ (o : Option ℕ). IfSome o (λ cycle. cycle ≤ recorded_cycle (earlier (now + 1) hs) device))
-            (sym (integration_quiet q))
-            (subst (λ (n : ℕ). IfSome (integration_cycle (earlier now hs) device) (λ cycle. cycle ≤ n))
-            (sym (cycle_quiet q))
-            left.counted.started);
+            rw (integration_quiet q) (rw (cycle_quiet q) left.counted.started);
         broken = left.counted.broken ∙ sym same;
       };
       state =
-          looking ∙ sym (on_state q turned) ∙ ap (λ l. state_after s l device)
-          (sym (next_is_up_to now hs))
-          ∙ sym (not_turned_on s hs device (now + 1) off);
+          looking ∙ sym (on_state q turned) ∙ (rw (sym (next_is_up_to now hs))
+          (sym (not_turned_on s hs device (now + 1) off)));
       points = left.points;
     }

@@ -1,7 +1,7 @@
 -- What a device has done by itself, as the frontier goes on.
 use Rattle.world_law.proofs.runs.TaskPlaces.{acts_before, task_time}
 use Rattle.world_law.proofs.Words.{◌+◌, ◌<◌, ◌∷◌, ◌≡◌, ◌≤◌, DeviceId, HadComeTo, Happening, HasDoneFrom, HasDoneTask, HasWorkedTo, IsActedOut, IsBefore}
-use Rattle.world_law.proofs.Words.{List, Node, Scenario, Task, [], act_place, arith, cases_order, chain, doing, emitting, inl, inr, subst, task_place, ℕ}
+use Rattle.world_law.proofs.Words.{List, Node, Scenario, Task, [], act_place, arith, cases_order, chain, doing, emitting, inl, inr, task_place, ℕ}
 use Rattle.world_law.specs.device.Deeds.{HasSentFrom}
 
 pub out_on : {s : Scenario} {hs : List Happening} {now : ℕ} {device : DeviceId} {frontier : List ℕ} (then_ : List ℕ)
@@ -14,8 +14,8 @@ pub worked_on : {s : Scenario} {device : DeviceId} {node : Node} {changed : ℕ}
     (then_ : List ℕ) → changed ≡ again → ((p : List ℕ) → IsBefore p frontier → IsBefore p then_)
     → HasWorkedTo s device node changed up frontier → HasWorkedTo s device node again up then_
 worked_on again then_ same on w = record {
-  undone = λ deed u x from lt. w.undone deed u x (omega (arith, from, same)) lt;
-  done = λ deed there. let x = w.done deed there in (x.0, subst (λ n. n ≤ x.0) same x.1, on _ x.2, x.3);
+  undone = λ deed u x from lt. w.undone deed u x (omega arith) lt;
+  done = λ deed there. let x = w.done deed there in (x.0, rw same at x.1, on _ x.2, x.3);
   unsent = w.unsent;
   sent = λ c there. let x = w.sent c there in (x.0, on _ x.1, x.2);
 }
@@ -24,7 +24,7 @@ worked_on again then_ same on w = record {
 sooner : (s : Scenario) (device : DeviceId) (task : Task) (x now : ℕ) (frontier : List ℕ) → IsBefore (task_place s.network x device task) frontier
     → (IsBefore (task_place s.network now device task) frontier → ⊥) → x < now
 sooner s device task x now frontier b not = elim (cases_order x now) [
-  | inl same ↦ absurd (not (subst (λ n. IsBefore (task_place s.network n device task) frontier) same b))
+  | inl same ↦ absurd (not (rw same at b))
   | inr (inl lt) ↦ lt
   | inr (inr gt) ↦ absurd (not (chain (task_place s.network now device task) (task_place s.network x device task) frontier (inl gt) b))
 ]
@@ -54,7 +54,7 @@ module _ {s : Scenario} {device : DeviceId} {node : Node} {changed up : ℕ} (no
           let x = w.done deed there in
           let lt = sooner s device (doing deed) x.0 now frontier x.2
           (λ b. not (acts_before s.network now device (doing deed) frontier b)) in
-          (x.0, x.1, omega (arith, lt, le), x.3);
+          (x.0, x.1, omega arith, x.3);
     };
     sent = record {
       unsent = w.unsent;
@@ -62,7 +62,7 @@ module _ {s : Scenario} {device : DeviceId} {node : Node} {changed up : ℕ} (no
           let x = w.sent c there in
           let lt = sooner s device (emitting c) x.0 now frontier x.1
           (λ b. not (acts_before s.network now device (emitting c) frontier b)) in
-          (x.0, omega (arith, lt, le), x.2);
+          (x.0, omega arith, x.2);
     };
   }
 
@@ -70,7 +70,7 @@ module _ {s : Scenario} {device : DeviceId} {node : Node} {changed up : ℕ} (no
   pub done_by : ((p : List ℕ) → IsBefore p frontier → IsBefore p ((now + 1) ∷ [])) → (low : ℕ) → low ≤ up
       → HasDoneFrom s.network (s.reading device) device node changed low (now + 1)
   done_by later low le = record {
-    undone = λ deed u x from lt. w.undone deed u x from (omega (arith, lt, le));
+    undone = λ deed u x from lt. w.undone deed u x from (omega arith);
     done = λ deed there. let x = w.done deed there in
         (x.0, x.1, task_time s.network x.0 (now + 1) device (doing deed) (later _ x.2), x.3);
   }
@@ -78,7 +78,7 @@ module _ {s : Scenario} {device : DeviceId} {node : Node} {changed up : ℕ} (no
   pub sent_by : ((p : List ℕ) → IsBefore p frontier → IsBefore p ((now + 1) ∷ [])) → (low : ℕ) → low ≤ up
       → HasSentFrom s device node low (now + 1)
   sent_by later low le = record {
-    unsent = λ c u x lt. w.unsent c u x (omega (arith, lt, le));
+    unsent = λ c u x lt. w.unsent c u x (omega arith);
     sent = λ c there. let x = w.sent c there in
         (x.0, task_time s.network x.0 (now + 1) device (emitting c) (later _ x.1), x.2);
   }

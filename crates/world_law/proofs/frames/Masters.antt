@@ -1,7 +1,7 @@
 -- A frame that comes up from below is that of one master, where octets are sent by end systems alone.
 use Rattle.{net_plan.{proofs.Shape.rules_give_trees, specs.Ranges.IsDeviceInRange}, world_law.{proofs.giving.GivenParts.some_same, specs.world.World.IsFromEnd}}
-use Rattle.{net_plan.{proofs.TableFacts.no_path, specs.Paths.IsUplink}, std.{proofs.Common.IsSomeAnd, specs.Prelude.{is_some, unwrap_or}}}
-use Rattle.{net_plan.specs.Places.{IsDeviceOf, IsSwitchOf, is_end_system, is_master}, run_law.specs.control.Arrivals.{are_others, is_of_other_member}}
+use Rattle.{net_plan.{proofs.TableFacts.no_path}, std.{proofs.Common.IsSomeAnd, specs.Prelude.{is_some}}}
+use Rattle.{net_plan.specs.Places.{IsSwitchOf, is_end_system, is_master}, run_law.specs.control.Arrivals.{are_others, is_of_other_member}}
 use Rattle.{run_law.proofs.law.FirstPlaces.{front_founded, numbered_in}, schedule_tables.specs.declared.rule.Rule.TheVariants.Joints}
 use Rattle.{run_law.specs.machines.Calls.{IsOfMaster, IsOneMaster}, schedule_tables.proofs.Margins.shape_rules, tte_units.proofs.general_lemmas.Lists.in_all}
 use Rattle.{run_law.specs.scenario.Devices.{IsParentOf, has_role, is_parent_of, member_of}, tte_units.proofs.general_lemmas.Options.{at_known, closed, opened}}
@@ -9,7 +9,7 @@ use Rattle.{tte_units.specs.declared.frames.members.Members.Members, world_law.p
 use Rattle.world_law.proofs.Words.{◌++◌, ◌==◌, ◌^◌, ◌∙◌, ◌∷◌, ◌≡◌, ◌≤◌, ◌⊎◌, Bool, Device, DeviceId, Down, Event, Gives, Happening, IsCaused, IsDue, IsFounded}
 use Rattle.world_law.proofs.Words.{IsIn, IsInRange, KeepsRules, Launch, Link, LinkId, List, Network, None, NoteBody, Ok, Option, Pcf, Scenario, Send, Some, Up}
 use Rattle.world_law.proofs.Words.{Way, [], ap, arith, both_ways, cases_Bool, control, device_at, eq-eqb, eqb-true, false, founded_at, frame_by, if◌then◌else◌}
-use Rattle.world_law.proofs.Words.{inl, inr, is_cut, is_end, launched, length, length-append, link_at, not, option_and_then, option_map, option_map_or}
+use Rattle.world_law.proofs.Words.{inl, inr, is_cut, is_end, launched, length, length-append, link_at, not, option_map, option_map_or}
 use Rattle.world_law.proofs.Words.{place_of, refl, signal_of, slice_get, standpoint, subst, suc, sym, target_by, time_of, true, way_from, with_clock, zero, ℕ}
 use Rattle.run_law.specs.declared.note.NoteBody.TheVariants as kinds
 
@@ -24,10 +24,10 @@ pub ends_differ : (network : Network) (link : LinkId) (l : Link) → KeepsRules 
 ends_differ network link l keeps at same =
     let joint = keeps Joints link.0 l at in
     let tree = rules_give_trees network (shape_rules network keeps) in
-    let up : IsUplink network joint.0 l.parent link = closed (λ (x : Link). (x.child ≡ l.parent) × IsSwitchOf network joint.0 x.parent) (link_at network link) l
+    let up = closed (λ x. (x.child ≡ l.parent) × IsSwitchOf network joint.0 x.parent) (link_at network link) l
     at (same, joint.1) in
-    let switch = opened (λ (d : Device). d.channel ≡ Some joint.0) (device_at network l.parent) joint.1 in
-    let member : IsDeviceOf network joint.0 l.parent = closed (λ (d : Device). (is_end_system d.role ≡ true) ⊎ (d.channel ≡ Some joint.0))
+    let switch = opened (λ d. d.channel ≡ Some joint.0) (device_at network l.parent) joint.1 in
+    let member = closed (λ d. (is_end_system d.role ≡ true) ⊎ (d.channel ≡ Some joint.0))
     (device_at network l.parent) switch.0 switch.1 (inr switch.2) in
     let path = tree.reach joint.0 l.parent member in
     no_path joint.0 l.parent link l tree at refl up path.0 path.2
@@ -46,13 +46,13 @@ master_member {network} device range role = by (device_at network device) refl r
         × (member_of network device ≡ Some m)
     by None at e = absurd cc
     by (Some d) at e =
-        let known : IsDeviceInRange d = in_all IsDeviceInRange network.device device.0 d range.devices at in
+        let known = in_all IsDeviceInRange network.device device.0 d range.devices at in
         let m = some_of d.member (known.masters ∙ e) in
-        (m.0, ap (λ (o : Option Device). option_and_then (λ x. x.member) o) at ∙ m.1)
+        (m.0, rw at m.1)
 
 one_of : (network : Network) (device : DeviceId) (m : ℕ) (members : Members) → member_of network device ≡ Some m → members.0 ≡ 2 ^ m
     → IsOneMaster network members
-one_of network device m members at is = (device, subst (λ (o : Option ℕ). IsSomeAnd o (λ member. members.0 ≡ 2 ^ member)) (sym at) is)
+one_of network device m members at is = (device, rw at is)
 
 not_others : (o : Option ℕ) (members : Members) → are_others o members ≡ false → (m : ℕ) × (o ≡ Some m) × (members.0 ≡ 2 ^ m)
 not_others None members e = absurd cc
@@ -67,7 +67,7 @@ end_member network device link members joint at parent end_is sound = grind (ari
 -- ---- a frame that a switch sends up
 
 launch_link : (a b : Launch) → Some a ≡ Some b → (a.link ≡ b.link) × (a.way ≡ b.way)
-launch_link a b e = let same : a ≡ b = cc in (ap (λ (l : Launch). l.link) same, ap (λ (l : Launch). l.way) same)
+launch_link a b e = let same : a ≡ b = cc in (rw same, rw same)
 
 -- what put a frame on a link, as it came: a device gave it, or octets were sent
 data IsPutBy (s : Scenario) (h : Happening) (link : LinkId) (way : Way) : NoteBody → Type 0 where
@@ -79,13 +79,17 @@ put_by : (s : Scenario) (h : Happening) (t : ℕ) (link : LinkId) (way : Way) (c
 put_by s h t link way came (kinds.Left device by cause clock) e = by_frame h.frame e
   where
     by_frame : (o : Option Pcf)
-        → option_map (λ (f : Pcf). let l : Launch = record { link = by; way = way_from s.network device by; signal = control (Ok f) } in l) o
+        → option_map (λ f. let l : Launch = record {
+          link = by;
+          way = way_from s.network device by;
+          signal =
+              control (Ok f);
+        } in l) o
         ≡ Some (record { link = link; way = way; signal = control (Ok came) }) → IsPutBy s h link way (kinds.Left device by cause clock)
     by_frame None e = absurd cc
     by_frame (Some f) e =
         let same = launch_link _ _ e in
-        subst (λ (l : LinkId). IsPutBy s h link way (kinds.Left device l cause clock)) (sym same.0)
-        (IsPutBy.leaving device cause clock (sym same.1 ∙ ap (way_from s.network device) same.0))
+        rw same.0 (IsPutBy.leaving device cause clock (sym same.1 ∙ ap (way_from s.network device) same.0))
 put_by s h t link way came (kinds.TtSent device by cause vl cycle) e = absurd (not_control h.octets came (launch_signal _ _ e))
 put_by s h t link way came (kinds.Event line (Send by octets)) e = by_cut (is_cut s by Up t) e
   where
@@ -94,7 +98,7 @@ put_by s h t link way came (kinds.Event line (Send by octets)) e = by_cut (is_cu
     by_cut true e = absurd cc
     by_cut false e =
         let same = launch_link _ _ e in
-        subst (λ (l : LinkId). IsPutBy s h link way (kinds.Event line (Send l octets))) (sym same.0) (IsPutBy.sending line octets (sym same.1))
+        rw same.0 (IsPutBy.sending line octets (sym same.1))
 put_by s h t link way came other e = absurd cc
 
 up_only : (b : Bool) → Up ≡ (if b then Down else Up) → b ≡ false
@@ -103,7 +107,7 @@ up_only false e = refl
 
 pub parent_true : (device : DeviceId) (o : Option Link) → IsSomeAnd o (λ l. l.parent ≡ device) → option_map_or (λ l. l.parent.0 == device.0) o false ≡ true
 parent_true device None h = absurd h
-parent_true device (Some l) h = eq-eqb l.parent.0 device.0 (ap (λ (d : DeviceId). d.0) h)
+parent_true device (Some l) h = eq-eqb l.parent.0 device.0 (rw h)
 
 given_by : (s : Scenario) (g : Happening) (front : List Happening) (device : DeviceId) (link : LinkId) (frame : Pcf) (body : NoteBody) → IsInRange s.network
     → IsCaused s front g.note.time body → g.frame ≡ frame_by s.network front body → g.frame ≡ Some frame → Gives s.network body device link
@@ -113,14 +117,13 @@ given_by : (s : Scenario) (g : Happening) (front : List Happening) (device : Dev
 given_by s g front device link frame (kinds.Sent master cycle) range c made of gives below is rest =
     let m = master_member master range c.master in
     let dispatched = Rattle.run_law.specs.records.Frames.dispatched_frame s.network master cycle in
-    let same : frame ≡ dispatched = some_same frame dispatched g.frame of made in
     one_of s.network master m.0 frame.members m.1
-    (ap (λ (f : Pcf). f.members.0) same ∙ ap (λ (o : Option ℕ). 2 ^ unwrap_or o 0) m.1)
+    (rw (some_same frame dispatched g.frame of made) (rw m.1))
 given_by s g front device link frame (kinds.Compressed cm opened at cycle of_masters verdict) range c made of gives below is rest =
     absurd (both_ways (is_parent_of s.network device link) below (parent_true device (link_at s.network link) gives.1))
 given_by s g front device link frame (kinds.Arrived relay by cause clock) range c made of gives below is rest =
     elim gives.1.on [
-      | inl up ↦ rest (relay, by) cause clock frame is of (subst (λ d. IsParentOf s.network d by) gives.0 up.0)
+      | inl up ↦ rest (relay, by) cause clock frame is of (rw gives.0 at up.0)
       | inr down ↦ absurd (both_ways (is_parent_of s.network device link) below (parent_true device (link_at s.network link) down.1))
     ]
 given_by s g front device link frame other range c made of gives below is rest = absurd gives
@@ -138,12 +141,12 @@ from_put {s} {link} came {h} front range c made of founded (IsPutBy.leaving devi
     let inside = numbered_in front cause g c.there in
     let at = founded_at s front g founded inside in
     let below = up_only (is_parent_of s.network device link) (sym upward ∙ w) in
-    let whole : h.frame ≡ Some (with_clock clock c.frame) =
-    made ∙ ap (λ (o : Option Happening). option_map (with_clock clock) (option_and_then (λ x. x.frame) o)) c.there
-    ∙ ap (option_map (with_clock clock)) c.of_frame in
-    let same : came ≡ with_clock clock c.frame = some_same came (with_clock clock c.frame) h.frame of whole in
-    subst (λ (f : Pcf). IsOneMaster s.network f.members) (sym same)
-    (given_by s g at.front device link c.frame g.note.body range at.due.cause (ap (λ (x : Happening). x.frame) at.due.same) c.of_frame c.gives below refl
+    let whole =
+    made ∙ (rw c.there
+    (ap (option_map (with_clock clock)) c.of_frame)) in
+    let same = some_same came (with_clock clock c.frame) h.frame of whole in
+    rw same (given_by s g at.front device link c.frame g.note.body range at.due.cause
+    (ap (λ (x : Happening). x.frame) at.due.same) c.of_frame c.gives below refl
     (λ by of_cause of_clock f is of_f parent. rest g by of_cause of_clock f inside is of_f parent))
 from_put came front range c made of founded (IsPutBy.sending line octets w) upward never rest =
     absurd (never line octets refl)
@@ -154,7 +157,8 @@ pub one_master : (n : ℕ) (s : Scenario) (hs : List Happening) (arrival : Happe
     → arrival.note.body ≡ kinds.Arrived device link cause clock → arrival.frame ≡ Some frame → IsParentOf s.network device link
     → IsOneMaster s.network frame.members
 one_master zero s [] arrival device link cause clock frame le range keeps ends founded i body of parent = absurd i
-one_master zero s (h ∷ hs) arrival device link cause clock frame le range keeps ends founded i body of parent = absurd (omega (arith, le))
+one_master zero s (h ∷ hs) arrival device link cause clock frame le range keeps ends founded i body of parent =
+    absurd (omega arith)
 one_master (suc n) s hs arrival device link cause clock frame le range keeps ends founded i body of parent =
     let network = s.network in
     let c = has_come s hs arrival device link cause clock frame founded i body of in
@@ -171,7 +175,7 @@ one_master (suc n) s hs arrival device link cause clock frame le range keeps end
           in
           let whole : hs ≡ c.front ++ arrival ∷ c.rest = c.whole in
           let before : IsFounded place_of (IsDue s) c.front = front_founded place_of (IsDue s) c.front (arrival ∷ c.rest)
-          (subst (λ l. IsFounded place_of (IsDue s) l) whole founded) in
+          (rw whole at founded) in
           let long : length hs ≡ length (c.front ++ arrival ∷ c.rest) = ap length whole in
           let more = length-append c.front (arrival ∷ c.rest) in
           let tail : length (arrival ∷ c.rest) ≡ suc (length c.rest) = refl in
@@ -189,7 +193,7 @@ one_master (suc n) s hs arrival device link cause clock frame le range keeps end
           (let l : length c.front ≡ length (put.front ++ c.so.putting ∷ put.rest) = ap length put.whole in
           let m = length-append put.front (c.so.putting ∷ put.rest) in
           let k : length (c.so.putting ∷ put.rest) ≡ suc (length put.rest) = refl in
-          omega (arith, l, m, k, long, more, tail, le)) range keeps ends put.founded g_in g_body g_frame at_parent))
+          omega arith) range keeps ends put.founded g_in g_body g_frame at_parent))
     ]
   where
     by_way : (joint : Link) (device : DeviceId) → joint.parent ≡ device → (joint.child ≡ joint.parent → ⊥) → (way : Way) → target_by way joint ≡ device
@@ -200,7 +204,7 @@ one_master (suc n) s hs arrival device link cause clock frame le range keeps end
     sent_end : (h : Happening) (front : List Happening) → IsCaused s front h.note.time h.note.body → (line : ℕ) (octets : List ℕ)
         → h.note.body ≡ kinds.Event line (Send link octets) → IsFromEnd s.network link
     sent_end h front c line octets is =
-        let e = subst (λ b. IsCaused s front h.note.time b) is c in
+        let e = rw is at c in
         ends e.before e.event link octets e.is (sym e.same)
 
 -- so what waits is of one master, where it came from below; from an end system, of that
@@ -215,9 +219,9 @@ of_master s hs arrival device link cause clock frame range keeps ends founded i 
     record {
       one = one_master (length hs) s hs arrival device link cause clock frame (omega arith) range keeps ends founded i body of parent;
       own = λ child is_child end_is.
-          let joint = opened (λ (l : Link). l.parent ≡ device) (link_at network link) parent in
-          let same : joint.0.child ≡ child = at_known (λ (l : Link). l.child ≡ child) (link_at network link) joint.0 joint.1 is_child in
-          let m = end_member network device link frame.members joint.0 joint.1 joint.2 (subst (λ d. is_end network d ≡ true) (sym same) end_is)
+          let joint = opened (λ l. l.parent ≡ device) (link_at network link) parent in
+          let same = at_known (λ l. l.child ≡ child) (link_at network link) joint.0 joint.1 is_child in
+          let m = end_member network device link frame.members joint.0 joint.1 joint.2 (rw same end_is)
           sound.member in
-          subst (λ (o : Option ℕ). IsSomeAnd o (λ member. frame.members.0 ≡ 2 ^ member)) (sym (ap (member_of network) (sym same) ∙ m.1)) m.2;
+          rw (ap (member_of network) (sym same) ∙ m.1) m.2;
     }

@@ -1,12 +1,12 @@
 -- A frame that waits is one that the network has: its `arrived` record was due.
-use Rattle.{pcf_codec.specs.Decoding.decoded, std.proofs.{Common.{Err, IsSomeAnd, arith}, lemmas.Bool.not-false}, world_law.proofs.Words.{with_clock, ℕ}}
+use Rattle.{pcf_codec.specs.Decoding.decoded, std.proofs.{Common.{Err, arith}, lemmas.Bool.not-false}, world_law.proofs.Words.{with_clock, ℕ}}
 use Rattle.run_law.{proofs.law.FirstPlaces.numbered_in, specs.{device.Standpoints.first_reason, machines.Calls.IsLinkAt, scenario.Ways.receiver_of}}
 use Rattle.run_law.specs.control.Arrivals.{clock_on_arrival, frame_fault, frame_or_fault, frame_taken, is_cold_start, is_gate_shut, is_of_other_domain}
 use Rattle.{run_law.specs.control.Arrivals.is_of_other_member, tte_units.specs.declared.frames.pcf.PcfKind.{PcfKind, TheVariants.Integration}}
 use Rattle.world_law.proofs.Words.{◌&&◌, ◌++◌, ◌==◌, ◌∙◌, ◌∷◌, ◌≡◌, ◌≤◌, Arrival, Arrives, ArrivesAs, Bool, DeviceId, Down, Happening, IsArrivedRecord}
 use Rattle.world_law.proofs.Words.{IsCaused, IsDue, IsFounded, IsIn, Launch, Link, LinkId, List, Network, None, NoteBody, Ok, Option, Pcf, Reason, Scenario}
 use Rattle.world_law.proofs.Words.{Send, Signal, Some, Standpoint, Units, Up, Way, [], amount, ap, arrival_of, cases_lt, control, eqb-true, false, founded_at}
-use Rattle.world_law.proofs.Words.{frame_by, if◌then◌else◌, inl, inr, is_cut, launched, length, link_at, lt-ltb, nat_lt, not, numbered, option_and_then}
+use Rattle.world_law.proofs.Words.{frame_by, if◌then◌else◌, inl, inr, is_cut, launched, length, link_at, lt-ltb, nat_lt, not, numbered}
 use Rattle.world_law.proofs.Words.{option_map, place_of, refl, signal_of, standpoint, subst, sym, target_by, time_of, timed, timed_arrival, true, way_from}
 use Rattle.run_law.specs.declared.judgement.Reason.TheVariants as reasons
 use Rattle.run_law.specs.declared.note.NoteBody.TheVariants as kinds
@@ -35,7 +35,7 @@ module _ (network : Network) (device : DeviceId) (link : LinkId) (at : Standpoin
       → is ≡ frame_or_fault network device link at came fault
       → (fault ≡ None) × (frame ≡ with_clock (clock_on_arrival network link came) came)
   taken_by_fault came frame (Some reason) is of e =
-      absurd (let bad : None ≡ Some frame = sym (ap frame_of e) ∙ of in cc)
+      absurd (cc)
   taken_by_fault came frame None is of e = grind (arith, with_clock, frame_of_taken)
 
   not_timed : (octets : List ℕ) (last : _) → frame_of (timed_arrival network device link at octets last) ≡ None
@@ -58,10 +58,10 @@ module _ (s : Scenario) (hs : List Happening) (device : DeviceId) (t : ℕ) (lin
           cause signal
           → CameSo s hs device t link cause frame
       by_signal (timed octets) arrives e =
-          absurd (let bad : None ≡ Some frame = sym (not_timed s.network device link (standpoint s hs device t)
+          absurd (let bad = sym (not_timed s.network device link (standpoint s hs device t)
           octets _) ∙ sym (ap frame_of e) ∙ of in cc)
       by_signal (control (Err refusal)) arrives e =
-          absurd (let bad : None ≡ Some frame = sym (ap frame_of e) ∙ of in cc)
+          absurd (cc)
       by_signal (control (Ok came)) arrives e =
           let it = taken_by_fault s.network device link (standpoint s hs device t) came frame _ is of e in
           record { putting = a.putting; there = a.there; came = came; arrives = arrives; taken = record { none = it.0; is = it.1 } }
@@ -78,10 +78,10 @@ module _ (s : Scenario) (hs : List Happening) (device : DeviceId) (t : ℕ) (lin
 -- ---- its frame is that of the record that put it on the wire
 
 pub launch_signal : (a b : Launch) → Some a ≡ Some b → a.signal ≡ b.signal
-launch_signal a b e = let same : a ≡ b = cc in ap (λ (l : Launch). l.signal) same
+launch_signal a b e = let same : a ≡ b = cc in rw same
 
 by_octets : (b : Bool) (octets : List ℕ) (came : Pcf) → (if b then control (decoded octets) else timed octets) ≡ control (Ok came) → decoded octets ≡ Ok came
-by_octets true octets came e = let same : decoded octets ≡ Ok came = cc in same
+by_octets true octets came e = cc
 by_octets false octets came e = absurd cc
 
 pub not_control : (octets : List ℕ) (came : Pcf) → timed octets ≡ control (Ok came) → ⊥
@@ -114,19 +114,21 @@ has_come s hs arrival device link cause clock frame founded i body of =
     let a : IsArrivedRecord s at.front device (time_of arrival) link cause clock = subst (λ b. IsCaused s at.front arrival.note.time b) body
     due.cause in
     let so = arrived_so s at.front device (time_of arrival) link cause clock a in
-    let before : IsFounded place_of (IsDue s) at.front = Rattle.run_law.proofs.law.FirstPlaces.front_founded place_of (IsDue s) at.front (arrival ∷ at.rest)
-    (subst (λ l. IsFounded place_of (IsDue s) l) at.whole founded) in
+    let before = Rattle.run_law.proofs.law.FirstPlaces.front_founded place_of (IsDue s) at.front (arrival ∷ at.rest)
+    (rw at.whole at founded) in
     let put = founded_at s at.front so.putting before (numbered_in at.front cause so.putting so.there) in
-    let put_frame : so.putting.frame ≡ Some so.came =
-    launched_frame s put.front so.putting (time_of so.putting) link so.arrives.way so.came so.putting.note.body (ap (λ (h : Happening). h.frame) put.due.same)
+    let put_frame =
+    launched_frame s put.front so.putting (time_of so.putting) link so.arrives.way so.came so.putting.note.body
+    (ap (λ h. h.frame) put.due.same)
     so.arrives.put in
-    let own : arrival.frame ≡ Some (with_clock clock so.came) = ap (λ (h : Happening). h.frame) due.same
+    let own : arrival.frame ≡ Some (with_clock clock so.came) = ap (λ h. h.frame) due.same
     ∙ ap (frame_by s.network at.front) body
-    ∙ ap (λ (o : Option Happening). option_map (with_clock clock) (option_and_then (λ h. h.frame) o)) so.there
-    ∙ ap (option_map (with_clock clock)) put_frame in
-    let frame_is : frame ≡ with_clock clock so.came = Rattle.world_law.proofs.giving.GivenParts.some_same frame (with_clock clock so.came) arrival.frame of own in
-    let taken_clock : clock ≡ clock_on_arrival s.network link so.came = a.shows ∙ ap (λ (f : Pcf). f.clock) so.taken.is in
-    let same : a.frame ≡ frame = so.taken.is ∙ ap (λ c. with_clock c so.came) (sym taken_clock) ∙ sym frame_is in
+    ∙ (rw so.there
+    (ap (option_map (with_clock clock)) put_frame)) in
+    let frame_is = Rattle.world_law.proofs.giving.GivenParts.some_same frame (with_clock clock so.came) arrival.frame of
+    own in
+    let taken_clock = a.shows ∙ ap (λ f. f.clock) so.taken.is in
+    let same = so.taken.is ∙ (rw (sym taken_clock) (sym frame_is)) in
     record {
       front = at.front;
       rest = at.rest;
@@ -139,7 +141,7 @@ has_come s hs arrival device link cause clock frame founded i body of =
         taken = record { none = so.taken.none; is = sym same ∙ so.taken.is };
       };
       of_frame = put_frame;
-      shows = a.shows ∙ ap (λ (f : Pcf). f.clock) same;
+      shows = a.shows ∙ (rw same);
     }
 
 -- ---- without a fault
@@ -188,12 +190,12 @@ is_sound network device link at came frame taken =
     ] in
     record {
       takes_part = not-false at.takes_part off.0;
-      kind = ap (λ (f : Pcf). f.kind) taken.is ∙ kind_of came.kind cold.0;
-      priority = ap (λ (f : Pcf). f.priority) taken.is ∙ eqb-true came.priority network.priority same.0;
-      domain = ap (λ (f : Pcf). f.domain) taken.is ∙ eqb-true came.domain network.domain same.1;
-      clock = subst (λ (f : Pcf). f.clock ≤ amount network.dmax) (sym taken.is) least;
-      member = ap (λ (f : Pcf). is_of_other_member network device link f.members) taken.is ∙ member.0;
-      members = ap (λ (f : Pcf). f.members) taken.is;
+      kind = rw taken.is (kind_of came.kind cold.0);
+      priority = rw taken.is (eqb-true came.priority network.priority same.0);
+      domain = rw taken.is (eqb-true came.domain network.domain same.1);
+      clock = rw taken.is least;
+      member = rw taken.is member.0;
+      members = rw taken.is;
     }
 
 -- ---- the link is at the device
@@ -209,5 +211,5 @@ module _ (network : Network) (device : DeviceId) (link : LinkId) where
   received way e = grind (arith, link_at, option_map, target_by)
 
   pub link_of : (way : Way) → IsReceiver network device link way → IsLinkAt network device link
-  link_of Up r = inr (subst (λ (o : Option Link). IsSomeAnd o (λ l. l.parent ≡ device)) (sym r.there) r.is)
-  link_of Down r = inl (subst (λ (o : Option Link). IsSomeAnd o (λ l. l.child ≡ device)) (sym r.there) r.is)
+  link_of Up r = inr (rw r.there r.is)
+  link_of Down r = inl (rw r.there r.is)

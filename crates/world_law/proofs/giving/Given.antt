@@ -3,17 +3,17 @@ use Rattle.world_law.proofs.runs.Settled.{none_pending}
 use Rattle.world_law.proofs.devices.{Plains.{adjustments_plain, changes_at_plain, filter_plain, plains_parts, states_plain, told_by_others}, Working.worked_on}
 use Rattle.world_law.proofs.{rows.AtHand.frames_by_others, runs.TaskPlaces.acts_before}
 use Rattle.run_law.proofs.{law.FirstPlaces.numbered_next, runs.NetworkRuns.one_more}
-use Rattle.world_law.specs.world.World.{AreStored, AreUntold, Befell, IsActedUpTo, IsAwaitedFor, IsAtRest, IsJustTold, Stored, is_turning, note_of}
+use Rattle.world_law.specs.world.World.{AreUntold, Befell, IsActedUpTo, IsAtRest, IsJustTold, Stored, is_turning, note_of}
 use Rattle.std.proofs.lemmas.{List.length_push, Option.slice_get_cases}
-use Rattle.world_law.proofs.Words.{◌++◌, ◌+◌, ◌<◌, ◌∙◌, ◌∷◌, ◌≡◌, ◌≤◌, ◌⊎◌, AreAtPorts, AreClusters, AreOfNetwork, AreComing, AreOnWires, AreWaiting}
-use Rattle.world_law.proofs.Words.{AtPort, Bool, Device, DeviceId, Happening, Integrating, IsActedOut, IsActing, IsBefore, IsDue}
-use Rattle.world_law.proofs.Words.{IsFounded, IsHeld, IsIn, IsJoiningNow, IsKept, IsSource, List, Network}
-use Rattle.world_law.proofs.Words.{NoSourceBefore, Node, None, Note, NoteBody, OnWire, Pcf, Scenario, Some, Synchronised, World}
+use Rattle.world_law.proofs.Words.{◌++◌, ◌+◌, ◌<◌, ◌∙◌, ◌∷◌, ◌≡◌, ◌≤◌, ◌⊎◌, AreAtPorts, AreOfNetwork, AreOnWires, AreWaiting}
+use Rattle.world_law.proofs.Words.{AtPort, Bool, Device, DeviceId, Happening, Integrating, IsActedOut, IsActing, IsBefore}
+use Rattle.world_law.proofs.Words.{IsHeld, IsIn, IsJoiningNow, IsKept, IsSource, List, Network}
+use Rattle.world_law.proofs.Words.{NoSourceBefore, Node, Note, NoteBody, OnWire, Pcf, Scenario, Some, World}
 use Rattle.world_law.proofs.Words.{Task, Waiting, [], act_place, adjustment_after, amount, ap, append-nil, append_assoc, arith, before_behind}
 use Rattle.world_law.proofs.Words.{before_next_time, behind, cases_Bool, chain, changed_at, clock_place, device_at, earlier, ends_stretch, eqb-true, false}
-use Rattle.world_law.proofs.Words.{filter, filter_map, happening, happenings, if◌then◌else◌, in_left, in_parts, in_right, inl, inr, ints}
-use Rattle.world_law.proofs.Words.{is_broken, is_joined_by, is_turned_on_at, key, length, members_in, moves, nat_le, never_self, next_cycle, no_cluster}
-use Rattle.world_law.proofs.Words.{numbered, numbers_end, observation_window, place_of, plains, point_by, point_in, points_of, port_place, rank, refl}
+use Rattle.world_law.proofs.Words.{filter, filter_map, happening, happenings, in_left, in_parts, in_right, inl, inr, ints}
+use Rattle.world_law.proofs.Words.{is_joined_by, key, length, members_in, moves, nat_le, never_self, no_cluster}
+use Rattle.world_law.proofs.Words.{numbered, numbers_end, observation_window, place_of, plains, point_by, points_of, port_place, rank, refl}
 use Rattle.world_law.proofs.Words.{ripe_place, state_after, state_before, subst, suc, sym, task_place, time_of, true, units_of, up_to, wire_place, ℕ}
 use Rattle.world_law.proofs.{lists.Lists.behind_yes, runs.Firsts.{acting_back, arrives_later, earlier_still, gives_rank, no_higher}}
 use Rattle.world_law.proofs.runs.{Firsts.{arriving_more, departing_more, numbered_more, numbered_still}, Settled.AreSettled, Worlds.{first_is_next, length_is}}
@@ -59,7 +59,8 @@ joined_place : (z : Happening) (device : DeviceId) (now : ℕ) → time_of z ≡
 joined_place z device now at (kinds.Compressed other opened out cycle members judgements.Integrates) e four joins =
     subst (λ l. IsBefore (act_place now device) l)
     (sym (ap (λ b. time_of z ∷ rank b ∷ key (members_in z) b) e
-    ∙ ap (λ (n : ℕ). n ∷ 4 ∷ other.0 ∷ key_rest (members_in z) (kinds.Compressed other opened out cycle members judgements.Integrates)) at))
+    ∙ ap (λ n. n ∷ 4 ∷ other.0 ∷ key_rest (members_in z) (kinds.Compressed other opened out cycle members
+    judgements.Integrates)) at))
     (inr (refl, inr (refl, inr (eqb-true device.0 other.0 joins, tt))))
   where
     key_rest : ℕ → NoteBody → List ℕ
@@ -74,13 +75,13 @@ gone_acts : {s : Scenario} {hs : List Happening} {device : DeviceId} {now : ℕ}
     → state_before s hs device now ≡ Integrating → points_of hs device ≡ [] → IsActing s hs now device task → ⊥
 gone_acts {s} looking none (IsActing.emits sent verdict e) =
     no_cluster (observation_window s.network) e.clusters e.cluster
-    (subst (λ ps. AreClusters (observation_window s.network) ps e.clusters) none e.are) e.there
+    (rw none at e.are) e.there
 gone_acts looking none (IsActing.sends cycle d) =
-    let bad : Integrating ≡ Synchronised = sym looking ∙ d.up.synchronised in cc
+    let bad = sym looking ∙ d.up.synchronised in cc
 gone_acts {s} {hs} {device} {now} looking none (IsActing.corrects cycle c) =
-    let none : None ≡ Some cycle = sym (ap (λ st. point_in st (next_cycle s hs device now)) looking) ∙ c.next in cc
+    cc
 gone_acts looking none (IsActing.dispatches link cause vl cycle d) =
-    let bad : Integrating ≡ Synchronised = sym looking ∙ d.up.synchronised in cc
+    let bad = sym looking ∙ d.up.synchronised in cc
 
 changes_by : (js gs : List Happening) (device : DeviceId) (t : ℕ) → plains js ≡ plains gs → changed_at js device t ≡ changed_at gs device t
 changes_by js gs device t same = sym (changes_at_plain js device t) ∙ ap (λ l. changed_at l device t) same ∙ changes_at_plain gs device t
@@ -115,8 +116,8 @@ module _ {s : Scenario} {hs : List Happening} {z : Happening} {rest : List Happe
             record { putting = with_number n z; there = here_then e.cause it.0; arrives = it.1 },
             λ open_. absurd cc,
             λ b. elim (no_higher e.at 2 (time_of z) (rank z.note.body) _ (key (members_in z) z.note.body) (up_to_place (wire_place e) (place_of z) b)) [
-              | inl lt ↦ omega (arith, later, lt)
-              | inr same ↦ omega (arith, later, same.0)
+              | inl lt ↦ omega arith
+              | inr same ↦ omega (arith, same.0)
             ],
           )
     ];
@@ -126,7 +127,7 @@ module _ {s : Scenario} {hs : List Happening} {z : Happening} {rest : List Happe
               are.all t device link cause old (λ open_. absurd cc) (λ b. not (g.are.not_past z (inl refl) _ b)) in (found.0, put.kept found.0 found.1, found.2)
           | inr it ↦
               let found = put.all device link t it.1.0 it.1.1 in
-              (found.0, found.1, found.2 ∙ ap (λ (k : ℕ). t ∷ 2 ∷ device.0 ∷ link.0 ∷ k ∷ []) (is ∙ sym it.0))
+              (found.0, found.1, found.2 ∙ ap (λ k. t ∷ 2 ∷ device.0 ∷ link.0 ∷ k ∷ []) (is ∙ sym it.0))
         ];
   }
 
@@ -147,8 +148,8 @@ module _ {s : Scenario} {hs : List Happening} {z : Happening} {rest : List Happe
           let held = it.1.held in (
             record { giving = with_number n z; there = here_then e.cause it.0; gave = it.1 },
             λ b. elim (no_higher e.at 8 (time_of z) (rank z.note.body) _ (key (members_in z) z.note.body) (up_to_place (port_place e) (place_of z) b)) [
-              | inl lt ↦ omega (arith, held, lt)
-              | inr same ↦ omega (arith, low, same.1)
+              | inl lt ↦ omega arith
+              | inr same ↦ omega (arith, same.1)
             ],
           )
     ];
@@ -159,7 +160,8 @@ module _ {s : Scenario} {hs : List Happening} {z : Happening} {rest : List Happe
               let found = put.all device link it.1 in (
                 found.0,
                 found.1,
-                found.2 ∙ ap (λ (u : ℕ). u ∷ 8 ∷ device.0 ∷ link.0 ∷ n ∷ []) (sym it.2) ∙ ap (λ (k : ℕ). t ∷ 8 ∷ device.0 ∷ link.0 ∷ k ∷ [])
+                found.2 ∙ ap (λ u. u ∷ 8 ∷ device.0 ∷ link.0 ∷ n ∷ []) (sym it.2) ∙ ap
+                    (λ k. t ∷ 8 ∷ device.0 ∷ link.0 ∷ k ∷ [])
                     (is ∙ sym it.0),
               )
         ];
@@ -180,26 +182,26 @@ module _ {s : Scenario} {hs : List Happening} {z : Happening} {rest : List Happe
         elim (put.real e i) [
           | inl old ↦
               let was = are.real e old in
-              let arrival : was.arrival ≡ p.arrival = some_same was.arrival p.arrival _ (there_still was.arrival e.cause was.there) p.there in
-              let there : numbered hs e.cause ≡ Some p.arrival = was.there ∙ ap Some arrival in
-              let frame : r.frame ≡ e.frame = some_same r.frame e.frame _ p.of_frame (ap (λ (h : Happening). h.frame) (sym arrival) ∙ was.awaited.of_frame) in
+              let arrival = some_same was.arrival p.arrival _ (there_still was.arrival e.cause was.there) p.there in
+              let there = was.there ∙ ap Some arrival in
+              let frame = some_same r.frame e.frame _ p.of_frame (rw (sym arrival) was.awaited.of_frame) in
               let at = ripe_with t e r.frame frame in
               let yet = worked_yet _ (IsSource.ripening t e.device e.link e.cause e.point r)
               (subst (λ q. IsBefore q (behind (place_of z))) (sym at) b) in
               are.later e old t (record { frame = r.frame; permanent = same_permanent hs p there })
-              (subst (λ q. IsBefore q to) at yet)
+              (rw at at yet)
           | inr it ↦
-              let arrival : with_number n z ≡ p.arrival = some_same (with_number n z) p.arrival _ (here_then e.cause it.0) p.there in
-              let two : rank z.note.body ≡ 2 = ap (λ (h : Happening). rank h.note.body) arrival ∙ ap rank p.arrived in
+              let arrival = some_same (with_number n z) p.arrival _ (here_then e.cause it.0) p.there in
+              let two : rank z.note.body ≡ 2 = ap (λ h. rank h.note.body) arrival ∙ ap rank p.arrived in
               let from = p.reached.from_on in
               let at : time_of z ≡ time_of p.arrival = ap time_of arrival in
               elim (no_higher t 3 (time_of z) (rank z.note.body) _ (key (members_in z) z.note.body) (up_to_place (ripe_place t e) (place_of z) b)) [
-                | inl lt ↦ omega (arith, ints, from, at, lt)
-                | inr same ↦ omega (arith, two, same.1)
+                | inl lt ↦ omega (arith, ints)
+                | inr same ↦ omega (arith, same.1)
               ]
         ];
     sound = λ e i. elim (put.real e i)
-        [ inl old ↦ are.sound e old | inr it ↦ subst (λ t. is_broken s e.device t ≡ false) (g.are.of_now z (inl refl)) it.2 ];
+        [ inl old ↦ are.sound e old | inr it ↦ rw (g.are.of_now z (inl refl)) at it.2 ];
     all = λ e it sound not.
         elim (numbered_more hs (with_number n z) it.arrival e.cause it.there) [
           | inl old ↦
@@ -211,14 +213,14 @@ module _ {s : Scenario} {hs : List Happening} {z : Happening} {rest : List Happe
               })
               (g.are.not_past z (inl refl) (ripe_place t e) b)))
           | inr new_one ↦
-              put.all e (new_one.0 ∙ sym is) (subst (λ h. IsAwaitedFor s h e) (sym new_one.1) it.awaited)
-              (subst (λ t. is_broken s e.device t ≡ false) (sym (g.are.of_now z (inl refl))) sound)
+              put.all e (new_one.0 ∙ sym is) (rw new_one.1 it.awaited)
+              (rw (g.are.of_now z (inl refl)) sound)
         ];
   }
     where
       ripe_with : (t : ℕ) (e : Waiting) (frame : Pcf) → frame ≡ e.frame → t ∷ 3 ∷ e.device.0 ∷ amount e.point ∷ frame.members.0 ∷ e.link.0 ∷ e.cause
           ∷ [] ≡ ripe_place t e
-      ripe_with t e frame same = ap (λ (f : Pcf). t ∷ 3 ∷ e.device.0 ∷ amount e.point ∷ f.members.0 ∷ e.link.0 ∷ e.cause ∷ []) same
+      ripe_with t e frame same = rw same
 
   -- ---- devices
 
@@ -233,11 +235,11 @@ module _ {s : Scenario} {hs : List Happening} {z : Happening} {rest : List Happe
       let at = g.are.of_now z (inl refl) in
       elim (no_higher now 4 (time_of z) (rank z.note.body) (device.0 ∷ []) (key (members_in z) z.note.body)
       (up_to_place (act_place now device) (place_of z) b)) [
-        | inl lt ↦ absurd (omega (arith, at, lt))
+        | inl lt ↦ absurd (omega arith)
         | inr same ↦
-            acting_back hs (with_number n z ∷ []) (λ y i. let t = alone_now y i in omega (arith, t))
+            acting_back hs (with_number n z ∷ []) (λ y i. let t = alone_now y i in omega arith)
             (λ y i. elim i [
-              | inl e ↦ let same_rank : rank y.note.body ≡ rank z.note.body = ap (λ (h : Happening). rank h.note.body) e in omega (arith, same_rank, same.1)
+              | inl e ↦ let same_rank : rank y.note.body ≡ rank z.note.body = rw e in omega (arith, same.1)
               | inr none ↦ absurd none
             ]) a
       ]
@@ -263,15 +265,14 @@ module _ {s : Scenario} {hs : List Happening} {z : Happening} {rest : List Happe
   joins_then : {device : DeviceId} → IsJoiningNow s hs (z ∷ rest) device now → IsActedOut s (hs ++ with_number n z ∷ []) now device (behind (place_of z))
       ⊎ (IsJustTold s ((hs ++ with_number n z ∷ []) ++ rest) device now ⊎ IsJoiningNow s (hs ++ with_number n z ∷ []) rest device now)
   joins_then {device} j =
-      let same : earlier now (hs ++ with_number n z ∷ []) ≡ earlier now hs = earlier_still now hs (with_number n z ∷ [])
-      (λ y i. let t = alone_now y i in omega (arith, t)) in
-      let looking : state_before s (hs ++ with_number n z ∷ []) device now ≡ Integrating = ap (λ l. if is_turned_on_at s device now
-      then Integrating else state_after s l device) same ∙ j.looking in
+      let same = earlier_still now hs (with_number n z ∷ [])
+      (λ y i. let t = alone_now y i in omega arith) in
+      let looking : state_before s (hs ++ with_number n z ∷ []) device now ≡ Integrating = rw same j.looking in
       elim j.there [
         | inr more ↦ inr (inr (record { looking = looking; by = j.by; there = more; sent = j.sent; joins = j.joins }))
         | inl is_z ↦
-            let four : rank z.note.body ≡ 4 = ap (λ (h : Happening). rank h.note.body) (sym is_z) ∙ j.sent in
-            let joins : is_joined_by device z.note.body ≡ true = ap (λ (h : Happening). is_joined_by device h.note.body) (sym is_z) ∙ j.joins in
+            let four : rank z.note.body ≡ 4 = rw (sym is_z) j.sent in
+            let joins : is_joined_by device z.note.body ≡ true = rw (sym is_z) j.joins in
             inl (record {
               past = chain (act_place now device) (place_of z) (behind (place_of z))
                   (joined_place z device now (g.are.of_now z (inl refl)) z.note.body refl four joins) (before_behind (place_of z));
@@ -285,20 +286,22 @@ module _ {s : Scenario} {hs : List Happening} {z : Happening} {rest : List Happe
 
   earlier_then : earlier now (hs ++ z ∷ rest) ≡ earlier now ((hs ++ with_number n z ∷ []) ++ rest)
   earlier_then =
-      let late : (y : Happening) → IsIn y rest → now ≤ time_of y = λ y i. let t = g.are.of_now y (inr i) in omega (arith, t) in
+      let late : (y : Happening) → IsIn y rest → now ≤ time_of y = λ y i. let t = g.are.of_now y (inr i) in
+      omega arith in
       let at = g.are.of_now z (inl refl) in
-      let all : (y : Happening) → IsIn y (z ∷ rest) → now ≤ time_of y = λ y i. let t = g.are.of_now y i in omega (arith, t) in
+      let all : (y : Happening) → IsIn y (z ∷ rest) → now ≤ time_of y = λ y i. let t = g.are.of_now y i in
+      omega arith in
       let given : (y : Happening) → IsIn y (with_number n z ∷ rest) → now ≤ time_of y = λ y i.
-      elim i [ inl e ↦ let t : time_of y ≡ time_of z = ap time_of e in omega (arith, t, at) | inr more ↦ late y more ] in
+      elim i [ inl e ↦ let t : time_of y ≡ time_of z = ap time_of e in omega arith | inr more ↦ late y more ] in
       earlier_still now hs (z ∷ rest) all ∙ sym (earlier_still now hs (with_number n z ∷ rest) given)
       ∙ ap (earlier now) (sym (append_assoc hs (with_number n z ∷ []) rest))
 
   -- each of them is one of those before, but for its number, and the other way round
   one_then : (h : Happening) → IsIn h ((hs ++ with_number n z ∷ []) ++ rest) → (y : Happening) × IsIn y (hs ++ z ∷ rest) × (time_of y ≡ time_of h)
       × (y.note.body ≡ h.note.body)
-  one_then h i = elim (in_parts h hs (with_number n z ∷ rest) (subst (λ l. IsIn h l) (append_assoc hs (with_number n z ∷ []) rest) i)) [
+  one_then h i = elim (in_parts h hs (with_number n z ∷ rest) (rw (append_assoc hs (with_number n z ∷ []) rest) at i)) [
     | inl old ↦ (h, in_left h hs (z ∷ rest) old, refl, refl)
-    | inr (inl e) ↦ (z, in_right z hs (z ∷ rest) (inl refl), ap time_of (sym e), ap (λ (k : Happening). k.note.body) (sym e))
+    | inr (inl e) ↦ (z, in_right z hs (z ∷ rest) (inl refl), ap time_of (sym e), ap (λ k. k.note.body) (sym e))
     | inr (inr more) ↦ (h, in_right h hs (z ∷ rest) (inr more), refl, refl)
   ]
 
@@ -306,14 +309,14 @@ module _ {s : Scenario} {hs : List Happening} {z : Happening} {rest : List Happe
       × (y.note.body ≡ h.note.body)
   one_before h i =
       let over : (y : Happening) → IsIn y (hs ++ with_number n z ∷ rest) → IsIn y ((hs ++ with_number n z ∷ []) ++ rest) = λ y j.
-      subst (λ l. IsIn y l) (sym (append_assoc hs (with_number n z ∷ []) rest)) j in
+      rw (append_assoc hs (with_number n z ∷ []) rest) j in
       elim (in_parts h hs (z ∷ rest) i) [
         | inl old ↦ (h, over h (in_left h hs (with_number n z ∷ rest) old), refl, refl)
         | inr (inl e) ↦ (
           with_number n z,
           over _ (in_right _ hs (with_number n z ∷ rest) (inl refl)),
           ap time_of (sym e),
-          ap (λ (k : Happening). k.note.body) (sym e),
+          rw (sym e),
         )
         | inr (inr more) ↦ (h, over h (in_right h hs (with_number n z ∷ rest) (inr more)), refl, refl)
       ]
@@ -334,7 +337,7 @@ module _ {s : Scenario} {hs : List Happening} {z : Happening} {rest : List Happe
               | inl out ↦ inl (out_then out)
               | inr (inl just) ↦ inr (inl (record {
                 looking =
-                    ap (λ l. if is_turned_on_at s device now then Integrating else state_after s l device) (sym later) ∙ just.looking;
+                    rw (sym later) just.looking;
                 other = just.other;
               }))
               | inr (inr joining) ↦ joins_then joining
@@ -349,7 +352,7 @@ module _ {s : Scenario} {hs : List Happening} {z : Happening} {rest : List Happe
         turned = λ on.
             let was = k.turned on in
             record {
-              off = ap (λ l. state_after s l device) (sym later) ∙ was.off;
+              off = rw (sym later) was.off;
               number = was.number;
               event = was.event;
               befell = record { there = there_still was.event was.number was.befell.there; same_time = was.befell.same_time };
@@ -403,7 +406,7 @@ pub device_in : (network : Network) (device : DeviceId) → device.0 < length ne
 device_in network device lt =
     elim (slice_get_cases network.device device.0).1 [
       | inl it ↦ (it.0, it.2)
-      | inr ge ↦ absurd (omega (arith, lt, ge.0))
+      | inr ge ↦ absurd (omega (arith, ge.0))
     ]
 
 -- it is given: then the frontier is behind it
@@ -434,23 +437,21 @@ given_from {stands} s world notes z rest {from} {to} {wires} {ports} {waiting}
     let hs = happenings s.network notes in
     let n = length notes + 1 in
     let x = with_number n z in
-    let number : n ≡ length hs + 1 = ap (λ k. k + 1) (length_is s notes) in
-    let are : AreSettled s hs (z ∷ rest) from to world.now = subst (λ l. AreSettled s hs l from to world.now)
-    settled old.are in
-    let due : IsDueAs s hs z = subst (λ l. IsDueAs s l z) (append-nil hs) (are.founded [] rest z refl).1 in
-    let is_x : happening s.network hs (note_of notes z) ≡ x = sym (ap (with_number n) due.same) in
-    let back : hs ++ x ∷ [] ≡ happenings s.network (notes ++ note_of notes z ∷ []) = ap (λ (h : Happening). hs ++ h ∷ []) (sym is_x)
-    ∙ sym (one_more s.network notes (note_of notes z)) in
+    let number : n ≡ length hs + 1 = rw (length_is s notes) in
+    let are : AreSettled s hs (z ∷ rest) from to world.now = rw settled at old.are in
+    let due : IsDueAs s hs z = rw (append-nil hs) at (are.founded [] rest z refl).1 in
+    let is_x = sym (ap (with_number n) due.same) in
+    let back : hs ++ x ∷ [] ≡ happenings s.network (notes ++ note_of notes z ∷ []) = rw (sym is_x)
+    (sym (one_more s.network notes (note_of notes z))) in
     let giving : IsGiving s hs z rest from to world.now =
     record { forward = old.forward; are = are; first = none; past = λ p b. old.on p (old.of_now p b) } in
     let then_ = behind (place_of z) in
     let told = settled_told old.untold (are.begun z (inl refl)) in
     let over : (p : List ℕ) → IsBefore p from → IsBefore p then_ = λ p b. are.not_past z (inl refl) p (old.on p b) in
-    let room : length notes + suc (length rest) < numbers_end = subst (λ l. length notes + length l < numbers_end) settled old.room in
-    let pushed : length (notes ++ note_of notes z ∷ []) ≡ n = length_push notes (note_of notes z) in
-    let founded : IsFounded place_of (IsDue s) hs = old.run.founded in
-    let told_wires : AreOnWires s hs to world.now false world.wires = subst
-    (λ b. AreOnWires s hs to world.now b world.wires) told old.wires in (
+    let room : length notes + suc (length rest) < numbers_end = rw settled at old.room in
+    let pushed = length_push notes (note_of notes z) in
+    let founded = old.run.founded in
+    let told_wires : AreOnWires s hs to world.now false world.wires = rw told at old.wires in (
       record {
         same = old.same;
         range = old.range;
@@ -462,11 +463,11 @@ given_from {stands} s world notes z rest {from} {to} {wires} {ports} {waiting}
         run = first_is_next s notes z rest from to world.now old.run are none;
         of_now = λ p b. over p (old.of_now p b);
         not_later =
-            λ p b. subst (λ t. IsBefore p ((t + 1) ∷ [])) (are.of_now z (inl refl))
-            (before_next_time p (time_of z) (rank z.note.body ∷ (key (members_in z) z.note.body ++ 0 ∷ [])) b);
+            λ p b. rw (are.of_now z (inl refl)) at (before_next_time p (time_of z)
+            (rank z.note.body ∷ (key (members_in z) z.note.body ++ 0 ∷ [])) b);
         limit = old.limit;
         lines = old.lines;
-        given = ap (λ k. k + 1) old.given ∙ sym pushed;
+        given = rw old.given (sym pushed);
         ended = old.ended;
         befallen = record {
           past = old.befallen.past;
@@ -477,36 +478,28 @@ given_from {stands} s world notes z rest {from} {to} {wires} {ports} {waiting}
         clocks = old.clocks;
         broken = old.broken;
         ways = old.ways;
-        room = omega (arith, room, pushed);
+        room = omega arith;
         known =
-            subst (λ (l : List Happening). AreOfNetwork s (l ++ rest)) back
-            (known_then giving number (subst (λ (l : List Happening). AreOfNetwork s (hs ++ l)) settled old.known));
+            rw back at (known_then giving number (rw settled at old.known));
         devices = λ device lt.
             let k = old.devices device lt in (
               k.0,
               k.1,
-              subst (λ l. IsHeld stands s l rest then_ world.now device k.0) back
-                  (held_then giving number (subst (λ l. IsHeld stands s hs l to world.now device k.0) settled k.2)),
+              rw back at (held_then giving number (rw settled at k.2)),
             );
         early = λ fresh. absurd (never_self (world.now ∷ 2 ∷ []) (old.early fresh (world.now ∷ 2 ∷ []) (are.begun z (inl refl))));
         untold =
-            subst (λ l. AreUntold l then_ world.now world.pending world.befell) back (untold_then giving number told old.untold);
+            rw back at (untold_then giving number told old.untold);
         wires =
-            subst (λ b. AreOnWires s (happenings s.network (notes ++ note_of notes z ∷ [])) then_ world.now b wires) (sym told)
-            (subst (λ l. AreOnWires s l then_ world.now false wires) back
-            (wires_then giving number told_wires (subst (λ h. ArePut s h n world.wires wires) is_x put)));
+            rw told (rw back at (wires_then giving number told_wires (rw is_x at put)));
         ports =
-            subst (λ l. AreAtPorts s l then_ ports) back
-            (ports_then giving number old.ports (subst (λ h. AreGiven s h n world.ports ports) is_x given));
+            rw back at (ports_then giving number old.ports (rw is_x at given));
         waiting =
-            subst (λ l. AreWaiting s l then_ world.now waiting) back
-            (waiting_then giving number old.waiting (subst (λ h. AreAwaited s h n world.waiting waiting) is_x awaited));
+            rw back at (waiting_then giving number old.waiting (rw is_x at awaited));
         stored =
-            subst (λ l. AreStored l stored) back
-            (stored_then refl old.stored (subst (λ h. AreTaken h n world.stored stored) is_x taken));
+            rw back at (stored_then refl old.stored (rw is_x at taken));
         are =
-            subst (λ l. AreComing s l rest then_ world.now) back
-            (coming_then (record { giving = giving; one = refl; founded = founded }));
+            rw (sym back) (coming_then (record { giving = giving; one = refl; founded = founded }));
         shown = λ device lt ended. (
           λ b.
               let is = device_in s.network device lt in

@@ -19,7 +19,7 @@ module _ {s : Scenario} {hs : List Happening} {z g : Happening} {rest : List Hap
     (x : IsGivenAs s hs z g rest from to now) where
   not_over : (q : List ℕ) → IsBefore q (behind (place_of z)) → IsBefore (place_of z) q → ⊥
   not_over q under lt = elim (up_to_place q (place_of z) under) [
-    | inl e ↦ never_self (place_of z) (subst (λ p. IsBefore (place_of z) p) e lt)
+    | inl e ↦ never_self (place_of z) (rw e at lt)
     | inr less ↦ never_self (place_of z) (chain (place_of z) q (place_of z) lt less)
   ]
 
@@ -58,24 +58,24 @@ module _ {s : Scenario} {hs : List Happening} {z g : Happening} {rest : List Hap
       → IsDueAs s (hs ++ g ∷ front) y → IsWorkedOff s (hs ++ g ∷ front) (behind (place_of z)) y
       → IsDueAs s (hs ++ z ∷ front) y × IsWorkedOff s (hs ++ z ∷ front) (behind (place_of z)) y
   back_to front back y e at late due off =
-      let place : place_of z ≡ place_of g = same_place z g x.one in
-      let ranks : rank z.note.body ≡ rank g.note.body = ap (λ (h : Happening). rank h.note.body) x.one in
+      let place = same_place z g x.one in
+      let ranks : rank z.note.body ≡ rank g.note.body = ap (λ h. rank h.note.body) x.one in
       let time : time_of z ≡ time_of g = ap time_of x.one in
       let b : IsBehindIt s (hs ++ g ∷ front) g y off.0 = record {
         at = at ∙ time;
         not_there = late;
         own = off.1;
-        under = subst (λ p. IsBefore p off.0 → ⊥) place (not_over off.0 off.3);
+        under = rw place at (not_over off.0 off.3);
       } in
       let from : AreFrom (time_of g) (rank g.note.body) (g ∷ front) = λ h i.
       let was = from_it front back e in
       elim i [
-        | inl same ↦ (ap time_of same, subst (λ (k : Happening). rank g.note.body ≤ rank k.note.body) (sym same) (omega arith))
+        | inl same ↦ (ap time_of same, rw same (omega arith))
         | inr more ↦
             let it = was h (inr more) in
-            (it.0 ∙ time, subst (λ n. n ≤ rank h.note.body) ranks it.1)
+            (it.0 ∙ time, rw ranks at it.1)
       ] in
-      let high : 2 ≤ rank g.note.body = subst (λ n. 2 ≤ n) ranks from_two in
+      let high : 2 ≤ rank g.note.body = rw ranks at from_two in
       let is = due_given s hs front g z (sym x.one) x.giving.forward x.founded high from b due in
       let own = own_given s hs front g z (sym x.one) x.giving.forward x.founded high from b due in
       (is, (off.0, own, own_source s (hs ++ z ∷ front) y.note.time (members_in y) y.note.body off.0 late is.cause own, off.3))
@@ -85,15 +85,15 @@ module _ {s : Scenario} {hs : List Happening} {z g : Happening} {rest : List Hap
       → IsBefore q (behind (place_of z)) → IsBefore (place_of z) (place_of y) → (time_of y ≡ time_of z) × (is_at_source y.note.body ≡ false)
   of_it js y q own under over =
       let at = own_time s js (time_of y) (members_in y) y.note.body q own in
-      let low : time_of y ≤ time_of z = elim (subst (λ p. IsBefore p (behind (place_of z))) at.2 under)
-      [ inl lt ↦ omega (arith, lt) | inr same ↦ let e = same.0 in omega (arith, e) ] in
-      let high : time_of z ≤ time_of y = elim over [ inl lt ↦ omega (arith, lt) | inr same ↦ let e = same.0 in omega (arith, e) ] in (
-        omega (arith, low, high),
+      let low : time_of y ≤ time_of z = elim (rw at.2 at under)
+      [ inl lt ↦ omega arith | inr same ↦ omega arith ] in
+      let high : time_of z ≤ time_of y = elim over [ inl lt ↦ omega arith | inr same ↦ omega arith ] in (
+        omega arith,
         elim (cases_Bool (is_at_source y.note.body)) [
           | inr no_it ↦ no_it
           | inl is ↦
               let here = own_here s js (time_of y) (members_in y) y.note.body q is own in
-              absurd (not_over q under (subst (λ p. IsBefore (place_of z) p) (sym here) over))
+              absurd (not_over q under (rw here over))
         ],
       )
 
@@ -103,8 +103,8 @@ module _ {s : Scenario} {hs : List Happening} {z g : Happening} {rest : List Hap
       let first = first_before z rest are in
       let each : (front back : List Happening) (y : Happening) → rest ≡ front ++ y ∷ back
       → IsDueAs s (hs ++ g ∷ front) y × IsWorkedOff s (hs ++ g ∷ front) (behind (place_of z)) y = λ front back y e.
-      let whole : z ∷ rest ≡ (z ∷ front) ++ y ∷ back = ap (λ (l : List Happening). z ∷ l) e in
-      let here : IsIn y rest = subst (λ l. IsIn y l) (sym e) (in_right y front (y ∷ back) (inl refl)) in
+      let whole : z ∷ rest ≡ (z ∷ front) ++ y ∷ back = rw e in
+      let here : IsIn y rest = rw e (in_right y front (y ∷ back) (inl refl)) in
       let by = are.by (z ∷ front) back y whole in
       over_to front (y ∷ back) y e (are.of_now y (inr here) ∙ sym (are.of_now z (inl refl))) (late y here) (are.founded (z ∷ front) back y whole).1
       (by.0, by.1, by.2, are.not_past z (inl refl) by.0 by.3) in
@@ -112,22 +112,22 @@ module _ {s : Scenario} {hs : List Happening} {z g : Happening} {rest : List Hap
         of_now = λ y i. are.of_now y (inr i);
         after = λ y i b. nothing_between (place_of z) (place_of y) (first y i) b;
         founded = λ front back y e.
-            let was = are.founded (z ∷ front) back y (ap (λ (l : List Happening). z ∷ l) e) in
-            (λ h i. was.0 h (inr i), subst (λ l. IsDueAs s l y) (sym (append_assoc hs (g ∷ []) front)) (each front back y e).0);
+            let was = are.founded (z ∷ front) back y (rw e) in
+            (λ h i. was.0 h (inr i), rw (append_assoc hs (g ∷ []) front) (each front back y e).0);
         by = λ front back y e.
-            subst (λ l. IsWorkedOff s l (behind (place_of z)) y) (sym (append_assoc hs (g ∷ []) front)) (each front back y e).1;
+            rw (append_assoc hs (g ∷ []) front) (each front back y e).1;
         full = λ front back y e before none not due worked.
             let over = beyond (place_of z) (place_of y) not in
             let all : AllBefore place_of (z ∷ front) (place_of y) = λ h i. elim i
-            [ inl same ↦ subst (λ k. IsBefore (place_of k) (place_of y)) (sym same) over | inr more ↦ before h more ] in
+            [ inl same ↦ rw same over | inr more ↦ before h more ] in
             let parts = append_assoc hs (g ∷ []) front in
             let yet : IsBefore (place_of y) from → ⊥ = λ b. are.after z (inl refl)
             (chain (place_of z) (place_of y) from over b) in
             let off : IsWorkedOff s (hs ++ g ∷ front) (behind (place_of z)) y =
-            subst (λ l. IsWorkedOff s l (behind (place_of z)) y) parts worked in
+            rw parts at worked in
             let it = of_it (hs ++ g ∷ front) y off.0 off.1 off.3 over in
-            let was = back_to front back y e it.0 it.1 (subst (λ l. IsDueAs s l y) parts due) off in
-            let found = are.full (z ∷ front) back y (ap (λ (l : List Happening). z ∷ l) e) all none yet was.0
+            let was = back_to front back y e it.0 it.1 (rw parts at due) off in
+            let found = are.full (z ∷ front) back y (rw e) all none yet was.0
             (was.1.0, was.1.1, was.1.2, worked_by_then x.giving (z ∷ front) (all_over x.giving front back e) was.1.0 was.1.2 was.1.3) in
             elim found.1 [
               | inl same ↦ absurd (never_self (place_of y) (subst (λ p. IsBefore p (place_of y)) (sym (ap place_of same) ∙ found.2) over))

@@ -1,12 +1,12 @@
 -- The first of what is to come is given: what is worked off then.
 use Rattle.{run_law.proofs.runs.Places.nothing_between, world_law.proofs.Words.{rank, refl, subst, suc, sym, time_of, ℕ}}
-use Rattle.run_law.specs.{control.Permanence.IsPermanent, scenario.{Hypothesis.breaks_at, Scenarios.events_up_to}}
+use Rattle.run_law.specs.{control.Permanence.IsPermanent, scenario.{Scenarios.events_up_to}}
 use Rattle.std.proofs.lemmas.Bool.{le-leb}
 use Rattle.world_law.proofs.runs.{Firsts.source_back, Settled.AreSettled, TaskPlaces.{no_task_at, second}, Worlds.first_before}
-use Rattle.world_law.proofs.Words.{◌++◌, ◌<◌, ◌∙◌, ◌∷◌, ◌≡◌, ◌≤◌, ◌⊎◌, DeviceId, Event, Happening, HaveBefallen, IsBefore, IsForward, IsIn}
+use Rattle.world_law.proofs.Words.{◌++◌, ◌<◌, ◌∙◌, ◌∷◌, ◌≡◌, ◌≤◌, ◌⊎◌, DeviceId, Happening, HaveBefallen, IsBefore, IsForward, IsIn}
 use Rattle.world_law.proofs.Words.{IsSource, LinkId, List, NoSourceBefore, NoteBody, Option, Pcf, Scenario, Some, Units, [], amount, ap, arith}
 use Rattle.world_law.proofs.Words.{before_behind, before_later, before_or_not, behind, chain, either_way, in_left, inl, inr, is_at_source, is_broken, key}
-use Rattle.world_law.proofs.Words.{length, list_any, members_in, nat_le, never_self, numbered, place_of, same_kept, slice_get, true}
+use Rattle.world_law.proofs.Words.{length, members_in, nat_le, never_self, numbered, place_of, same_kept, slice_get, true}
 use Rattle.world_law.specs.device.Plain.{with_number}
 use Rattle.run_law.specs.declared.note.NoteBody.TheVariants as notes
 
@@ -26,10 +26,10 @@ pub no_later_breaks : (s : Scenario) (frontier : List ℕ) (now t : ℕ) (device
     → HaveBefallen s frontier now → now ≤ t
     → is_broken s device t ≡ is_broken s device now
 no_later_breaks s frontier now t device b le =
-    ap (λ (l : List Event). list_any (λ e. breaks_at device.0 e.what) l) (no_later_events t b le)
+    rw (no_later_events t b le)
 
 pub some_same : {X : Type 0} (x y : X) (o : Option X) → o ≡ Some x → o ≡ Some y → x ≡ y
-some_same x y o a b = let e : Some x ≡ Some y = sym a ∙ b in cc
+some_same x y o a b = cc
 
 -- the arrival of this number is permanent by the records of its number alone
 pub same_permanent : {s : Scenario} (hs : List Happening) {js : List Happening} {t : ℕ} {device : DeviceId}
@@ -61,8 +61,8 @@ source_kinds (notes.Compressed device opened at cycle members verdict) = inl ref
 source_kinds (notes.Sent device cycle) = inl refl
 source_kinds (notes.Corrected device cycle by adjustment) = inl refl
 source_kinds (notes.Event line what) =
-    inr (λ e. omega (arith, e), λ e. omega (arith, e), λ e. omega (arith, e), λ e. omega (arith, e), inl (omega arith))
-source_kinds other = inr (λ e. omega (arith, e), λ e. omega (arith, e), λ e. omega (arith, e), λ e. omega (arith, e), inr (omega arith))
+    inr (λ e. omega arith, λ e. omega arith, λ e. omega arith, λ e. omega arith, inl (omega arith))
+source_kinds other = inr (λ e. omega arith, λ e. omega arith, λ e. omega arith, λ e. omega arith, inr (omega arith))
 
 abbrev time_in : List ℕ → ℕ
 time_in [] = 0
@@ -74,7 +74,7 @@ pub at_its_place : {s : Scenario} {hs : List Happening} (z : Happening) {w : Lis
 at_its_place {s} z (IsSource.acting t device task a) e = elim (source_kinds z.note.body) [
   | inl is ↦ is
   | inr other ↦ absurd (no_task_at s.network t device (rank z.note.body) (key (members_in z) z.note.body) other.4 task
-      (e ∙ ap (λ (n : ℕ). n ∷ rank z.note.body ∷ key (members_in z) z.note.body) (sym (ap time_in e))))
+      (e ∙ (rw (sym (ap time_in e)))))
 ]
 at_its_place z source e = grind (arith, source_kinds, second, key_long)
 
@@ -102,9 +102,9 @@ module _ {s : Scenario} {hs : List Happening} {z : Happening} {rest : List Happe
   -- and of what is to come from it on
   pub all_over : (front back : List Happening) → rest ≡ front ++ back → AreOver z (z ∷ front)
   all_over front back e y (inl same) =
-      (ap time_of same, λ b. never_self (place_of z) (subst (λ h. IsBefore (place_of h) (place_of z)) same b))
+      (ap time_of same, λ b. never_self (place_of z) (rw same at b))
   all_over front back e y (inr i) =
-      let there : IsIn y rest = subst (λ l. IsIn y l) (sym e) (in_left y front back i) in (
+      let there : IsIn y rest = rw e (in_left y front back i) in (
         g.are.of_now y (inr there) ∙ sym (g.are.of_now z (inl refl)),
         λ b. never_self (place_of z) (chain (place_of z) (place_of y) (place_of z) (first_before z rest g.are y there) b),
       )
@@ -114,7 +114,7 @@ module _ {s : Scenario} {hs : List Happening} {z : Happening} {rest : List Happe
       → IsBefore w (behind (place_of z)) → IsBefore w to
   worked_by_then zs over w source under =
       let le = up_to_place w (place_of z) under in
-      let at : time_of z ≡ now = g.are.of_now z (inl refl) in
+      let at = g.are.of_now z (inl refl) in
       elim (source_back hs zs (time_of z) (rank z.note.body) (key (members_in z) z.note.body) g.forward
       (λ y i. (over y i).0) (λ y i. (over y i).1) source le) [
         | inl old ↦
@@ -123,13 +123,11 @@ module _ {s : Scenario} {hs : List Happening} {z : Happening} {rest : List Happe
               | inr not ↦
                   elim le [
                     | inr lt ↦ absurd (g.first w old not lt)
-                    | inl same ↦ subst (λ p. IsBefore p to) (sym same)
-                        (g.are.worked z (inl refl) (at_its_place z old same))
+                    | inl same ↦ rw same (g.are.worked z (inl refl) (at_its_place z old same))
                   ]
             ]
-        | inr (inl early) ↦ g.past w (subst (λ (n : ℕ). IsBefore w (n ∷ [])) at early)
-        | inr (inr same) ↦ subst (λ p. IsBefore p to) (ap (λ (n : ℕ). n ∷ 2 ∷ []) (sym at) ∙ sym same)
-            (g.are.begun z (inl refl))
+        | inr (inl early) ↦ g.past w (rw at at early)
+        | inr (inr same) ↦ rw (ap (λ (n : ℕ). n ∷ 2 ∷ []) (sym at) ∙ sym same) at (g.are.begun z (inl refl))
       ]
 
 -- what is not before the place just behind another is behind that one

@@ -1,7 +1,7 @@
 -- What switches hold, once one more record is given.
 use Rattle.{std.proofs.Common.arith, world_law.proofs.Words.{filter-append, if◌then◌else◌, inl, inr, is_accepted, last_or, refl, sym, true, ℕ}}
 use Rattle.{tte_units.proofs.general_lemmas.Lists.last_more, world_law.specs.world.{Moves.AreTaken, World.{AreStored, IsStored, Stored, last_taking}}}
-use Rattle.world_law.proofs.Words.{◌++◌, ◌∙◌, ◌∷◌, ◌≡◌, Bool, DeviceId, Happening, IsIn, List, Option, Some, VlId, [], ap, cases_Bool, false, filter}
+use Rattle.world_law.proofs.Words.{◌++◌, ◌∙◌, ◌∷◌, ◌≡◌, Bool, DeviceId, Happening, IsIn, List, Option, Some, VlId, [], cases_Bool, false, filter}
 
 last_one : {X : Type 0} (b : Bool) (o : Option X) (x : X) → last_or o (if b then x ∷ [] else []) ≡ (if b then Some x else o)
 last_one true o x = refl
@@ -43,6 +43,6 @@ stored_then {hs} {h} {number} {new} is m t = record { real = real; all = all }
       | inr not ↦
           let it = m.all device vl taking (sym (last_then hs h device vl false not) ∙ last) in
           let kept : is_accepted it.0.device it.0.vl h.note.body ≡ false =
-          ap (λ d. is_accepted d it.0.vl h.note.body) it.2 ∙ ap (λ v. is_accepted device v h.note.body) it.3 ∙ not in
+          rw it.2 (rw it.3 not) in
           (it.0, t.kept it.0 it.1 kept, it.2, it.3)
     ]

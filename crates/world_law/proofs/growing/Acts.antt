@@ -8,7 +8,7 @@ use Rattle.world_law.proofs.Words.{Cleared, Cluster, Compressed, Corrected, Devi
 use Rattle.world_law.proofs.Words.{List, MayCall, Moment, Network, Node, Summary, SyncClique, Task, Verdict, ℕ, ℤ, [], acting, after_correction}
 use Rattle.world_law.proofs.Words.{after_emission, amount, ap, arith, called, cases_lt, chain, correcting, dispatching, doing, emitting, false}
 use Rattle.world_law.proofs.Words.{if◌then◌else◌, inl, inr, ints, length, never_self, no_cluster, observation_window, own_hearing, plan_of, pos}
-use Rattle.world_law.proofs.Words.{◌++◌, ◌+ℤ◌, ◌+◌, ◌<ℤ◌, ◌<◌, ◌==◌, ◌∙◌, ◌∷◌, ◌≡◌, ◌≤ℤ◌, ◌≤◌, ◌⊎◌, Act, AllByRecursion, AreClusters, AsyncClique, Bool}
+use Rattle.world_law.proofs.Words.{◌++◌, ◌+ℤ◌, ◌+◌, ◌<ℤ◌, ◌<◌, ◌==◌, ◌∙◌, ◌∷◌, ◌≡◌, ◌≤ℤ◌, ◌≤◌, ◌⊎◌, Act, AllByRecursion, AsyncClique}
 use Rattle.world_law.proofs.growing.Growing.{acts_grow, nothing_behind_correction, nothing_sent_behind_sending, whole_precision, wide}
 use Rattle.world_law.proofs.growing.{FewRows.{IsRowOf, few_rows, row_of}, Spans.{IsSpan, from_zero, opens_behind, span_of}}
 use Rattle.world_law.proofs.{Words.{reading_for, refl, sending, subst, sym, true}, acts.Acted.{acted, heard_so}, acts.Ready.{acting_last, last_is}}
@@ -26,14 +26,13 @@ sent_by : {ow : ℤ} (calc : ℤ) {c : Cluster} (at : ℤ) → IsSpan ow c → a
 sent_by {ow} calc {c} at span is = by (middle_of (relative c.points)) span.low span.high is
   where
     by : (m : ℤ) → pos 0 ≤ℤ m → (c.opened +ℤ m) ≤ℤ c.end → at ≡ (((c.opened +ℤ (pos 2 *ℤ ow)) +ℤ calc) +ℤ m) → IsSentBy ow calc c at
-    by m low high e = record { low = omega (arith, ints, low, e); high = omega (arith, ints, high, e) }
+    by m low high e = record { low = omega (arith, ints); high = omega (arith, ints) }
 
 -- of three clusters, each opening behind the one before it, the frames are not due at once
 never_three : {ow calc : ℤ} (reading : ℤ) {x z : ℤ} {a b c : Cluster} → IsSpan ow b → a.end <ℤ b.opened
     → b.end <ℤ c.opened → IsSentBy ow calc a x → IsSentBy ow calc c z → reading <ℤ (x +ℤ ow) → z ≤ℤ reading → ⊥
 never_three reading span one two first last late due =
-    let wide = span.one in
-    omega (arith, ints, wide, one, two, first.high, last.low, late, due)
+    omega (arith, ints, span.one, first.high, last.low)
 
 three : {network : Network} {node : Node} {reading : ℤ} {a b c : Compressed} → IsInRange network
     → IsDueFrame network node reading a → IsDueFrame network node reading b → IsDueFrame network node reading c
@@ -44,22 +43,19 @@ three {network} {node} {reading} {a} {b} {c} range u v w one two =
     let whole = whole_precision range in
     let some : pos 0 ≤ℤ ow = omega (arith, ints) in
     let cs = u.clusters in
-    let there_b : Contains cs v.cluster = subst (λ (l : List Cluster). Contains l v.cluster)
-    (AreClusters-unique ow node.points v.clusters cs v.are u.are) v.there in
-    let there_c : Contains cs w.cluster = subst (λ (l : List Cluster). Contains l w.cluster)
-    (AreClusters-unique ow node.points w.clusters cs w.are u.are) w.there in
-    let of_a : a.opened.0 ≡ u.cluster.opened = ap (λ (x : Compressed). x.opened.0) u.is in
-    let of_b : b.opened.0 ≡ v.cluster.opened = ap (λ (x : Compressed). x.opened.0) v.is in
-    let of_c : c.opened.0 ≡ w.cluster.opened = ap (λ (x : Compressed). x.opened.0) w.is in
-    let ab = opens_behind ow node.points cs some u.are u.cluster v.cluster u.there there_b (omega (arith, ints, one, of_a, of_b)) in
-    let bc = opens_behind ow node.points cs some u.are v.cluster w.cluster there_b there_c (omega (arith, ints, two, of_b, of_c)) in
-    let late : reading <ℤ (a.at.0 +ℤ ow) = subst (λ z. reading <ℤ (a.at.0 +ℤ z)) whole u.in_time in
+    let there_b : Contains cs v.cluster = rw (AreClusters-unique ow node.points v.clusters cs v.are u.are) at v.there in
+    let there_c : Contains cs w.cluster = rw (AreClusters-unique ow node.points w.clusters cs w.are u.are) at w.there in
+    let of_a : a.opened.0 ≡ u.cluster.opened = rw u.is in
+    let of_b : b.opened.0 ≡ v.cluster.opened = rw v.is in
+    let of_c : c.opened.0 ≡ w.cluster.opened = rw w.is in
+    let ab = opens_behind ow node.points cs some u.are u.cluster v.cluster u.there there_b (omega (arith, ints)) in
+    let bc = opens_behind ow node.points cs some u.are v.cluster w.cluster there_b there_c (omega (arith, ints)) in
     never_three reading (span_of ow node.points cs some u.are v.cluster there_b) ab bc
     (sent_by calc a.at.0 (span_of ow node.points cs some u.are u.cluster u.there)
-    (ap (λ (x : Compressed). x.at.0) u.is))
+    (rw u.is))
     (sent_by calc c.at.0 (span_of ow node.points cs some u.are w.cluster there_c)
-    (ap (λ (x : Compressed). x.at.0) w.is))
-    late w.due
+    (rw w.is))
+    (rw whole at u.in_time) w.due
 
 pub few_are_emitted : FewAreEmitted
 few_are_emitted network node reading (a ∷ b ∷ c ∷ more) range each rising =
@@ -74,23 +70,23 @@ pub may_act_again : {network : Network} {device : DeviceId} {node : Node} {momen
     → IsInRange network → KeepsRules network → MayCall network device node moment acting
     → IsActOf network device node moment act new → MayCall network device new moment acting
 may_act_again {network} {device} {node} {moment} act new range rules may is =
-    let last : new.last ≡ moment = last_is network device node moment act new is in
-    let time : new.last.time.0 ≡ moment.time.0 = ap (λ (m : Moment). m.time.0) last in
-    let read : new.last.reading.0 ≡ moment.reading.0 = ap (λ (m : Moment). m.reading.0) last in
+    let last = last_is network device node moment act new is in
+    let time : new.last.time.0 ≡ moment.time.0 = rw last in
+    let read : new.last.reading.0 ≡ moment.reading.0 = rw last in
     let some = range.precision.least in
     record {
       later = record {
-        time = omega (arith, ints, time);
-        reading = omega (arith, ints, read);
+        time = omega (arith, ints);
+        reading = omega (arith, ints);
         early_enough = may.later.early_enough;
         low_enough = may.later.low_enough;
       };
       in_order = λ same. acting_last new.phase;
-      all_done = λ before task p. absurd (omega (arith, ints, before, time));
+      all_done = λ before task p. absurd (omega (arith, ints));
       in_time = λ task p.
           elim (acted network device node moment act new may (wide range rules) is task p) [
-            | inl old ↦ subst (λ z. moment.reading.0 <ℤ (z +ℤ network.precision.0)) (sym old.1) (may.in_time task old.0)
-            | inr far ↦ omega (arith, ints, far, some)
+            | inl old ↦ rw old.1 (may.in_time task old.0)
+            | inr far ↦ omega (arith, ints)
           ];
     }
 
@@ -113,7 +109,7 @@ module _ (network : Network) (device : DeviceId) (moment : Moment) where
   pub may_act_then : {node : Node} (done : List Act) (new : Node) → IsInRange network → KeepsRules network
       → MayCall network device node moment acting → AreActs network device moment node done new
       → MayCall network device new moment acting
-  may_act_then [] new range rules may are = subst (λ n. MayCall network device n moment acting) (sym are) may
+  may_act_then [] new range rules may are = rw are may
   may_act_then (act ∷ done) new range rules may (mid, is, rest) =
       may_act_then done new range rules (may_act_again act mid range rules may is) rest
 
@@ -122,7 +118,7 @@ module _ (network : Network) (device : DeviceId) (moment : Moment) where
       → AreActs network device moment node done mid → IsActOf network device mid moment act new
       → AreActs network device moment node (done ++ act ∷ []) new
   one_more_act node mid [] act new are is =
-      (new, subst (λ n. IsActOf network device n moment act new) are is, refl)
+      (new, rw are at is, refl)
   one_more_act node mid (a ∷ done) act new are is = (are.0, are.1, one_more_act are.0 mid done act new are.2 is)
 
 -- ---- the points after an act: those before, or none
@@ -137,7 +133,8 @@ points_emitted network device node moment sent = grind (arith, heard_so, plan_of
 points_corrected : (node : Node) (moment : Moment) (heard : Summary) (cycle : ℕ) (verdict : Verdict)
     → HasPointsOf node (called moment acting (after_correction node moment heard cycle verdict))
 points_corrected node moment heard cycle (Corrected by) =
-    elim (is_synchronised node.standing.state) as (λ (b : Bool). ((if b then node.points else []) ≡ node.points) ⊎ ((if b then node.points else []) ≡ []))
+    elim (is_synchronised node.standing.state) as (λ b. ((if b then node.points else []) ≡ node.points) ⊎
+    ((if b then node.points else []) ≡ []))
     [ true ↦ inl refl | false ↦ inr refl ]
 points_corrected node moment heard cycle SyncClique = inr refl
 points_corrected node moment heard cycle AsyncClique = inr refl
@@ -145,8 +142,8 @@ points_corrected node moment heard cycle Cleared = inl refl
 
 points_after : (network : Network) (device : DeviceId) (node : Node) (moment : Moment) (act : Act) (new : Node) → IsActOf network device node moment act new
     → HasPointsOf node new
-points_after network device node moment (acts.Send frame) new (cycle, first, of_frame, is) = inl (ap (λ (n : Node). n.points) is)
-points_after network device node moment (acts.Dispatch row cycle) new (first, is) = inl (ap (λ (n : Node). n.points) is)
+points_after network device node moment (acts.Send frame) new (cycle, first, of_frame, is) = inl (rw is)
+points_after network device node moment (acts.Dispatch row cycle) new (first, is) = inl (rw is)
 points_after network device node moment (acts.Emit sent heard) new (first, so, is) =
     subst (HasPointsOf node) (sym (is ∙ ap (λ r. called moment acting (after_emission network device node moment sent r)) so))
     (points_emitted network device node moment sent)
@@ -202,7 +199,7 @@ of_kind_three low network (doing (sending n)) b = grind arith
 of_kind_three low network task b = grind arith
 
 row_behind : (low high : List ℕ) → IsBefore (3 ∷ low) (3 ∷ high) → IsBefore low high
-row_behind low high (inl lt) = absurd (omega (arith, lt))
+row_behind low high (inl lt) = absurd (omega arith)
 row_behind low high (inr b) = b.1
 
 -- what a chain of acts is where all that is due are dispatches
@@ -240,14 +237,14 @@ module _ (network : Network) where
       )
   behind_rows device moment node (acts.Send frame ∷ more) new low range rules zero_on (mid, may, is, rest) behind =
       let bad = of_kind_three low network (doing (sending is.0))
-      (behind (doing (sending is.0)) is.1.pending is.1.due) in absurd (omega (arith, bad))
+      (behind (doing (sending is.0)) is.1.pending is.1.due) in absurd (omega arith)
   behind_rows device moment node (acts.Emit sent heard ∷ more) new low range rules zero_on (mid, may, is, rest) behind =
       let bad = of_kind_three low network (emitting sent) (behind (emitting sent) is.0.pending is.0.due) in
-      absurd (omega (arith, bad))
+      absurd (omega arith)
   behind_rows device moment node (acts.Correct cycle verdict ∷ more) new low range rules zero_on (mid, may, is, rest)
       behind =
       let bad = of_kind_three low network (doing (correcting cycle))
-      (behind (doing (correcting cycle)) is.0.pending is.0.due) in absurd (omega (arith, bad))
+      (behind (doing (correcting cycle)) is.0.pending is.0.due) in absurd (omega arith)
 
 dispatches : (network : Network) (device : DeviceId) (moment : Moment) (node : Node) (done : List Act) (new : Node) → IsInRange network → KeepsRules network
     → IsFromZero network device node → AreCalled network device moment node done new → AreFrom network device moment 3 node → AreDispatches network device done
@@ -262,7 +259,7 @@ dispatches network device moment node (acts.Dispatch row cycle ∷ more) new ran
     (λ task p due. of_kind_three (dispatch_order network row) network task (grow task p due)) in
     let many = others.many in
     record {
-      many = omega (arith, many);
+      many = omega arith;
       each = (row_of device frame.is frame.leaves, others.each);
       distinct = (
         apart_all network row.0 (rows_in more) (behind_rows network device moment mid more new (dispatch_order network row) range rules zero_mid rest grow),
@@ -270,11 +267,11 @@ dispatches network device moment node (acts.Dispatch row cycle ∷ more) new ran
       );
     }
 dispatches network device moment node (acts.Send frame ∷ more) new range rules zero_on (mid, may, is, rest) from =
-    let bad = from (doing (sending is.0)) is.1.pending is.1.due in absurd (omega (arith, bad))
+    let bad = from (doing (sending is.0)) is.1.pending is.1.due in absurd (omega arith)
 dispatches network device moment node (acts.Emit sent heard ∷ more) new range rules zero_on (mid, may, is, rest) from =
-    let bad = from (emitting sent) is.0.pending is.0.due in absurd (omega (arith, bad))
+    let bad = from (emitting sent) is.0.pending is.0.due in absurd (omega arith)
 dispatches network device moment node (acts.Correct cycle verdict ∷ more) new range rules zero_on (mid, may, is, rest) from =
-    let bad = from (doing (correcting cycle)) is.0.pending is.0.due in absurd (omega (arith, bad))
+    let bad = from (doing (correcting cycle)) is.0.pending is.0.due in absurd (omega arith)
 
 module _ (network : Network) (device : DeviceId) (moment : Moment) where
   -- at most 256 acts, where no emission or sending is due
@@ -287,11 +284,11 @@ module _ (network : Network) (device : DeviceId) (moment : Moment) where
       (from_first moment are.2.0) in
       let few = few_rows network device (rows_in (acts.Dispatch row cycle ∷ more)) rules all.distinct all.each in
       let many = all.many in
-      omega (arith, few, many)
+      omega arith
   few_behind node (acts.Send frame ∷ more) new range rules zero_on (mid, may, is, rest) from =
-      let bad = from (doing (sending is.0)) is.1.pending is.1.due in absurd (omega (arith, bad))
+      let bad = from (doing (sending is.0)) is.1.pending is.1.due in absurd (omega arith)
   few_behind node (acts.Emit sent heard ∷ more) new range rules zero_on (mid, may, is, rest) from =
-      let bad = from (emitting sent) is.0.pending is.0.due in absurd (omega (arith, bad))
+      let bad = from (emitting sent) is.0.pending is.0.due in absurd (omega arith)
   few_behind node (acts.Correct cycle verdict ∷ []) new range rules zero_on are from = omega arith
   few_behind node (acts.Correct cycle verdict ∷ act ∷ more) new range rules zero_on
       (mid, may, is, (last, may_go, next, rest)) from =
@@ -315,11 +312,11 @@ module _ (network : Network) (device : DeviceId) (moment : Moment) where
       let few = few_behind mid more new range rules
       (still_from_zero network device node moment (acts.Send frame) mid is zero_on) rest
       behind in
-      omega (arith, few)
+      omega arith
     where
       sent_behind : (n : ℕ) → IsBefore (1 ∷ frame.cycle ∷ []) (0 ∷ n ∷ []) → ⊥
-      sent_behind n (inl lt) = omega (arith, lt)
-      sent_behind n (inr same) = let bad = same.0 in omega (arith, bad)
+      sent_behind n (inl lt) = omega arith
+      sent_behind n (inr same) = let bad = same.0 in omega arith
 
       behind : AreFrom network device moment 2 mid
       behind (emitting sent) p due =
@@ -332,14 +329,14 @@ module _ (network : Network) (device : DeviceId) (moment : Moment) where
   few_then node (acts.Dispatch row cycle ∷ more) new range rules zero_on are from =
       let first = from_first moment are.2.0 in
       let few = few_behind node (acts.Dispatch row cycle ∷ more) new range rules zero_on are
-      (λ task p due. let ge = first task p due in omega (arith, ge)) in
-      omega (arith, few)
+      (λ task p due. omega arith) in
+      omega arith
   few_then node (acts.Correct cycle verdict ∷ more) new range rules zero_on are from =
       let few = few_behind node (acts.Correct cycle verdict ∷ more) new range rules zero_on are
       (from_first moment are.2.0) in
-      omega (arith, few)
+      omega arith
   few_then node (acts.Emit sent heard ∷ more) new range rules zero_on (mid, may, is, rest) from =
-      let bad = from (emitting sent) is.0.pending is.0.due in absurd (omega (arith, bad))
+      let bad = from (emitting sent) is.0.pending is.0.due in absurd (omega arith)
 
 -- ---- the emissions
 
@@ -366,7 +363,7 @@ due_before : {network : Network} (node : Node) {new : Node} {reading : ℤ} {c :
 due_before node (inl same) d = grind (arith, observation_window)
 due_before {network} node (inr none) d =
     absurd (no_cluster (observation_window network) d.clusters d.cluster
-    (subst (λ ps. AreClusters (observation_window network) ps d.clusters) none d.are) d.there)
+    (rw none at d.are) d.there)
 
 each_due : (network : Network) (device : DeviceId) (moment : Moment) (node : Node) (done : List Act) (new : Node)
     → AreCalled network device moment node done new → (c : Compressed) → IsIn c (emitted_in done) → IsDueFrame network node moment.reading.0 c
@@ -379,8 +376,8 @@ each_due network device moment node done new are c i = absurd i
 
 opened_behind : (a b : Compressed) → a.opened.0 ≡ pos (amount a.opened) → b.opened.0 ≡ pos (amount b.opened)
     → IsBefore (0 ∷ amount a.opened ∷ []) (0 ∷ amount b.opened ∷ []) → a.opened.0 <ℤ b.opened.0
-opened_behind a b x y (inl lt) = absurd (omega (arith, lt))
-opened_behind a b x y (inr (e, inl lt)) = omega (arith, ints, x, y, lt)
+opened_behind a b x y (inl lt) = absurd (omega arith)
+opened_behind a b x y (inr (e, inl lt)) = omega (arith, ints)
 opened_behind a b x y (inr (e, inr more)) = absurd more.1
 
 module _ (network : Network) (device : DeviceId) (moment : Moment) where
@@ -403,16 +400,16 @@ module _ (network : Network) (device : DeviceId) (moment : Moment) where
   few_others node (acts.Emit sent heard ∷ more) new range rules zero_on (mid, may, is, rest) =
       let few = few_others mid more new range rules
       (still_from_zero network device node moment (acts.Emit sent heard) mid is zero_on) rest in
-      omega (arith, few)
+      omega arith
   few_others node (acts.Send frame ∷ more) new range rules zero_on are =
       few_then network device moment node (acts.Send frame ∷ more) new range rules zero_on are
       (from_first moment are.2.1)
   few_others node (acts.Correct cycle verdict ∷ more) new range rules zero_on are =
       few_then network device moment node (acts.Correct cycle verdict ∷ more) new range rules zero_on are
-      (λ task p due. let ge = from_first moment are.2.0 task p due in omega (arith, ge))
+      (λ task p due. let ge = from_first moment are.2.0 task p due in omega arith)
   few_others node (acts.Dispatch row cycle ∷ more) new range rules zero_on are =
       few_then network device moment node (acts.Dispatch row cycle ∷ more) new range rules zero_on are
-      (λ task p due. let ge = from_first moment are.2.0 task p due in omega (arith, ge))
+      (λ task p due. let ge = from_first moment are.2.0 task p due in omega arith)
 
 -- what a device does at one moment is not much
 pub acts_are_few : ActsAreFew
@@ -421,4 +418,4 @@ acts_are_few network device moment node done new range rules zero_on may acts_ar
     let few = few_are_emitted network node moment.reading.0 (emitted_in done) range (each_due network device moment node done new are)
     (rising network device moment node done new range rules zero_on are) in
     let others = few_others network device moment node done new range rules zero_on are in
-    omega (arith, few, others)
+    omega arith

@@ -1,5 +1,5 @@
 -- Different rows that leave one device are at most 256.
-use Rattle.{schedule_tables.specs.Schedule.leaves, std.specs.{Cmp.IsEquivalence, List.{IsDistinct, count_by}}}
+use Rattle.{schedule_tables.specs.Schedule.leaves, std.specs.{Cmp.IsEquivalence, List.{IsDistinct}}}
 use Rattle.{schedule_tables.specs.declared.rule.Rule.TheVariants.RowsOfDevice, std.proofs.lemmas.Bool.{cases_eq, ne_eqb, or_cases, or_left, or_right}}
 use Rattle.{std.proofs.lemmas.{List.Sums.length-filter, Map.Made.length-le_from_is_member}, world_law.proofs.Words.{source_of, subst, suc, sym, true, zero, ℕ}}
 use Rattle.world_law.proofs.Words.{◌+◌, ◌==◌, ◌∷◌, ◌≡◌, ◌≤◌, AllByRecursion, Bool, DeviceId, Entry, IsEntry, KeepsRules, List, Network, Row, Some, []}
@@ -48,10 +48,10 @@ pub few_rows : (network : Network) (device : DeviceId) (rows : List ℕ) → Kee
     → AllByRecursion (IsRowOf network device) rows → length rows ≤ 256
 few_rows network device rows rules distinct each =
     let p = leaves network device in
-    let few : count_by p network.row ≤ 256 = rules RowsOfDevice device.0 in
+    let few = rules RowsOfDevice device.0 in
     let within = length-le_from_is_member numbers_equal rows (places p 0 network.row) distinct
     (λ q at. let it = member_has (IsRowOf network device) rows q each at in
     subst (λ n. list_any (eqn n) (places p 0 network.row) ≡ true) (omega arith) (passing p 0 q network.row it.row it.there it.leaves)) in
     let many = places_many p 0 network.row in
     let counted = length-filter p network.row in
-    omega (arith, few, within, many, counted)
+    omega arith

@@ -2,15 +2,15 @@
 use Rattle.compression.proofs.Elements.{in_head}
 use Rattle.run_law.specs.machines.{Answers.with_done, Tasks.{IsFirstTask, order_of}}
 use Rattle.schedule_tables.specs.{Dispatches.dispatch_order, declared.rule.Rule.TheVariants.ScheduleStart}
-use Rattle.std.proofs.{Common.Contains, lemmas.List.Elements.Contains-append_right}
+use Rattle.std.proofs.{lemmas.List.Elements.Contains-append_right}
 use Rattle.sync_state.proofs.StateFacts.{integrating_point}
 use Rattle.tte_units.proofs.general_lemmas.Options.{same_next}
 use Rattle.world_law.proofs.Words.{Corrected, DeviceId, Entry, IsActOf, IsBefore, IsEntry, IsFromZero, IsInRange, IsPending, KeepsRules, List, MayCall}
-use Rattle.world_law.proofs.Words.{Moment, Network, Node, Option, Pcf, Ripe, Row, RowId, Some, Summary, SyncClique, Task, Verdict, ℕ, ℤ, [], acting}
+use Rattle.world_law.proofs.Words.{Moment, Network, Node, Pcf, Ripe, RowId, Some, Summary, SyncClique, Task, Verdict, ℕ, ℤ, [], acting}
 use Rattle.world_law.proofs.Words.{after_correction, after_emission, amount, ap, arith, called, cases_lt, cases_order, correcting, correction_value}
 use Rattle.world_law.proofs.Words.{dispatching, doing, either_way, emitting, inl, inr, ints, never_self, next_point, no_cluster, observation_window}
-use Rattle.world_law.proofs.Words.{option_map_or, own_hearing, plan_of, pos, reading_for, refl, sending, subst, sym, task_place, value_of}
-use Rattle.world_law.proofs.Words.{◌++◌, ◌+ℤ◌, ◌+◌, ◌-ℤ◌, ◌<ℤ◌, ◌<◌, ◌∙◌, ◌∷◌, ◌≡◌, ◌≤ℤ◌, ◌≤◌, ◌⊎◌, Act, AsyncClique, Cleared, ClockTask, Compressed}
+use Rattle.world_law.proofs.Words.{own_hearing, plan_of, pos, reading_for, refl, sending, sym, task_place, value_of}
+use Rattle.world_law.proofs.Words.{◌+ℤ◌, ◌+◌, ◌-ℤ◌, ◌<ℤ◌, ◌<◌, ◌∙◌, ◌∷◌, ◌≡◌, ◌≤ℤ◌, ◌≤◌, ◌⊎◌, Act, AsyncClique, Cleared, ClockTask, Compressed}
 use Rattle.world_law.proofs.{acts.Acted.{acted, heard_so}, growing.Spans.{from_zero, one_waiting}, rows.AtHand.value_is, rows.Reached.{ShowsAt, cycles_apart}}
 use Rattle.world_law.{proofs.rows.Dispatching.{apart_so, precise, row_apart}, specs.device.Growing.{ActsGrow, order_of_act}, specs.steps.Acting.task_of}
 use Rattle.run_law.specs.declared.steps.Act.TheVariants as acts
@@ -21,18 +21,22 @@ use Rattle.tte_units.proofs.general_lemmas.Integers.{whole as natural}
 -- it is a number, and less than the cycle
 pub whole_precision : {network : Network} → IsInRange network → network.precision.0 ≡ pos (amount network.precision)
 whole_precision {network} range =
-    let least = range.precision.least in natural network.precision.0 (omega (arith, ints, least))
+    let least = range.precision.least in natural network.precision.0 (omega (arith, ints))
 
 pub wide : {network : Network} → IsInRange network → KeepsRules network
     → network.precision.0 ≤ℤ pos (amount network.cycle)
 wide range rules =
     let whole = whole_precision range in
     let ends = (rules ScheduleStart 0).ends in
-    omega (arith, ints, whole, ends)
+    omega (arith, ints, whole)
 
 -- what is due and has not waited for as long as the precision
 due_shows : (v a reading p : ℤ) (precision : ℕ) → p ≡ pos precision → (v -ℤ a) ≤ℤ reading → reading <ℤ ((v -ℤ a) +ℤ p) → ShowsAt (reading +ℤ a) v precision
-due_shows v a reading p precision whole reached late = record { least = omega (arith, ints, reached); most = omega (arith, ints, late, whole) }
+due_shows v a reading p precision whole reached late = record {
+  least = omega (arith, ints);
+  most =
+      omega (arith, ints, whole);
+}
 
 -- ---- places
 
@@ -42,9 +46,9 @@ not_less k m n none = elim (cases_lt m n) [ inl lt ↦ absurd (none (inr (refl, 
 row_order : {network : Network} (row : RowId) {entry : Entry} → IsEntry network row.0 entry
     → dispatch_order network row ≡ amount entry.row.offset ∷ entry.row.link.0 ∷ row.0 ∷ []
 row_order row is =
-    ap (λ (o : Option Row). option_map_or (λ (r : Row). amount r.offset ∷ r.link.0 ∷ row.0 ∷ []) o []) is.row
+    rw is.row
 
-third_of : (a b c d e f : ℕ) → ◌≡◌ {A = List ℕ} (a ∷ b ∷ c ∷ []) (d ∷ e ∷ f ∷ []) → c ≡ f
+third_of : (a b c d e f : ℕ) → ◌≡◌ (a ∷ b ∷ c ∷ []) (d ∷ e ∷ f ∷ []) → c ≡ f
 third_of a b c d e f same = cc
 
 -- of two rows one is dispatched before the other
@@ -60,22 +64,20 @@ module _ (network : Network) (device : DeviceId) (node new : Node) (moment : Mom
   gone_deed : (deed : ClockTask) → new ≡ called moment acting (with_done node deed)
       → IsPending network device new (doing deed) → ⊥
   gone_deed deed is =
-      subst (λ n. IsPending network device n (doing deed) → ⊥) (sym is)
-      (λ p. p.1.not_yet (Contains-append_right node.done (deed ∷ []) deed (in_head deed [])))
+      rw is (λ p. p.1.not_yet (Contains-append_right node.done (deed ∷ []) deed (in_head deed [])))
 
   gone_emission : (sent : Compressed) (heard : Ripe) → heard ≡ own_hearing network device node sent
       → new ≡ called moment acting (after_emission network device node moment sent heard)
       → IsPending network device new (emitting sent) → ⊥
   gone_emission sent heard so is =
-      let whole : new ≡ called moment acting (after_emission network device node moment sent
-      (own_hearing network device node sent)) = is
+      let whole = is
       ∙ ap (λ r. called moment acting (after_emission network device node moment sent r)) so in
-      let there : Contains (node.emitted ++ sent ∷ []) sent =
+      let there =
       Contains-append_right node.emitted (sent ∷ []) sent (in_head sent []) in
-      subst (λ n. IsPending network device n (emitting sent) → ⊥) (sym whole)
-      (heard_so (plan_of network device) (observation_window network) node.standing.state node.standing.adjustment.0
+      rw whole (heard_so (plan_of network device) (observation_window network) node.standing.state
+      node.standing.adjustment.0
       sent.at.0 sent.cycle sent.members
-      (λ (r : Ripe). IsPending network device (called moment acting
+      (λ r. IsPending network device (called moment acting
       (after_emission network device node moment sent r)) (emitting sent) → ⊥)
       (λ p. p.1.not_yet there)
       (λ p. p.1.not_yet there)
@@ -97,10 +99,10 @@ module _ (network : Network) (device : DeviceId) (node new : Node) (reading : �
       elim (cases_lt (amount sent.opened) (amount other.opened)) [
         | inl lt ↦ inr (refl, inl lt)
         | inr most ↦
-            let same : amount other.opened ≡ amount sent.opened = omega (arith, least, most) in
+            let same : amount other.opened ≡ amount sent.opened = omega arith in
             let one = one_waiting q.1 first.pending.1
             (from_zero zero_on q.1 ∙ ap (λ n. pos n) same ∙ sym (from_zero zero_on first.pending.1)) in
-            absurd (gone (subst (λ (c : Compressed). IsPending network device new (emitting c)) one p))
+            absurd (gone (rw one at p))
       ]
 
   behind_sending : (cycle : ℕ) (task : Task) → IsFirstTask network device node reading (doing (sending cycle))
@@ -116,8 +118,8 @@ module _ (network : Network) (device : DeviceId) (node new : Node) (reading : �
       elim (cases_lt cycle n) [
         | inl lt ↦ inr (refl, inl lt)
         | inr most ↦
-            let same : n ≡ cycle = omega (arith, least, most) in
-            absurd (gone (subst (λ (k : ℕ). IsPending network device new (doing (sending k))) same p))
+            let same : n ≡ cycle = omega arith in
+            absurd (gone (rw same at p))
       ]
 
 -- one row of two cycles is not due at once
@@ -128,7 +130,7 @@ same_row : {network : Network} (node : Node) (reading : ℤ) (row : RowId) (m n 
 same_row {network} node reading row m n range rules lt late due =
     let far = cycles_apart m n (amount network.cycle) lt in
     let size = wide range rules in
-    omega (arith, ints, far, size, late, due)
+    omega (arith, ints)
 
 behind_dispatch : {network : Network} {device : DeviceId} {node : Node} (new : Node) {moment : Moment} (row : RowId)
     (cycle : ℕ) (task : Task) → IsInRange network → KeepsRules network → MayCall network device node moment acting
@@ -150,7 +152,7 @@ behind_dispatch {network} {device} {node} new {moment} row cycle (doing (dispatc
   where
     of_row : IsPending network device new (doing (dispatching row n)) → IsPending network device node (doing (dispatching row n))
         → reading_for network node (doing (dispatching row n)) ≤ℤ moment.reading.0 → (n ≡ cycle) ⊎ ((n < cycle) ⊎ (cycle < n)) → ⊥
-    of_row p_row q_row due_row (inl same) = gone (subst (λ (k : ℕ). IsPending network device new (doing (dispatching row k))) same p_row)
+    of_row p_row q_row due_row (inl same) = gone (rw same at p_row)
     of_row p_row q_row due_row (inr (inl lt)) =
         same_row node moment.reading.0 row n cycle range rules lt (may.in_time (doing (dispatching row n)) q_row)
         first.due
@@ -160,15 +162,15 @@ behind_dispatch {network} {device} {node} new {moment} row cycle (doing (dispatc
 
     apart : row.0 ≡ other.0 → ⊥
     apart same =
-        let one : other ≡ row = ap (λ (k : ℕ). let r : RowId = record { 0 = k } in r) (sym same) in
-        of_row (subst (λ (r : RowId). IsPending network device new (doing (dispatching r n))) one p)
-        (subst (λ (r : RowId). IsPending network device node (doing (dispatching r n))) one q)
-        (subst (λ (r : RowId). reading_for network node (doing (dispatching r n)) ≤ℤ moment.reading.0) one due) (cases_order n cycle)
+        let one : other ≡ row = rw (sym same) in
+        of_row (rw one at p)
+        (rw one at q)
+        (rw one at due) (cases_order n cycle)
 
 -- ---- nothing is behind a correction
 
 not_ahead : (reading adjustment value : ℤ) → (reading +ℤ adjustment) <ℤ value → (value -ℤ adjustment) ≤ℤ reading → ⊥
-not_ahead reading adjustment value ahead due = omega (arith, ints, ahead, due)
+not_ahead reading adjustment value ahead due = omega (arith, ints)
 
 module _ (network : Network) (device : DeviceId) (node : Node) (moment : Moment) where
   no_more_points : (heard : Summary) (cycle n : ℕ) (verdict : Verdict) → next_point node.standing ≡ Some cycle
@@ -181,8 +183,7 @@ module _ (network : Network) (device : DeviceId) (node : Node) (moment : Moment)
   no_more_points heard cycle n SyncClique next own p due = integrating_point (node.standing.number + 1) n p.1.own
   no_more_points heard cycle n AsyncClique next own p due = integrating_point (node.standing.number + 1) n p.1.own
   no_more_points heard cycle n Cleared next own p due =
-      p.1.not_yet (subst (λ (k : ℕ). Contains (node.done ++ correcting cycle ∷ []) (correcting k))
-      (same_next (next_point node.standing) cycle n next own)
+      p.1.not_yet (rw (sym (same_next (next_point node.standing) cycle n next own))
       (Contains-append_right node.done (correcting cycle ∷ []) (correcting cycle) (in_head (correcting cycle) [])))
 
   -- a row is not due where a correction is
@@ -193,20 +194,18 @@ module _ (network : Network) (device : DeviceId) (node : Node) (moment : Moment)
       → reading_for network node (doing (dispatching row cycle)) ≤ℤ moment.reading.0 → ⊥
   no_row_due number cycle row range rules may corrects one dispatches two =
       let frame = dispatches.1.own.1 in
-      let value = value_is row cycle frame.is in
       let a = node.standing.adjustment.0 in
       let whole = whole_precision range in
-      let first : ShowsAt (moment.reading.0 +ℤ a) (correction_value network number) (amount network.precision) =
+      let first =
       due_shows (correction_value network number) a moment.reading.0 network.precision.0 (amount network.precision)
       whole one
       (may.in_time (doing (correcting number)) corrects) in
-      let second : ShowsAt (moment.reading.0 +ℤ a) (value_of network (dispatching row cycle))
-      (amount network.precision) =
+      let second =
       due_shows (value_of network (dispatching row cycle)) a moment.reading.0 network.precision.0
       (amount network.precision) whole two
       (may.in_time (doing (dispatching row cycle)) dispatches) in
       apart_so (amount network.correction) number cycle (row_apart rules frame.is) (omega arith) (precise range) first
-      (subst (λ v. ShowsAt (moment.reading.0 +ℤ a) v (amount network.precision)) value second)
+      (rw (value_is row cycle frame.is) at second)
 
   behind_correction : (heard : Summary) (cycle : ℕ) (verdict : Verdict) (task : Task) → IsInRange network
       → KeepsRules network → MayCall network device node moment acting
@@ -232,12 +231,12 @@ module _ (network : Network) (device : DeviceId) (node : Node) (moment : Moment)
   nothing_behind_correction cycle verdict new task range rules may (first, (heard, comes, is)) p due =
       elim (acted network device node moment (acts.Correct cycle verdict) new may (wide range rules)
       (first, (heard, comes, is)) task p) [
-        | inr far ↦ omega (arith, ints, far, due)
+        | inr far ↦ omega (arith, ints)
         | inl old ↦
             behind_correction heard cycle verdict task range rules may first
-            (subst (λ n. IsPending network device n task) is p)
-            (subst (λ n. reading_for network n task ≤ℤ moment.reading.0) is due) old.0
-            (subst (λ z. z ≤ℤ moment.reading.0) old.1 due)
+            (rw is at p)
+            (rw is at due) old.0
+            (rw old.1 at due)
       ]
 
 -- ---- no sending is behind a sending
@@ -248,7 +247,7 @@ two_sendings : {network : Network} (node : Node) (reading : ℤ) (m n : ℕ) →
 two_sendings {network} node reading m n range rules lt late due =
     let far = cycles_apart m n (amount network.cycle) lt in
     let size = wide range rules in
-    omega (arith, ints, far, size, late, due)
+    omega (arith, ints)
 
 module _ (network : Network) (device : DeviceId) (node : Node) (moment : Moment) where
   -- where a device has sent the frame of a cycle, that of no other is due at the moment
@@ -259,8 +258,8 @@ module _ (network : Network) (device : DeviceId) (node : Node) (moment : Moment)
   nothing_sent_behind_sending frame new n range rules may (cycle, first, of_frame, is) p due =
       elim (acted network device node moment (acts.Send frame) new may (wide range rules)
       (cycle, first, of_frame, is) (doing (sending n)) p) [
-        | inr far ↦ omega (arith, ints, far, due)
-        | inl old ↦ was old.0 (subst (λ z. z ≤ℤ moment.reading.0) old.1 due) (cases_order n cycle)
+        | inr far ↦ omega (arith, ints)
+        | inl old ↦ was old.0 (rw old.1 at due) (cases_order n cycle)
       ]
     where
       was : IsPending network device node (doing (sending n)) → reading_for network node
@@ -268,7 +267,7 @@ module _ (network : Network) (device : DeviceId) (node : Node) (moment : Moment)
           → (n ≡ cycle) ⊎ ((n < cycle) ⊎ (cycle < n)) → ⊥
       was q here (inl same) =
           gone_deed network device node new moment (sending cycle) is
-          (subst (λ (k : ℕ). IsPending network device new (doing (sending k))) same p)
+          (rw same at p)
       was q here (inr (inl lt)) =
           two_sendings node moment.reading.0 n cycle range rules lt (may.in_time (doing (sending n)) q) first.due
       was q here (inr (inr gt)) = two_sendings node moment.reading.0 cycle n range rules gt
@@ -286,8 +285,7 @@ module _ (network : Network) (device : DeviceId) (node : Node) (moment : Moment)
       behind_emission network device node new moment.reading.0 sent task zero_on first
       (gone_emission network device node new moment sent heard so is) p q was
   grown (acts.Send frame) new task range rules zero_on may (cycle, first, of_frame, is) p due q was =
-      subst (λ (k : ℕ). IsBefore (1 ∷ k ∷ []) (order_of network task)) (sym (ap (λ (f : Pcf). f.cycle) of_frame))
-      (behind_sending network device node new moment.reading.0 cycle task first
+      rw (ap (λ (f : Pcf). f.cycle) of_frame) (behind_sending network device node new moment.reading.0 cycle task first
       (gone_deed network device node new moment (sending cycle) is) p q was)
   grown (acts.Correct cycle verdict) new task range rules zero_on may is p due q was =
       absurd (nothing_behind_correction network device node moment cycle verdict new task range rules may is p due)
@@ -299,9 +297,9 @@ module _ (network : Network) (device : DeviceId) (node : Node) (moment : Moment)
 pub acts_grow : ActsGrow
 acts_grow network device node moment act new task range rules zero_on may is p due =
     elim (acted network device node moment act new may (wide range rules) is task p) [
-      | inr far ↦ absurd (omega (arith, ints, far, due))
+      | inr far ↦ absurd (omega (arith, ints))
       | inl old ↦
-          grown network device node moment act new task range rules zero_on may is p due old.0 (subst (λ z. z ≤ℤ moment.reading.0) old.1 due)
+          grown network device node moment act new task range rules zero_on may is p due old.0 (rw old.1 at due)
     ]
 
 -- The order of what a device does is that of the places where its tasks stand.
@@ -318,18 +316,18 @@ module _ (network : Network) (t : ℕ) (device : DeviceId) where
   pub place_grows : (a b : Task) → (IsCorrection a → ⊥) → IsBefore (order_of network a) (order_of network b)
       → IsBefore (task_place network t device a) (task_place network t device b)
   place_grows (emitting c) (emitting d) apart (inr (same, inl lt)) = inr (refl, inr (refl, inr (refl, inl lt)))
-  place_grows (emitting c) (emitting d) apart (inl lt) = absurd (omega (arith, lt))
+  place_grows (emitting c) (emitting d) apart (inl lt) = absurd (omega arith)
   place_grows (emitting c) (emitting d) apart (inr (same, inr (e, none))) = absurd none
   place_grows (emitting c) (doing (sending n)) apart b = inr (refl, inl (omega arith))
   place_grows (emitting c) (doing (correcting n)) apart b = inr (refl, inl (omega arith))
   place_grows (emitting c) (doing (dispatching row n)) apart b = inr (refl, inl (omega arith))
   place_grows (doing (sending m)) (doing (sending n)) apart (inr (same, inl lt)) =
       inr (refl, inr (refl, inr (refl, inl lt)))
-  place_grows (doing (sending m)) (doing (sending n)) apart (inl lt) = absurd (omega (arith, lt))
+  place_grows (doing (sending m)) (doing (sending n)) apart (inl lt) = absurd (omega arith)
   place_grows (doing (sending m)) (doing (sending n)) apart (inr (same, inr (e, none))) = absurd none
   place_grows (doing (sending m)) (doing (correcting n)) apart b = inr (refl, inl (omega arith))
   place_grows (doing (sending m)) (doing (dispatching row n)) apart b = inr (refl, inl (omega arith))
-  place_grows (doing (dispatching row m)) (doing (dispatching other n)) apart (inl lt) = absurd (omega (arith, lt))
+  place_grows (doing (dispatching row m)) (doing (dispatching other n)) apart (inl lt) = absurd (omega arith)
   place_grows (doing (dispatching row m)) (doing (dispatching other n)) apart (inr b) =
       inr (refl, inr (refl, inr (refl, b.1)))
   place_grows (doing (correcting m)) b apart before = absurd (apart tt)
@@ -370,9 +368,9 @@ fourth t r d more ws b = grind arith
 module _ (network : Network) (t : ℕ) (device : DeviceId) where
   before_in_order : (a b : Task) → IsBefore (task_place network t device a) (task_place network t device b)
       → IsBefore (order_of network a) (order_of network b) ⊎ OpenAtOnce a b
-  before_in_order (emitting c) (emitting d) (inl lt) = absurd (omega (arith, lt))
-  before_in_order (emitting c) (emitting d) (inr (e, inl lt)) = absurd (omega (arith, lt))
-  before_in_order (emitting c) (emitting d) (inr (e, inr (f, inl lt))) = absurd (omega (arith, lt))
+  before_in_order (emitting c) (emitting d) (inl lt) = absurd (omega arith)
+  before_in_order (emitting c) (emitting d) (inr (e, inl lt)) = absurd (omega arith)
+  before_in_order (emitting c) (emitting d) (inr (e, inr (f, inl lt))) = absurd (omega arith)
   before_in_order (emitting c) (emitting d) (inr (e, inr (f, inr (g, inl lt)))) = inl (inr (refl, inl lt))
   before_in_order (emitting c) (emitting d) (inr (e, inr (f, inr (g, inr (h, b))))) = inr h
   before_in_order (emitting c) (doing (sending n)) b = inl (inl (omega arith))
@@ -392,11 +390,9 @@ module _ (network : Network) (t : ℕ) (device : DeviceId) where
       → IsPending network device node b → OpenAtOnce a b
       → IsBefore (task_place network t device a) (task_place network t device b) → ⊥
   one_frame node (emitting c) (emitting d) zero p q same before =
-      let opens : c.opened.0 ≡ d.opened.0 = from_zero zero p.1 ∙ ap pos same ∙ sym (from_zero zero q.1) in
-      let one = one_waiting p.1 q.1 opens in
+      let opens = from_zero zero p.1 ∙ ap pos same ∙ sym (from_zero zero q.1) in
       never_self (task_place network t device (emitting d))
-      (subst (λ (e : Compressed). IsBefore (task_place network t device (emitting e))
-      (task_place network t device (emitting d))) one before)
+      (rw (one_waiting p.1 q.1 opens) at before)
   one_frame node (doing x) b zero p q same before = absurd same
   one_frame node (emitting c) (doing y) zero p q same before = absurd same
 

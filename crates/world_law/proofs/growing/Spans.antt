@@ -60,8 +60,7 @@ relative_up_to from k (q ∷ qs) all = ((omega (arith, ints, all.0.0), omega (ar
 middle_from : (o : Point) (k : ℤ) (counts : List Point) (more : List Point) → pos 0 ≤ℤ k → counts ≡ o ∷ more
     → AllByRecursion (LiesFrom o.reading (o.reading +ℤ k)) counts → LiesUpTo k (middle_of (relative (map (λ q. q.reading) counts)))
 middle_from o k counts more some is all =
-    subst (λ (qs : List Point). LiesUpTo k (middle_of (relative (map (λ q. q.reading) qs)))) (sym is)
-    (middle_up_to k (relative (map (λ q. q.reading) (o ∷ more))) some
+    rw is (middle_up_to k (relative (map (λ q. q.reading) (o ∷ more))) some
     (relative_up_to o.reading k (o ∷ more) (subst (AllByRecursion (LiesFrom o.reading (o.reading +ℤ k))) is all)))
 
 -- a cluster ends one or two windows after its opening, and the middle of its points lies up to there
@@ -73,21 +72,20 @@ pub record IsSpan (ow : ℤ) (c : Cluster) : Type 0 where
 
 first_span : (ow : ℤ) (o : Point) (ps : List Point) → pos 0 ≤ℤ ow → IsSpan ow (cluster_of ow o (o ∷ ps))
 first_span ow o ps some =
-    let l : List Point = o ∷ ps in
+    let l = o ∷ ps in
     let end = end_of ow o l in
     let least = end_of-least ow o l some in
     let most = ends_soon ow o l some in
     let k = end -ℤ o.reading in
     let whole : end ≡ (o.reading +ℤ k) = omega (arith, ints) in
     let held = of_cycle_within o.cycle o.reading end l in
-    let begins = held-start o end ps (omega (arith, ints, least, some)) in
+    let begins = held-start o end ps (omega (arith, ints)) in
     let rest = firsts-start o (of_cycle_within o.cycle o.reading end ps) in
-    let is : firsts held ≡ o ∷ rest.0 = ap firsts begins ∙ rest.1 in
-    let all : AllByRecursion (LiesFrom o.reading (o.reading +ℤ k)) (firsts held) = firsts_all (LiesFrom o.reading (o.reading +ℤ k)) held
-    (subst (λ z. AllByRecursion (LiesFrom o.reading z) held) whole (held_from o.cycle o.reading end l)) in
-    let middle = middle_from o k (firsts held) rest.0 (omega (arith, ints, least, some)) is all in
+    let all = firsts_all (LiesFrom o.reading (o.reading +ℤ k)) held
+    (rw (sym whole) (held_from o.cycle o.reading end l)) in
+    let middle = middle_from o k (firsts held) rest.0 (omega (arith, ints)) (ap firsts begins ∙ rest.1) all in
     let high = middle.1 in
-    record { one = least; two = most; low = middle.0; high = omega (arith, ints, high) }
+    record { one = least; two = most; low = middle.0; high = omega (arith, ints) }
 
 pub span_of : (ow : ℤ) (ps : List Point) (cs : List Cluster) → pos 0 ≤ℤ ow → AreClusters ow ps cs → (c : Cluster) → Contains cs c → IsSpan ow c
 span_of ow [] [] some are c at = absurd (in_none c at)
@@ -108,17 +106,18 @@ opens_behind ow (o ∷ ps) [] some are c d at too lt = absurd are
 opens_behind ow (o ∷ ps) (k ∷ ks) some are c d at too lt =
     let start = first_end ow o ps k some are.0 in
     let all = open_beyond ow k.end (beyond k.end ps) ks are.1 (beyond-all k.end ps) in
-    let later : (x : Cluster) → Contains ks x → k.end <ℤ x.opened = λ x there. all_at (λ (y : Cluster). k.end <ℤ y.opened) ks x all there in
+    let later : (x : Cluster) → Contains ks x → k.end <ℤ x.opened =
+    λ x there. all_at (λ y. k.end <ℤ y.opened) ks x all there in
     elim (in_cases k d ks too) [
       | inl f ↦
-          let its : k.opened ≡ d.opened = ap (λ (x : Cluster). x.opened) f in
+          let its : k.opened ≡ d.opened = rw f in
           elim (in_cases k c ks at) [
-            | inl e ↦ let mine : k.opened ≡ c.opened = ap (λ (x : Cluster). x.opened) e in absurd (omega (arith, ints, lt, mine, its))
-            | inr here ↦ let past = later c here in absurd (omega (arith, ints, past, start.1, its, lt))
+            | inl e ↦ let mine : k.opened ≡ c.opened = rw e in absurd (omega (arith, ints))
+            | inr here ↦ let past = later c here in absurd (omega (arith, ints, start.1))
           ]
       | inr there ↦
           elim (in_cases k c ks at) [
-            | inl e ↦ subst (λ (x : Cluster). x.end <ℤ d.opened) e (later d there)
+            | inl e ↦ rw e at (later d there)
             | inr here ↦ opens_behind ow (beyond k.end ps) ks some are.1 c d here there lt
           ]
     ]
@@ -134,20 +133,21 @@ one_opening ow (o ∷ ps) [] some are c d at too same = absurd are
 one_opening ow (o ∷ ps) (k ∷ ks) some are c d at too same =
     let start = first_end ow o ps k some are.0 in
     let all = open_beyond ow k.end (beyond k.end ps) ks are.1 (beyond-all k.end ps) in
-    let later : (x : Cluster) → Contains ks x → k.end <ℤ x.opened = λ x there. all_at (λ (y : Cluster). k.end <ℤ y.opened) ks x all there in
+    let later : (x : Cluster) → Contains ks x → k.end <ℤ x.opened =
+    λ x there. all_at (λ y. k.end <ℤ y.opened) ks x all there in
     elim (in_cases k c ks at) [
       | inl e ↦
-          let mine : k.opened ≡ c.opened = ap (λ (x : Cluster). x.opened) e in
+          let mine : k.opened ≡ c.opened = rw e in
           elim (in_cases k d ks too) [
             | inl f ↦ sym e ∙ f
-            | inr there ↦ let past = later d there in absurd (omega (arith, ints, past, start.1, mine, same))
+            | inr there ↦ let past = later d there in absurd (omega (arith, ints, start.1))
           ]
       | inr here ↦
           elim (in_cases k d ks too) [
             | inl f ↦
-                let mine : k.opened ≡ d.opened = ap (λ (x : Cluster). x.opened) f in
+                let mine : k.opened ≡ d.opened = rw f in
                 let past = later c here in
-                absurd (omega (arith, ints, past, start.1, mine, same))
+                absurd (omega (arith, ints, start.1))
             | inr there ↦ one_opening ow (beyond k.end ps) ks some are.1 c d here there same
           ]
     ]
@@ -157,10 +157,10 @@ pub one_waiting : {network : Network} {device : DeviceId} {node : Node} {a b : C
     → IsWaiting network device node a → IsWaiting network device node b → a.opened.0 ≡ b.opened.0 → a ≡ b
 one_waiting {network} {node} {a} {b} w x same =
     let ow = observation_window network in
-    let lists : x.clusters ≡ w.clusters = AreClusters-unique ow node.points x.clusters w.clusters x.are w.are in
-    let there : Contains w.clusters x.cluster = subst (λ (cs : List Cluster). Contains cs x.cluster) lists x.there in
-    let of_a : a.opened.0 ≡ w.cluster.opened = ap (λ (c : Compressed). c.opened.0) w.is in
-    let of_b : b.opened.0 ≡ x.cluster.opened = ap (λ (c : Compressed). c.opened.0) x.is in
+    let lists = AreClusters-unique ow node.points x.clusters w.clusters x.are w.are in
+    let there : Contains w.clusters x.cluster = rw lists at x.there in
+    let of_a : a.opened.0 ≡ w.cluster.opened = rw w.is in
+    let of_b : b.opened.0 ≡ x.cluster.opened = rw x.is in
     let one = one_opening ow node.points w.clusters (omega (arith, ints)) w.are w.cluster x.cluster w.there there (sym of_a ∙ same ∙ of_b) in
     w.is ∙ ap (compressed ow (pos (amount network.calc))) one ∙ sym x.is
 
@@ -172,8 +172,8 @@ above (p ∷ ps) all = (omega (arith, ints, all.0), above ps all.1)
 pub from_zero : {network : Network} {device : DeviceId} {node : Node} {a : Compressed}
     → IsFromZero network device node → IsWaiting network device node a → a.opened.0 ≡ pos (amount a.opened)
 from_zero {network} {node} {a} zero_on w =
-    let all = above node.points (recursion_from_All (λ (p : Point). pos 0 ≤ℤ p.reading) node.points (zero_on w.cm)) in
-    let past : negsuc 0 <ℤ w.cluster.opened = all_at (λ (c : Cluster). negsuc 0 <ℤ c.opened) w.clusters w.cluster
+    let all = above node.points (recursion_from_All (λ p. pos 0 ≤ℤ p.reading) node.points (zero_on w.cm)) in
+    let past = all_at (λ c. negsuc 0 <ℤ c.opened) w.clusters w.cluster
     (open_beyond (observation_window network) (negsuc 0) node.points w.clusters w.are all) w.there in
-    let of_a : a.opened.0 ≡ w.cluster.opened = ap (λ (c : Compressed). c.opened.0) w.is in
-    whole a.opened.0 (omega (arith, ints, past, of_a))
+    let of_a : a.opened.0 ≡ w.cluster.opened = rw w.is in
+    whole a.opened.0 (omega (arith, ints))

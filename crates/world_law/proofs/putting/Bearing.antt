@@ -1,9 +1,9 @@
 -- A device on which a record does not bear stands with it as without it.
 use Rattle.world_law.proofs.devices.Working.{worked_on}
-use Rattle.world_law.proofs.Words.{◌++◌, ◌+ℤ◌, ◌∙◌, ◌∷◌, ◌≡◌, ◌≤◌, ◌⊎◌, AreOfNetwork, DeviceId, Happening, HasTurnedOn, Integrating, IsAtRest}
-use Rattle.world_law.proofs.Words.{IsHeld, IsIn, IsKept, IsLeft, List, Network, Node, Scenario, State, TakenFrame, Units, adjustment_after}
-use Rattle.world_law.proofs.Words.{adjustment_with, ap, append_assoc, bears_on, borne, changed_at, cycle_in, earlier, false, frames_taken, if◌then◌else◌}
-use Rattle.world_law.proofs.Words.{in_left, in_parts, in_right, inl, inr, is_turned_on_at, length, local_before, moves, nat_le, pos}
+use Rattle.world_law.proofs.Words.{◌++◌, ◌∙◌, ◌∷◌, ◌≡◌, ◌≤◌, ◌⊎◌, AreOfNetwork, DeviceId, Happening, HasTurnedOn, IsAtRest}
+use Rattle.world_law.proofs.Words.{IsHeld, IsIn, IsKept, IsLeft, List, Network, Node, Scenario, adjustment_after}
+use Rattle.world_law.proofs.Words.{adjustment_with, ap, append_assoc, bears_on, borne, changed_at, cycle_in, earlier, false, frames_taken}
+use Rattle.world_law.proofs.Words.{in_left, in_parts, in_right, inl, inr, length, local_before, moves, nat_le}
 use Rattle.world_law.proofs.Words.{state_after, state_before, state_with, sym, taken_by, time_of, up_to, ℕ}
 use Rattle.world_law.specs.world.World.{IsOut}
 use Rattle.world_law.proofs.{devices.Borne.{TellAlike, left_alike, moves_no_other, tell_alike}, rows.AtHand.{IsNoTaking, taken_parts, taken_same}}
@@ -41,7 +41,7 @@ pub known_aside : {s : Scenario} (hs front back : List Happening) (w : Happening
 known_aside hs front back w still are = record {
   unmoved = λ device le h i.
       elim (placed_back hs front back w h i) [
-        | inl e ↦ ap (λ (x : Happening). moves device x.note.body) e ∙ still device le
+        | inl e ↦ rw e (still device le)
         | inr was ↦ are.unmoved device le h was
       ];
   never_on = are.never_on;
@@ -54,7 +54,7 @@ module _ (s : Scenario) (hs front back : List Happening) (w : Happening) (device
       → (h : Happening) → IsIn h (hs ++ (front ++ w ∷ back)) → time_of h ≡ now → IsAtRest s device now h.note.body
   still_aside now rests still h i now_is =
       elim (placed_back hs front back w h i) [
-        | inl e ↦ inl (ap (λ (x : Happening). moves device x.note.body) e ∙ rests)
+        | inl e ↦ inl (rw e rests)
         | inr was ↦ still h was now_is
       ]
 
@@ -95,37 +95,39 @@ module _ (s : Scenario) (hs front back : List Happening) (w : Happening) (device
   earlier_aside t = (tells_aside t).state
 
   pub before_aside : (t : ℕ) → state_before s (hs ++ (front ++ back)) device t ≡ state_before s (hs ++ (front ++ w ∷ back)) device t
-  before_aside t = ap (λ (state : State). if is_turned_on_at s device t then Integrating else state) (earlier_aside t)
+  before_aside t = rw (earlier_aside t)
 
   pub stated_aside : (t : ℕ) → state_after s (up_to t (hs ++ (front ++ back))) device ≡ state_after s (up_to t (hs ++ (front ++ w ∷ back))) device
   stated_aside t =
-      ap (λ l. state_after s (up_to t l) device) (sym (append_assoc hs front back))
-      ∙ sym (fold_skip (λ state h. state_with device state h.note.body) (λ h. nat_le (time_of h) t) (hs ++ front) back w
+      rw (sym (append_assoc hs front back))
+      (sym (fold_skip (λ state h. state_with device state h.note.body) (λ h. nat_le (time_of h) t) (hs ++ front) back w
       (λ old. keeps_state device old w.note.body (moves_no_other device w.note.body misses)) _)
-      ∙ ap (λ l. state_after s (up_to t l) device) (append_assoc hs front (w ∷ back))
+      ∙ (rw (append_assoc hs front (w ∷ back))))
 
   pub adjusted_aside : (t : ℕ) → adjustment_after s (up_to t (hs ++ (front ++ back))) device
       ≡ adjustment_after s (up_to t (hs ++ (front ++ w ∷ back))) device
   adjusted_aside t =
-      ap (λ l. adjustment_after s (up_to t l) device) (sym (append_assoc hs front back))
-      ∙ sym (fold_skip (λ adjustment h. adjustment_with s device (cycle_in h) adjustment h.note.body) (λ h. nat_le (time_of h) t) (hs ++ front) back w
+      rw (sym (append_assoc hs front back))
+      (sym (fold_skip (λ adjustment h. adjustment_with s device (cycle_in h) adjustment h.note.body)
+      (λ h. nat_le (time_of h) t) (hs ++ front) back w
       (λ old. keeps_adjustment s device (cycle_in w) old w.note.body (moves_no_other device w.note.body misses)) _)
-      ∙ ap (λ l. adjustment_after s (up_to t l) device) (append_assoc hs front (w ∷ back))
+      ∙ (rw (append_assoc hs front (w ∷ back))))
 
   -- what the device took is told alike, where it takes nothing by the record
   pub frames_aside : IsNoTaking device w.note.body → frames_taken s (hs ++ (front ++ back)) device ≡ frames_taken s (hs ++ (front ++ w ∷ back)) device
   frames_aside takes =
       let old = (hs ++ front) ++ back in
       let new = (hs ++ front) ++ w ∷ back in
-      ap (λ l. frames_taken s l device) (sym (append_assoc hs front back))
-      ∙ taken_same device (local_before s old device) (local_before s new device) old
-      (λ h i. ap (λ (u : Units). pos (s.reading device (time_of h)) +ℤ u.0)
-      (tell_alike s old new device (time_of h) (sym (drop_one (λ g. bears_on device g.note.body) (hs ++ front) back w misses))).adjustment)
+      rw (sym (append_assoc hs front back))
+      (taken_same device (local_before s old device) (local_before s new device) old
+      (λ h i. rw (tell_alike s old new device (time_of h) (sym
+      (drop_one (λ g. bears_on device g.note.body) (hs ++ front) back w misses))).adjustment)
       ∙ taken_parts device (local_before s new device) (hs ++ front) back
-      ∙ ap (λ (l : List TakenFrame). taken_by device (local_before s new device) (hs ++ front) ++ (l ++ taken_by device (local_before s new device) back))
+      ∙ ap (λ l. taken_by device (local_before s new device)
+      (hs ++ front) ++ (l ++ taken_by device (local_before s new device) back))
       (sym (takes (local_before s new device (time_of w))))
       ∙ sym (taken_parts device (local_before s new device) (hs ++ front) (w ∷ back))
-      ∙ ap (λ l. frames_taken s l device) (append_assoc hs front (w ∷ back))
+      ∙ (rw (append_assoc hs front (w ∷ back))))
 
   -- ---- the device
 

@@ -35,20 +35,20 @@ idle_rank other i = absurd i
 
 pub drop_one : {X : Type 0} (q : X → Bool) (xs bs : List X) (w : X) → q w ≡ false → filter q (xs ++ w ∷ bs) ≡ filter q (xs ++ bs)
 drop_one q xs bs w e =
-    filter-append q xs (w ∷ bs) ∙ ap (λ (c : Bool). filter q xs ++ (if c then w ∷ filter q bs else filter q bs)) e ∙ sym (filter-append q xs bs)
+    filter-append q xs (w ∷ bs) ∙ (rw e (sym (filter-append q xs bs)))
 
 pub fold_skip : {B : Type 0} (f : B → Happening → B) (u : Happening → Bool) (as_ bs : List Happening) (w : Happening) → ((b : B) → f b w ≡ b) → (z : B)
     → fold f z (filter u (as_ ++ w ∷ bs)) ≡ fold f z (filter u (as_ ++ bs))
 fold_skip {B} f u [] bs w same z =
     elim (u w) as (λ c. fold f z (if c then w ∷ filter u bs else filter u bs) ≡ fold f z (filter u bs))
-    [ true ↦ ap (λ (b : B). fold f b (filter u bs)) (same z) | false ↦ refl ]
+    [ true ↦ ap (λ b. fold f b (filter u bs)) (same z) | false ↦ refl ]
 fold_skip {B} f u (a ∷ as_) bs w same z = grind (arith, fold, filter, (fold_skip f u as_ bs w same (f z a)), (fold_skip f u as_ bs w same z))
 
 get_prefix : (hs xs : List Happening) (i : ℕ) → i < length hs → slice_get (hs ++ xs) i ≡ slice_get hs i
-get_prefix [] xs i lt = absurd (omega (arith, lt))
+get_prefix [] xs i lt = absurd (omega arith)
 get_prefix (h ∷ hs) xs zero lt = refl
-get_prefix (h ∷ hs) xs (suc i) lt = get_prefix hs xs i (omega (arith, lt))
+get_prefix (h ∷ hs) xs (suc i) lt = get_prefix hs xs i (omega arith)
 
 pub numbered_prefix : (hs xs : List Happening) (n : ℕ) → n ≤ length hs → numbered (hs ++ xs) n ≡ numbered hs n
 numbered_prefix hs xs zero le = refl
-numbered_prefix hs xs (suc i) le = get_prefix hs xs i (omega (arith, le))
+numbered_prefix hs xs (suc i) le = get_prefix hs xs i (omega arith)

@@ -2,9 +2,9 @@
 use Rattle.world_law.proofs.devices.Working.{out_on, worked_on}
 use Rattle.{std.proofs.Common.◌↔◌, world_law.specs.world.Moves.IsWithout}
 use Rattle.world_law.specs.world.World.{IsDueAs}
-use Rattle.world_law.proofs.Words.{◌++◌, ◌∙◌, ◌∷◌, ◌≡◌, ◌⊎◌, AllBefore, AreAtPorts, AreComing, AreOnWires, AreWaiting, AtPort, DeviceId, Happening}
+use Rattle.world_law.proofs.Words.{◌++◌, ◌∷◌, ◌≡◌, ◌⊎◌, AllBefore, AreAtPorts, AreComing, AreOnWires, AreWaiting, AtPort, DeviceId, Happening}
 use Rattle.world_law.proofs.Words.{HasTurnedOn, IsBefore, IsForward, IsHeld, IsIn, IsKept, IsOwnSource, IsSource, List, Network, Node}
-use Rattle.world_law.proofs.Words.{NoneBefore, OnWire, Pcf, Scenario, Waiting, [], amount, ap, before_behind}
+use Rattle.world_law.proofs.Words.{NoneBefore, OnWire, Scenario, Waiting, [], amount, before_behind}
 use Rattle.world_law.proofs.Words.{behind, chain, either_way, false, inl, inr, is_at_source, members_in, never_self, place_of, port_place, refl, ripe_place}
 use Rattle.world_law.proofs.Words.{Task, both_ways, task_place}
 use Rattle.world_law.proofs.{Words.{ℕ, subst, sym, time_of, wire_place}, giving.GivenParts.up_to_place, runs.Settled.{AreSettled, late_of}}
@@ -36,7 +36,7 @@ pub record IsGoing (s : Scenario) (hs : List Happening) (from to : List ℕ) (Ow
 pub goes_by : (s : Scenario) (hs : List Happening) (at : List ℕ) → IsGoing s hs at (behind at) (λ p. p ≡ at)
 goes_by s hs at = record {
   on = stays at;
-  own = λ p e. subst (λ q. IsBefore q (behind at)) (sym e) (before_behind at);
+  own = λ p e. rw e (before_behind at);
   each = λ {p} source b. elim (up_to_place p at b) [ inl e ↦ inr e | inr lt ↦ inl lt ];
 }
 
@@ -54,11 +54,11 @@ pub not_far : (at q : List ℕ) → (IsBefore q at → ⊥) → (p : List ℕ) �
 not_far at q not p b =
     let far : IsBefore at (behind q) = elim (either_way at q) [
       | inl lt ↦ chain at q (behind q) lt (before_behind q)
-      | inr (inl e) ↦ subst (λ u. IsBefore u (behind q)) (sym e) (before_behind q)
+      | inr (inl e) ↦ rw e (before_behind q)
       | inr (inr gt) ↦ absurd (not gt)
     ] in
     elim (up_to_place p at b) [
-      | inl e ↦ subst (λ u. IsBefore u (behind q)) (sym e) far
+      | inl e ↦ rw e far
       | inr under ↦ chain p at (behind q) under far
     ]
 
@@ -75,7 +75,7 @@ settled_moves {s} {hs} {coming} {now} {r} {more} m all =
       full = λ front back y e before none not due worked. elim (up_to_place worked.0 at worked.3) [
         | inr yet ↦ m.are.full front back y e before none not due (worked.0, worked.1, worked.2, yet)
         | inl here ↦ all front back y e before none due
-            (subst (λ w. IsOwnSource s (hs ++ front) (time_of y) (members_in y) y.note.body w) here worked.1)
+            (rw here at worked.1)
       ];
       not_past = λ z i. not_far at (place_of z) (m.are.after z i);
       worked = λ z i is. absurd (both_ways _ (off_source m z i) is);
@@ -107,7 +107,7 @@ module _ {s : Scenario} {hs : List Happening} {from to : List ℕ} {Own : List �
         );
     all = λ t device link cause a told not.
         let found = are.all t device link cause a told (λ b. not (g.on _ b)) in
-        (found.0, (without found.0).1 (found.1, λ here. not (subst (λ p. IsBefore p to) found.2 (g.own _ here))), found.2);
+        (found.0, (without found.0).1 (found.1, λ here. not (rw found.2 at (g.own _ here))), found.2);
   }
 
   pub ports_move : {ports : List AtPort} (new : List AtPort) → AreAtPorts s hs from ports
@@ -126,7 +126,7 @@ module _ {s : Scenario} {hs : List Happening} {from to : List ℕ} {Own : List �
         );
     all = λ t device link cause d not.
         let found = are.all t device link cause d (λ b. not (g.on _ b)) in
-        (found.0, (without found.0).1 (found.1, λ here. not (subst (λ p. IsBefore p to) found.2 (g.own _ here))), found.2);
+        (found.0, (without found.0).1 (found.1, λ here. not (rw found.2 at (g.own _ here))), found.2);
   }
 
   -- the frames that wait, where the source is of another kind
@@ -137,17 +137,17 @@ module _ {s : Scenario} {hs : List Happening} {from to : List ℕ} {Own : List �
     later = λ e i t x b.
         let it = are.real e i in
         let p = x.permanent in
-        let arrival : it.arrival ≡ p.arrival =
+        let arrival =
         Rattle.world_law.proofs.giving.GivenParts.some_same it.arrival p.arrival _ it.there p.there in
-        let frame : x.frame ≡ e.frame = Rattle.world_law.proofs.giving.GivenParts.some_same x.frame e.frame _
-        p.of_frame (ap (λ (h : Happening). h.frame) (sym arrival)
-        ∙ it.awaited.of_frame) in
+        let frame = Rattle.world_law.proofs.giving.GivenParts.some_same x.frame e.frame _
+        p.of_frame (rw (sym arrival)
+        it.awaited.of_frame) in
         let at : t ∷ 3 ∷ e.device.0 ∷ amount e.point ∷ x.frame.members.0 ∷ e.link.0 ∷ e.cause
         ∷ [] ≡ ripe_place t e =
-        ap (λ (f : Pcf). t ∷ 3 ∷ e.device.0 ∷ amount e.point ∷ f.members.0 ∷ e.link.0 ∷ e.cause ∷ []) frame in
+        rw frame in
         elim (g.each (IsSource.ripening t e.device e.link e.cause e.point x)
-        (subst (λ q. IsBefore q to) (sym at) b)) [
-          | inl yet ↦ are.later e i t x (subst (λ q. IsBefore q from) at yet)
+        (rw at b)) [
+          | inl yet ↦ are.later e i t x (rw at at yet)
           | inr here ↦ other t _ here
         ];
     sound = are.sound;

@@ -1,18 +1,16 @@
 -- What is due by one of two lists of records that tell the same up to a source is due by the other.
 use Rattle.run_law.specs.control.Corrections.{standing_before}
-use Rattle.run_law.specs.control.Permanence.{IsJudgedBy}
-use Rattle.sync_state.specs.Verdicts.{HasVerdict}
 use Rattle.sync_state.specs.membership.Summary.{Summarizes}
-use Rattle.world_law.proofs.Words.{if◌then◌else◌, ◌++◌, ◌+ℤ◌, ◌<◌, ◌==◌, ◌∙◌, ◌∷◌, ◌≡◌, ◌≤◌, ◌⊎◌, Arrival, ArrivesAs, BecomesPermanent, Bool}
+use Rattle.world_law.proofs.Words.{◌++◌, ◌<◌, ◌==◌, ◌∙◌, ◌∷◌, ◌≡◌, ◌≤◌, ◌⊎◌, Arrival, ArrivesAs, BecomesPermanent, Bool}
 use Rattle.world_law.proofs.Words.{ChangesState, ComesToCorrection, Compressed, Departs, Departure, DeviceId, Dispatches, Emits, Happening}
-use Rattle.world_law.proofs.Words.{Integrating, IsActing, IsBefore, IsCaused, IsDropped, IsDue, IsForward, IsFounded, IsIn, IsLost, IsOwnSource}
-use Rattle.world_law.proofs.Words.{IsSendLost, IsSource, Joining, Judgement, LinkId, List, None, NoteBody, Pcf, Reason, Ripe, Scenario, Signal, Some, State}
-use Rattle.world_law.proofs.Words.{Units, Verdict, VlId, Why, [], adjustment_after, adjustment_at_hearing, amount, ap, arith, arrival_of}
-use Rattle.world_law.proofs.Words.{bears_on, before_permanence, by_number, cases_lt, cause_of, chain, control, control_arrival, correcting, dispatching}
+use Rattle.world_law.proofs.Words.{IsActing, IsBefore, IsCaused, IsDropped, IsDue, IsForward, IsFounded, IsIn, IsLost, IsOwnSource}
+use Rattle.world_law.proofs.Words.{IsSendLost, IsSource, Judgement, LinkId, List, None, NoteBody, Pcf, Reason, Ripe, Scenario, Signal, Some, State}
+use Rattle.world_law.proofs.Words.{Units, Verdict, VlId, Why, [], adjustment_at_hearing, amount, ap, arith, arrival_of}
+use Rattle.world_law.proofs.Words.{bears_on, before_permanence, by_number, cases_lt, cause_of, chain, control, correcting, dispatching}
 use Rattle.world_law.proofs.Words.{doing, earlier, emitting, eq-eqb, false, filter, heard_as, heard_since, in_filter, inl, inr, is_accepted, is_at_source, is_joined_by}
-use Rattle.world_law.proofs.Words.{is_turned_on_at, last_in, last_or, last_taken, length, members_in, next_point, not, numbered, numbered_within}
-use Rattle.world_law.proofs.Words.{observation_window, place_of, plan_of, points_of, rank, refl, sending, state_after, state_at_hearing, subst, sym}
-use Rattle.world_law.proofs.Words.{task_place, time_of, timed, timed_arrival, true, ℕ}
+use Rattle.world_law.proofs.Words.{last_in, last_taken, length, members_in, next_point, not, numbered, numbered_within}
+use Rattle.world_law.proofs.Words.{observation_window, place_of, plan_of, points_of, rank, refl, sending, state_at_hearing, subst, sym}
+use Rattle.world_law.proofs.Words.{task_place, time_of, timed, true, ℕ}
 use Rattle.world_law.proofs.giving.GivenParts.{same_permanent}
 use Rattle.world_law.proofs.putting.Alike.{happening_alike, standpoint_in}
 use Rattle.world_law.proofs.putting.Numberless.{timed_by}
@@ -102,7 +100,7 @@ module _ (s : Scenario) (js gs : List Happening) (t : ℕ) (device : DeviceId) w
         correct = d.correct;
         summary = d.summary;
         heard = subst (Summarizes d.summary) h.heard d.heard;
-        comes = subst (λ x. HasVerdict x d.summary verdict) same d.comes;
+        comes = rw same at d.comes;
       }
 
   emits_near : {sent : Compressed} {verdict : Judgement} → HearsAlike s js gs device t
@@ -117,12 +115,11 @@ module _ (s : Scenario) (js gs : List Happening) (t : ℕ) (device : DeviceId) w
       → ((vl : VlId) → last_taken js device t link cause vl ≡ last_taken gs device t link cause vl)
       → arrival_of s js device t link cause signal ≡ arrival_of s gs device t link cause signal
   arrival_near link cause (control frame) before taken =
-      ap (λ w. control_arrival s.network device link (standpoint_in s device t w) frame) before
+      rw before
   arrival_near link cause (timed octets) before taken =
-      ap (λ w. timed_arrival s.network device link (standpoint_in s device t w) octets
-      (last_taken js device t link cause)) before
-      ∙ timed_by s device link (standpoint_in s device t (earlier t gs)) octets (last_taken js device t link cause)
-      (last_taken gs device t link cause) taken
+      rw before
+      (timed_by s device link (standpoint_in s device t (earlier t gs)) octets (last_taken js device t link cause)
+      (last_taken gs device t link cause) taken)
 
 module _ (s : Scenario) (t n : ℕ) (at : List ℕ) (put : NoteBody) (js gs : List Happening) (device : DeviceId)
     (link : LinkId) (cause : ℕ) where
@@ -146,8 +143,7 @@ module _ (s : Scenario) (t n : ℕ) (at : List ℕ) (put : NoteBody) (js gs : Li
     record {
       frame = r.frame;
       permanent = same_permanent gs r.permanent (sym (a.first cause le) ∙ r.permanent.there);
-      becomes = subst (λ l. IsJudgedBy s l device t r.frame point is)
-          (a.judged device link cause r.frame point under) r.becomes;
+      becomes = rw (a.judged device link cause r.frame point under) at r.becomes;
     },
     refl,
   )
@@ -171,9 +167,9 @@ dropped_near : (s : Scenario) (t n m : ℕ) (at : List ℕ) (put : NoteBody) (js
     (reason : Reason) (p : List ℕ) → AreNear s t n at put js gs → cause ≤ n → IsOwnSource s js t m (notes.Dropped device link cause reason) p
     → (IsBefore at p → ⊥) → IsDropped s js device t link cause reason → IsDropped s gs device t link cause reason
 dropped_near s t n m at put js gs device link cause reason p a le (inl o) under c =
-    inl (arrives_near s t n at put js gs device link cause _ a le (subst (λ q. IsBefore at q → ⊥) o.0 under) o.1)
+    inl (arrives_near s t n at put js gs device link cause _ a le (rw o.0 at under) o.1)
 dropped_near s t n m at put js gs device link cause reason p a le (inr (inl o)) under c =
-    inr (inl (o.0, (ripens_near s t n at put js gs device link cause o.0 _ a le o.1 (subst (λ q. IsBefore at q → ⊥) o.2 under)).0))
+    inr (inl (o.0, (ripens_near s t n at put js gs device link cause o.0 _ a le o.1 (rw o.2 at under)).0))
 dropped_near s t n m at put js gs device link cause reason p a le (inr (inr o)) under (inl c) = grind (arith, arrives_near, lower_rank)
 dropped_near s t n m at put js gs device link cause reason p a le (inr (inr o)) under (inr (inl c)) = grind (arith, ripens_near, lower_rank, amount)
 dropped_near s t n m at put js gs device link cause reason p a le (inr (inr o)) under (inr (inr c)) =
@@ -195,7 +191,7 @@ module _ (s : Scenario) (n m : ℕ) (at : List ℕ) (put : NoteBody) (js gs : Li
   caused_near (notes.Corrected device cycle by adjustment) p a there follows free le o under c = record {
     corrected = comes_near s js gs (amount time) device a.before
         (a.hearing device (free device (eq-eqb device.0 device.0 refl))) c.corrected;
-    sum = subst (λ w. adjustment.0 ≡ ((adjustment_after s w device).0 +ℤ by.0)) a.before c.sum;
+    sum = rw a.before at c.sum;
   }
   caused_near (notes.State device state cause whys.SyncClique) p a there follows free le o under c =
       grind (arith, comes_near, amount, eq-eqb)
@@ -207,10 +203,10 @@ module _ (s : Scenario) (n m : ℕ) (at : List ℕ) (put : NoteBody) (js gs : Li
       record { dispatches = dispatches_back gs a.before c.dispatches; whole = c.whole }
   caused_near (notes.Accepted device link cause vl cycle) p a there follows free le o under c =
       arrives_near s (amount time) n at put js gs device link cause _ a le
-      (subst (λ q. IsBefore at q → ⊥) o under) c
+      (rw o at under) c
   caused_near (notes.Delivered device link cause vl cycle) p a there follows free le o under c =
       arrives_near s (amount time) n at put js gs device link cause _ a le
-      (subst (λ q. IsBefore at q → ⊥) o under) c
+      (rw o at under) c
   caused_near (notes.Dropped device link cause reason) p a there follows free le o under c =
       dropped_near s (amount time) n m at put js gs device link cause reason p a le o under c
   caused_near other p a there follows free le o under c = absurd cc
@@ -222,20 +218,27 @@ own_near s t n m at put js gs (notes.Lost device link cause) p a le under (inl d
     inl (d.0, departs_near s js gs t device (a.first cause le) d.1)
 own_near s t n m at put js gs (notes.Lost device link cause) p a le under (inr (inl d)) =
     let e = dispatches_same s js gs t device link cause d.0 d.1 a.before d.2 in
-    inr (inl (d.0, d.1, e.0, d.3, d.4 ∙ ap (λ (n : ℕ). task_place s.network t device (doing (dispatching (record { 0 = n }) d.1))) (sym e.1)))
+    inr (inl (
+      d.0,
+      d.1,
+      e.0,
+      d.3,
+      d.4 ∙ ap (λ n. task_place s.network t device
+          (doing (dispatching (record { 0 = n }) d.1))) (sym e.1),
+    ))
 own_near s t n m at put js gs (notes.Lost device link cause) p a le under (inr (inr l)) =
     inr (inr (l.0, send_near s js gs t device link cause (a.first cause le) l.1))
 own_near s t n m at put js gs (notes.Dropped device link cause reason) p a le under (inl x) =
-    inl (x.0, arrives_near s t n at put js gs device link cause _ a le (subst (λ q. IsBefore at q → ⊥) x.0 under) x.1)
+    inl (x.0, arrives_near s t n at put js gs device link cause _ a le (rw x.0 at under) x.1)
 own_near s t n m at put js gs (notes.Dropped device link cause reason) p a le under (inr (inl x)) =
-    let r = ripens_near s t n at put js gs device link cause x.0 _ a le x.1 (subst (λ q. IsBefore at q → ⊥) x.2 under) in
-    inr (inl (x.0, r.0, x.2 ∙ ap (λ (f : Pcf). t ∷ 3 ∷ device.0 ∷ amount x.0 ∷ f.members.0 ∷ link.0 ∷ cause ∷ []) (sym r.1)))
+    let r = ripens_near s t n at put js gs device link cause x.0 _ a le x.1 (rw x.2 at under) in
+    inr (inl (x.0, r.0, x.2 ∙ ap (λ f. t ∷ 3 ∷ device.0 ∷ amount x.0 ∷ f.members.0 ∷ link.0 ∷ cause ∷ []) (sym r.1)))
 own_near s t n m at put js gs (notes.Dropped device link cause reason) p a le under (inr (inr x)) =
     inr (inr (x.0, departs_near s js gs t device (a.first cause le) x.1))
 own_near s t n m at put js gs (notes.State device state cause whys.SyncClique) p a le under o = o
 own_near s t n m at put js gs (notes.TtSent device link cause vl cycle) p a le under o =
     let e = dispatches_same s js gs t device link cause vl cycle a.before o.0 in
-    (e.0, o.1 ∙ ap (λ (n : ℕ). task_place s.network t device (doing (dispatching (record { 0 = n }) cycle))) (sym e.1))
+    (e.0, o.1 ∙ ap (λ n. task_place s.network t device (doing (dispatching (record { 0 = n }) cycle))) (sym e.1))
 own_near s t n m at put js gs other p a le under o = o
 
 -- the own source of a record that is caused is a source
@@ -301,19 +304,19 @@ module _ (s : Scenario) (hs zs : List Happening) (now r : ℕ) where
       → Departs s (hs ++ zs) device t link cause is → cause ≤ length hs
   departs_given {device} {link} {cause} from high d =
       elim (numbered_parts hs zs d.giving cause d.there) [
-        | inl old ↦ let lt = numbered_within hs cause d.giving old in omega (arith, lt)
+        | inl old ↦ let lt = numbered_within hs cause d.giving old in omega arith
         | inr new ↦ let it = from d.giving new in let low = gives_rank s.network d.giving.note.body device link
-            d.gives in absurd (omega (arith, it.1, low, high))
+            d.gives in absurd (omega (arith, it.1))
       ]
 
   arrives_given : {device : DeviceId} {link : LinkId} {cause : ℕ} {is : Arrival} → IsForward s → AreFrom now r zs
       → ArrivesAs s (hs ++ zs) device now link cause is → cause ≤ length hs
   arrives_given {cause} forward from a =
       elim (numbered_parts hs zs a.putting cause a.there) [
-        | inl old ↦ let lt = numbered_within hs cause a.putting old in omega (arith, lt)
+        | inl old ↦ let lt = numbered_within hs cause a.putting old in omega arith
         | inr new ↦
             let it = from a.putting new in
-            let later = arrives_later forward a.arrives in absurd (omega (arith, it.0, later))
+            let later = arrives_later forward a.arrives in absurd (omega (arith, it.0))
       ]
 
   ripens_given : {t : ℕ} {device : DeviceId} {link : LinkId} {cause : ℕ} {point : Units} {is : Ripe}
@@ -321,18 +324,18 @@ module _ (s : Scenario) (hs zs : List Happening) (now r : ℕ) where
   ripens_given {cause} from high x =
       let p = x.permanent in
       elim (numbered_parts hs zs p.arrival cause p.there) [
-        | inl old ↦ let lt = numbered_within hs cause p.arrival old in omega (arith, lt)
+        | inl old ↦ let lt = numbered_within hs cause p.arrival old in omega arith
         | inr new ↦ let it = from p.arrival new in let two : rank p.arrival.note.body ≡ 2 = ap rank p.arrived in
-            absurd (omega (arith, it.1, two, high))
+            absurd (omega (arith, it.1))
       ]
 
   send_given : {t : ℕ} {device : DeviceId} {link : LinkId} {cause : ℕ} → AreFrom now r zs → 2 ≤ r
       → IsSendLost s (hs ++ zs) device t link cause → cause ≤ length hs
   send_given {cause} from high l =
       elim (numbered_parts hs zs l.event cause l.is.there) [
-        | inl old ↦ let lt = numbered_within hs cause l.event old in omega (arith, lt)
+        | inl old ↦ let lt = numbered_within hs cause l.event old in omega arith
         | inr new ↦ let it = from l.event new in let one : rank l.event.note.body ≡ 1 = ap rank l.sends in
-            absurd (omega (arith, it.1, one, high))
+            absurd (omega (arith, it.1))
       ]
 
   pub dispatches_given : {device : DeviceId} {link : LinkId} {cause : ℕ} {vl : VlId} {cycle : ℕ}
@@ -343,17 +346,14 @@ module _ (s : Scenario) (hs zs : List Happening) (now r : ℕ) where
         | inl sender ↦ omega (arith, sender.1)
         | inr took ↦
             let same = earlier_still now hs zs (λ z i. let it = from z i in omega (arith, it.0)) in
-            let last = subst (λ (l : List Happening). last_or None
-            (filter (λ h. is_accepted device d.entry.row.vl h.note.body) l) ≡ Some took.1.taken) same
-            took.1.last in
             elim (last_in None (filter (λ h. is_accepted device d.entry.row.vl h.note.body) (earlier now hs))
-            took.1.taken last) [
+            took.1.taken (rw same at took.1.last)) [
               | inl none ↦ absurd cc
               | inr i ↦
                   let there = in_filter _ hs took.1.taken (in_filter _ (earlier now hs) took.1.taken i) in
                   let lt = numbered_within hs took.1.taken.note.number took.1.taken
                   (by_number s hs took.1.taken founded there) in
-                  omega (arith, lt, took.1.number)
+                  omega (arith, took.1.number)
             ]
       ]
 
@@ -381,7 +381,7 @@ module _ (s : Scenario) (hs zs : List Happening) (time : Units) where
       ripens_given s hs zs (amount time) 8 late (omega arith) x.1
   known_cause (notes.Dropped device link cause reason) forward founded late high (inr (inr d)) =
       departs_given s hs zs (amount time) 8 late (omega arith) d.0
-  known_cause other forward founded late high c = omega (arith, high)
+  known_cause other forward founded late high c = omega arith
 
 module _ (s : Scenario) (hs zs : List Happening) (time : Units) (m r : ℕ) (more : List ℕ) where
   -- the cause of a record whose source is not behind the place is given, if it does not follow a record of the instant
@@ -390,12 +390,12 @@ module _ (s : Scenario) (hs zs : List Happening) (time : Units) (m r : ℕ) (mor
       → IsOwnSource s (hs ++ zs) (amount time) m body p → (IsBefore (amount time ∷ r ∷ more) p → ⊥)
       → IsCaused s (hs ++ zs) time body → cause_of body ≤ length hs
   known_near (notes.State device state cause whys.SyncClique) p forward founded from late there follows o under c =
-      let e = c.1 in omega (arith, e)
+      let e = c.1 in omega arith
   known_near (notes.State device state cause whys.AsyncClique) p forward founded from late there follows o under c =
-      let e = c.1 in omega (arith, e)
+      omega arith
   known_near (notes.Lost device link cause) p forward founded from late there follows (inl o) under c =
       let high = rank_up_to (amount time) r 8 more (device.0 ∷ link.0 ∷ cause ∷ [])
-      (subst (λ q. IsBefore (amount time ∷ r ∷ more) q → ⊥) o.0 under) in
+      (rw o.0 at under) in
       departs_given s hs zs (amount time) r from high o.1
   known_near (notes.Lost device link cause) p forward founded from late there follows (inr (inl o)) under c =
       dispatches_given s hs zs (amount time) r founded from o.2
@@ -411,11 +411,11 @@ module _ (s : Scenario) (hs zs : List Happening) (time : Units) (m r : ℕ) (mor
       arrives_given s hs zs (amount time) r forward from o.1
   known_near (notes.Dropped device link cause reason) p forward founded from late there follows (inr (inl o)) under c =
       let high = rank_up_to (amount time) r 3 more (device.0 ∷ amount o.0 ∷ o.1.frame.members.0 ∷ link.0 ∷ cause ∷ [])
-      (subst (λ q. IsBefore (amount time ∷ r ∷ more) q → ⊥) o.2 under) in
+      (rw o.2 at under) in
       ripens_given s hs zs (amount time) r from high o.1
   known_near (notes.Dropped device link cause reason) p forward founded from late there follows (inr (inr o)) under c =
       let high = rank_up_to (amount time) r 8 more (device.0 ∷ link.0 ∷ cause ∷ [])
-      (subst (λ q. IsBefore (amount time ∷ r ∷ more) q → ⊥) o.0 under) in
+      (rw o.0 at under) in
       departs_given s hs zs (amount time) r from high o.1
   known_near other p forward founded from late there follows o under c = grind arith
 
@@ -441,7 +441,7 @@ changes_given s js gs device t state cause whys.Frame before there f c =
 changes_given s js gs device t state cause whys.Correction before there f c =
     let x = there c.2.3 c.2.4.there in (
       c.0,
-      subst (λ w. (if is_turned_on_at s device t then Integrating else state_after s w device) ≡ Joining) before c.1,
+      rw before at c.1,
       (c.2.0, c.2.1, c.2.2, x.0, record { there = x.1; same_time = x.3 ∙ c.2.4.same_time }, x.2 ∙ c.2.5),
     )
 changes_given s js gs device t state cause whys.SyncClique before there f c = absurd cc
@@ -464,11 +464,9 @@ module _ {s : Scenario} {n : ℕ} {at : List ℕ} {put : NoteBody} {js gs : List
   caused_aside {m} {time} {body} a i c = elim (follower_or_not body) [
     | inr plain ↦ caused_near s n m at put js gs time body p a i.not_there plain i.free i.few i.own i.under c
     | inl f ↦
-        let few : f.cause ≤ n = subst (λ b. cause_of b ≤ n) f.is i.few in
-        subst (λ b. IsCaused s gs time b) (sym f.is)
-        (changes_given s js gs f.device (amount time) f.state f.cause f.why a.before
-        (λ h e. (h, sym (a.first f.cause few) ∙ e, refl, refl)) f.following
-        (subst (λ b. IsCaused s js time b) f.is c))
+        rw f.is (changes_given s js gs f.device (amount time) f.state f.cause f.why a.before
+        (λ h e. (h, sym (a.first f.cause (rw f.is at i.few)) ∙ e, refl, refl)) f.following
+        (rw f.is at c))
   ]
 
   pub own_aside : {m : ℕ} {time : Units} {body : NoteBody} → AreNear s (amount time) n at put js gs → IsAsideOf s js n at put time m body p

@@ -107,16 +107,16 @@ not_at_source s js now r more w y q least over under own = elim (cases_Bool (is_
   | inr no_it ↦ no_it
   | inl is ↦
       let here = own_here s js (time_of y) (members_in y) y.note.body q is own in
-      let far : IsBefore (place_of w) q = subst (λ u. IsBefore (place_of w) u) (sym here) over in
+      let far : IsBefore (place_of w) q = rw here over in
       absurd (elim (at_or_behind (now ∷ r ∷ more) (place_of w) least) [
-        | inl e ↦ under (subst (λ u. IsBefore u q) (sym e) far)
+        | inl e ↦ under (rw e far)
         | inr lt ↦ under (chain (now ∷ r ∷ more) (place_of w) q lt far)
       ])
 ]
 
 pub under_at : {at q : List ℕ} → IsBefore q at ⊎ (q ≡ at) → IsBefore at q → ⊥
 under_at {at} {q} (inl yet) lt = never_self at (chain at q at lt yet)
-under_at {at} (inr up) lt = never_self at (subst (λ u. IsBefore at u) up lt)
+under_at {at} (inr up) lt = never_self at (rw up at lt)
 
 -- where the cause does not follow a record of the instant, it is given
 few_at : {s : Scenario} (hs front zs : List Happening) (now r : ℕ) (more : List ℕ) {y : Happening} (q : List ℕ)
@@ -147,14 +147,14 @@ few_first : (s : Scenario) (ps zs : List Happening) (time : Units) {body : NoteB
     → ((h : Happening) → IsIn h zs → (2 ≤ rank h.note.body) × (is_at_source h.note.body ≡ false)) → AsFollower body
     → IsCaused s (ps ++ zs) time body → cause_of body ≤ length ps
 few_first s ps zs time {body} late f c =
-    let it = change_cause s (ps ++ zs) f.device (amount time) f.state f.cause f.why f.following (subst (λ b. IsCaused s (ps ++ zs) time b) f.is c)
+    let it = change_cause s (ps ++ zs) f.device (amount time) f.state f.cause f.why f.following (rw f.is at c)
     in
     let e : cause_of body ≡ f.cause = ap cause_of f.is in
     elim (numbered_parts ps zs it.0 f.cause it.1) [
-      | inl old ↦ let lt = numbered_within ps f.cause it.0 old in omega (arith, lt, e)
+      | inl old ↦ let lt = numbered_within ps f.cause it.0 old in omega arith
       | inr new ↦
           let at = late it.0 new in
-          absurd (elim it.2 [ inl one ↦ let two = at.0 in omega (arith, one, two) | inr is ↦ both_ways _ at.1 is ])
+          absurd (elim it.2 [ inl one ↦ let two = at.0 in omega arith | inr is ↦ both_ways _ at.1 is ])
     ]
 
 -- a change of state that follows nothing has no cause
@@ -169,19 +169,19 @@ pub causes_given : {s : Scenario} {hs coming : List Happening} {now r : ℕ} {mo
 causes_given {s} {hs} {coming} {now} {r} {more} m some z i it =
     let split = parted z coming i in
     let due = (m.are.founded split.0 split.1 z split.2).1 in
-    let inside : (h : Happening) → IsIn h split.0 → IsIn h coming = λ h j. subst (λ l. IsIn h l) (sym split.2)
-    (in_left h split.0 (z ∷ split.1) j) in
+    let inside : (h : Happening) → IsIn h split.0 → IsIn h coming =
+    λ h j. rw split.2 (in_left h split.0 (z ∷ split.1) j) in
     let late : (h : Happening) → IsIn h split.0 → (2 ≤ rank h.note.body) × (is_at_source h.note.body ≡ false) = λ h j.
     let low = at_least h now r more (m.are.of_now h (inside h j)) (m.are.after h (inside h j)) in
-    (omega (arith, low, some), off_source m h (inside h j)) in
+    (omega arith, off_source m h (inside h j)) in
     elim (follower_or_not z.note.body) [
       | inl f ↦
           let few = few_first s hs split.0 z.note.time late f due.cause in
-          let e : cause_of z.note.body ≡ it.cause = ap cause_of it.is in omega (arith, few, e)
+          let e : cause_of z.note.body ≡ it.cause = ap cause_of it.is in omega arith
       | inr other ↦
           let none = no_cause s (hs ++ split.0) it.device (amount z.note.time) it.state it.cause it.why (ap is_follower (sym it.is) ∙ other)
           (subst (λ b. IsCaused s (hs ++ split.0) z.note.time b) it.is due.cause) in
-          omega (arith, none)
+          omega arith
     ]
 
 follows_it : (body : NoteBody) (k : ℕ) → ((rank body ≡ 7) × (cause_of body ≡ k)) ⊎ (rank body ≡ 7 → cause_of body ≡ k → ⊥)
@@ -212,7 +212,7 @@ module _ {s : Scenario} {hs front back : List Happening} {now r : ℕ} {more : L
   two_at t c d e now_is =
       let n = before_it hs front in
       let at = now ∷ r ∷ more in
-      let inside : (y : Happening) → IsIn y c → IsIn y back = λ y i. subst (λ l. IsIn y l) (sym e) (in_left y c d i) in
+      let inside : (y : Happening) → IsIn y c → IsIn y back = λ y i. rw e (in_left y c d i) in
       let it : IsPlaced now at c w = record {
         now = p.at;
         of_time = λ y i. well.of_now y (in_right y front back (inside y i));
@@ -220,9 +220,8 @@ module _ {s : Scenario} {hs front back : List Happening} {now r : ℕ} {more : L
         least = p.least;
         takes = p.takes;
       } in
-      subst (λ u. AreNear s u n at w.note.body (hs ++ (front ++ c)) (hs ++ (front ++ w ∷ c))) (sym now_is)
-      (subst (λ l. AreNear s now n at w.note.body l (hs ++ (front ++ w ∷ c))) (append_assoc hs front c)
-      (subst (λ l. AreNear s now n at w.note.body ((hs ++ front) ++ c) l) (append_assoc hs front (w ∷ c)) (two_placed s (hs ++ front) it)))
+      rw now_is (rw (append_assoc hs front c) at (rw (append_assoc hs front (w ∷ c)) at (two_placed s (hs ++ front)
+      it)))
 
   -- each that is behind it is of no event, and stands behind its source
   late_back : (h : Happening) → IsIn h back → (2 ≤ rank h.note.body) × (is_at_source h.note.body ≡ false)
@@ -233,7 +232,7 @@ module _ {s : Scenario} {hs front back : List Happening} {now r : ℕ} {more : L
       let by = well.by (front ++ split.0) split.1 h whole in
       let low = (all_from well h (in_right h front back i)).1 in
       let late = p.late in (
-        omega (arith, low, late),
+        omega arith,
         not_at_source s (hs ++ (front ++ split.0)) now r more w h by.0 p.least (over_it h i) (under_at by.3) by.1,
       )
 
@@ -242,18 +241,18 @@ module _ {s : Scenario} {hs front back : List Happening} {now r : ℕ} {more : L
       → IsDueAs s (hs ++ (front ++ c)) x → IsAsideOf s (hs ++ (front ++ c)) (before_it hs front) (now ∷ r ∷ more) w.note.body x.note.time
       (members_in x) x.note.body by.0
   aside_back c d x e by due =
-      let here : IsIn x back = subst (λ l. IsIn x l) (sym e) (in_right x c (x ∷ d) (inl refl)) in
-      let whole : front ++ back ≡ (front ++ c) ++ x ∷ d = ap (λ (l : List Happening). front ++ l) e ∙ sym (append_assoc front c (x ∷ d)) in
+      let here : IsIn x back = rw e (in_right x c (x ∷ d) (inl refl)) in
+      let whole : front ++ back ≡ (front ++ c) ++ x ∷ d = rw e (sym (append_assoc front c (x ∷ d))) in
       let from : AreFrom now r (front ++ c) = λ z i. all_from well z
-      (subst (λ l. IsIn z l) (sym whole) (in_left z (front ++ c) (x ∷ d) i)) in
+      (rw whole (in_left z (front ++ c) (x ∷ d) i)) in
       let not_there = (late_back x here).1 in
       record {
         not_there = not_there;
         free = p.aside x here;
         few = elim (follower_or_not x.note.body) [
           | inl f ↦ few_first s (hs ++ front) c x.note.time
-              (λ h i. late_back h (subst (λ l. IsIn h l) (sym e) (in_left h c (x ∷ d) i))) f
-              (subst (λ l. IsCaused s l x.note.time x.note.body) (sym (append_assoc hs front c)) due.cause)
+              (λ h i. late_back h (rw e (in_left h c (x ∷ d) i))) f
+              (rw (append_assoc hs front c) due.cause)
           | inr plain ↦ few_at hs front (front ++ c) now r more by.0 p.forward p.late p.given from (well.of_now x (in_right x front back here)) not_there
               (under_at by.3) by.1 due plain
         ];
@@ -266,7 +265,7 @@ module _ {s : Scenario} {hs front back : List Happening} {now r : ℕ} {more : L
   put_from z i =
       elim (in_parts z front (w ∷ back) i) [
         | inl f ↦ (well.of_now z (in_left z front back f), well.after z (in_left z front back f))
-        | inr (inl e) ↦ subst (λ h. (time_of h ≡ now) × (IsBefore (place_of h) (now ∷ r ∷ more) → ⊥)) (sym e) (p.at, p.least)
+        | inr (inl e) ↦ rw e (p.at, p.least)
         | inr (inr b) ↦ (well.of_now z (in_right z front back b), well.after z (in_right z front back b))
       ]
 
@@ -280,7 +279,7 @@ module _ {s : Scenario} {hs front back : List Happening} {now r : ℕ} {more : L
       let js = hs ++ (front ++ w ∷ c) in
       let under : IsBefore at q → ⊥ = λ lt. never_self at (chain at q at lt before) in
       let not_there = not_at_source s js now r more w y q p.least over under own in
-      let inside : (z : Happening) → IsIn z c → IsIn z back = λ z i. subst (λ l. IsIn z l) (sym e) (in_left z c d i) in
+      let inside : (z : Happening) → IsIn z c → IsIn z back = λ z i. rw e (in_left z c d i) in
       let from : AreFrom now r (front ++ w ∷ c) = λ z i.
       let it = put_from z (elim (in_parts z front (w ∷ c) i) [
         | inl f ↦ in_left z front (w ∷ back) f
@@ -293,20 +292,20 @@ module _ {s : Scenario} {hs front back : List Happening} {now r : ℕ} {more : L
         free = λ device yes_it.
             let act = hears_source s js (time_of y) (members_in y) device y.note.body q not_there yes_it own
             ∙ ap (λ (t : ℕ). t ∷ 6 ∷ device.0 ∷ []) now_is in
-            p.apart device (subst (λ u. IsBefore u at) act before);
+            p.apart device (rw act at before);
         few = elim (follower_or_not y.note.body) [
           | inr plain ↦ few_at hs front (front ++ w ∷ c) now r more q p.forward p.late p.given from now_is not_there under own due plain
           | inl f ↦
               let ps = (hs ++ front) ++ w ∷ [] in
               let parts : js ≡ ps ++ c = sym (append_assoc hs front (w ∷ c)) ∙ sym (append_assoc (hs ++ front) (w ∷ []) c) in
               let most = few_first s ps c y.note.time (λ h i. late_back h (inside h i)) f
-              (subst (λ l. IsCaused s l y.note.time y.note.body) parts due.cause) in
+              (rw parts at due.cause) in
               let long = length-append (hs ++ front) (w ∷ []) in
               let one : length (w ∷ []) ≡ 1 = refl in
               elim (cases_order (cause_of y.note.body) (before_it hs front + 1)) [
                 | inl same ↦ absurd (other (ap rank f.is) same)
-                | inr (inl less) ↦ omega (arith, less)
-                | inr (inr over_all) ↦ absurd (omega (arith, over_all, most, long, one))
+                | inr (inl less) ↦ omega arith
+                | inr (inr over_all) ↦ absurd (omega arith)
               ]
         ];
         own = own;
@@ -330,10 +329,10 @@ module _ {s : Scenario} {hs front back : List Happening} {now r : ℕ} {more : L
             (p.before, p.due, p.taken))
         | inr (inr it) ↦
             let c = it.0 in
-            let whole : front ++ back ≡ (front ++ c) ++ y ∷ rest = ap (λ (l : List Happening). front ++ l) it.2 ∙ sym (append_assoc front c (y ∷ rest)) in
+            let whole : front ++ back ≡ (front ++ c) ++ y ∷ rest = rw it.2 (sym (append_assoc front c (y ∷ rest))) in
             let was = well.stands (front ++ c) rest y whole in
             let by = well.by (front ++ c) rest y whole in
-            let here : IsIn y back = subst (λ l. IsIn y l) (sym it.2) (in_right y c (y ∷ rest) (inl refl)) in
+            let here : IsIn y back = rw it.2 (in_right y c (y ∷ rest) (inl refl)) in
             let two = two_at (time_of y) c (y ∷ rest) it.2 (well.of_now y (in_right y front back here)) in
             let aside = aside_back c rest y it.2 by was.1 in
             let due = due_aside two aside was.1 in
@@ -341,11 +340,10 @@ module _ {s : Scenario} {hs front back : List Happening} {now r : ℕ} {more : L
             let source = own_source s (hs ++ (front ++ w ∷ c)) y.note.time (members_in y) y.note.body by.0 aside.not_there due.cause own in
             let all : AllBefore place_of (front ++ w ∷ c) (place_of y) = λ h i. elim (in_parts h front (w ∷ c) i) [
               | inl g ↦ was.0 h (in_left h front c g)
-              | inr (inl same) ↦ subst (λ g. IsBefore (place_of g) (place_of y)) (sym same) (over_it y here)
+              | inr (inl same) ↦ rw same (over_it y here)
               | inr (inr b) ↦ was.0 h (in_right h front c b)
             ] in
-            subst (λ l. AllBefore place_of l (place_of y) × IsDueAs s (hs ++ l) y × ComesUpTo s (hs ++ l) at y) (sym it.1)
-            (all, due, (by.0, own, source, by.3))
+            rw it.1 (all, due, (by.0, own, source, by.3))
       ]
 
   -- ---- and nothing else is due
@@ -358,11 +356,11 @@ module _ {s : Scenario} {hs front back : List Happening} {now r : ℕ} {more : L
       let n = before_it hs front in
       elim (split_two front back w f rest e) [
         | inl it ↦
-            let whole : front ++ back ≡ f ++ (it.0 ++ back) = ap (λ (l : List Happening). l ++ back) it.1 ∙ append_assoc f it.0 back in
+            let whole : front ++ back ≡ f ++ (it.0 ++ back) = rw it.1 (append_assoc f it.0 back) in
             let not_w : IsBefore (place_of w) (place_of y) → ⊥ = none w
-            (subst (λ l. IsIn w l) (sym it.2) (in_right w it.0 (w ∷ back) (inl refl))) in
+            (rw it.2 (in_right w it.0 (w ∷ back) (inl refl))) in
             let least : NoneBefore place_of (it.0 ++ back) (place_of y) = λ h i. elim (in_parts h it.0 back i) [
-              | inl g ↦ none h (subst (λ l. IsIn h l) (sym it.2) (in_left h it.0 (w ∷ back) g))
+              | inl g ↦ none h (rw it.2 (in_left h it.0 (w ∷ back) g))
               | inr b ↦ λ lt. not_w (chain (place_of w) (place_of h) (place_of y) (over_it h b) lt)
             ] in
             elim (well.full f (it.0 ++ back) y whole before least not due now_is q own source under) [
@@ -371,9 +369,9 @@ module _ {s : Scenario} {hs front back : List Happening} {now r : ℕ} {more : L
             ]
         | inr it ↦
             let c = it.0 in
-            let due_c = subst (λ (l : List Happening). IsDueAs s (hs ++ l) y) it.1 due in
-            let own_c = subst (λ (l : List Happening). IsOwnSource s (hs ++ l) (time_of y) (members_in y) y.note.body q) it.1 own in
-            let all : AllBefore place_of (front ++ w ∷ c) (place_of y) = subst (λ l. AllBefore place_of l (place_of y)) it.1 before in
+            let due_c = rw it.1 at due in
+            let own_c = rw it.1 at own in
+            let all : AllBefore place_of (front ++ w ∷ c) (place_of y) = rw it.1 at before in
             elim (follows_it y.note.body (n + 1)) [
               | inl it_follows ↦ carry.new c rest y it.2 due_c now_is it_follows.0 it_follows.1
               | inr other ↦
@@ -384,7 +382,7 @@ module _ {s : Scenario} {hs front back : List Happening} {now r : ℕ} {more : L
                   let was = due_aside two aside due_c in
                   let from = own_aside two aside in
                   let src = own_source s (hs ++ (front ++ c)) y.note.time (members_in y) y.note.body q aside.not_there was.cause from in
-                  let whole : front ++ back ≡ (front ++ c) ++ rest = ap (λ (l : List Happening). front ++ l) it.2 ∙ sym (append_assoc front c rest) in
+                  let whole : front ++ back ≡ (front ++ c) ++ rest = rw it.2 (sym (append_assoc front c rest)) in
                   elim (well.full (front ++ c) rest y whole (λ h i. all h (in_placed front c w h i)) none not was now_is q from src under) [
                     | inr yet ↦ carry.moved c rest y it.2 due_c now_is other yet
                     | inl found ↦ inl (found.0, in_placed front back w found.0 found.1, found.2)
@@ -409,11 +407,11 @@ of_the_instant : (s : Scenario) (js : List Happening) (now r : ℕ) (more : List
     → (IsBefore (place_of y) (now ∷ r ∷ more) → ⊥) → time_of y ≡ now
 of_the_instant s js now r more y q own under not =
     let at = own_time s js (time_of y) (members_in y) y.note.body q own in
-    let low : time_of y ≤ now = elim (subst (λ p. IsBefore p (now ∷ r ∷ more)) at.2 under) [
-      | inl lt ↦ omega (arith, lt)
-      | inr same ↦ let e = same.0 in omega (arith, e)
+    let low : time_of y ≤ now = elim (rw at.2 at under) [
+      | inl lt ↦ omega arith
+      | inr same ↦ omega arith
     ] in
-    elim (cases_lt (time_of y) now) [ inl lt ↦ absurd (not (inl lt)) | inr ge ↦ omega (arith, low, ge) ]
+    elim (cases_lt (time_of y) now) [ inl lt ↦ absurd (not (inl lt)) | inr ge ↦ omega arith ]
 
 -- all that is due from the source itself is there too
 pub settled_by : {s : Scenario} {hs coming : List Happening} {now r : ℕ} {more : List ℕ}
@@ -434,12 +432,12 @@ settled_by {s} {hs} {now} {r} {more} well later worked all =
             was.2,
             elim was.3 [
               | inl lt ↦ stays at was.0 lt
-              | inr same ↦ subst (λ q. IsBefore q (behind at)) (sym same) (before_behind at)
+              | inr same ↦ rw same (before_behind at)
             ],
           );
       full = λ f rest y e before none not due off. elim (up_to_place off.0 at off.3) [
         | inl here ↦ all f rest y e before none due
-            (subst (λ u. IsOwnSource s (hs ++ f) (time_of y) (members_in y) y.note.body u) here off.1)
+            (rw here at off.1)
         | inr under ↦
             elim (well.full f rest y e before none not due (of_the_instant s (hs ++ f) now r more y off.0 off.1 under not) off.0 off.1 off.2 under)
             [ inl found ↦ found | inr never ↦ absurd never ]

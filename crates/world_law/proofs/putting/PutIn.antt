@@ -1,6 +1,6 @@
 -- A record that bears on nothing else is put in: what is settled then.
-use Rattle.world_law.proofs.Words.{◌++◌, ◌∙◌, ◌∷◌, ◌≡◌, ◌≤◌, ◌⊎◌, Happening, IsOwnSource, IsSource, List, NoteBody, Scenario}
-use Rattle.world_law.proofs.Words.{[], ap, arith, inl, inr, rank, refl, subst, sym, ℕ}
+use Rattle.world_law.proofs.Words.{◌++◌, ◌∷◌, ◌≡◌, ◌≤◌, ◌⊎◌, Happening, IsOwnSource, IsSource, List, NoteBody, Scenario}
+use Rattle.world_law.proofs.Words.{[], arith, inl, inr, rank, refl, sym, ℕ}
 use Rattle.run_law.specs.declared.judgement.Why.TheVariants as whys
 use Rattle.run_law.specs.declared.note.NoteBody.TheVariants as notes
 
@@ -9,27 +9,26 @@ use Rattle.run_law.specs.declared.note.NoteBody.TheVariants as notes
 pub split_three : (front more : List Happening) (w : Happening) (f rest : List Happening) (y : Happening) → front ++ w ∷ more ≡ f ++ y ∷ rest
     → ((r : List Happening) × (front ≡ f ++ y ∷ r)) ⊎ (((front ≡ f) × (w ≡ y)) ⊎ ((b : List Happening) × (f ≡ front ++ w ∷ b) × (more ≡ b ++ y ∷ rest)))
 split_three [] more w [] rest y e = inr (inl (refl, cc))
-split_three [] more w (g ∷ f) rest y e = let a : g ≡ w = cc in let b : more ≡ f ++ y ∷ rest = cc in inr (inr (f, ap (λ (x : Happening). x ∷ f) a, b))
-split_three (h ∷ front) more w [] rest y e = let a : h ≡ y = cc in inl (front, ap (λ (x : Happening). x ∷ front) a)
+split_three [] more w (g ∷ f) rest y e = let a : g ≡ w = cc in let b : more ≡ f ++ y ∷ rest = cc in
+    inr (inr (f, rw a, b))
+split_three (h ∷ front) more w [] rest y e = let a : h ≡ y = cc in inl (front, rw a)
 split_three (h ∷ front) more w (g ∷ f) rest y e =
     let a : h ≡ g = cc in
-    let b : front ++ w ∷ more ≡ f ++ y ∷ rest = cc in
-    elim (split_three front more w f rest y b) [
-      | inl it ↦ inl (it.0, ap (λ (l : List Happening). h ∷ l) it.1 ∙ ap (λ (x : Happening). x ∷ (f ++ y ∷ it.0)) a)
-      | inr (inl it) ↦ inr (inl (ap (λ (l : List Happening). h ∷ l) it.0 ∙ ap (λ (x : Happening). x ∷ f) a, it.1))
-      | inr (inr it) ↦ inr (inr (it.0, ap (λ (l : List Happening). g ∷ l) it.1 ∙ ap (λ (x : Happening). x ∷ (front ++ w ∷ it.0)) (sym a), it.2))
+    elim (split_three front more w f rest y cc) [
+      | inl it ↦ inl (it.0, rw it.1 (rw a))
+      | inr (inl it) ↦ inr (inl (rw it.0 (rw a), it.1))
+      | inr (inr it) ↦ inr (inr (it.0, rw it.1 (rw (sym a)), it.2))
     ]
 
 pub split_two : (front more : List Happening) (w : Happening) (f back : List Happening) → front ++ w ∷ more ≡ f ++ back
     → ((r : List Happening) × (front ≡ f ++ r) × (back ≡ r ++ w ∷ more)) ⊎ ((b : List Happening) × (f ≡ front ++ w ∷ b) × (more ≡ b ++ back))
 split_two front more w [] back e = inl (front, refl, sym e)
-split_two [] more w (g ∷ f) back e = let a : g ≡ w = cc in let b : more ≡ f ++ back = cc in inr (f, ap (λ (x : Happening). x ∷ f) a, b)
+split_two [] more w (g ∷ f) back e = let a : g ≡ w = cc in let b : more ≡ f ++ back = cc in inr (f, rw a, b)
 split_two (h ∷ front) more w (g ∷ f) back e =
     let a : h ≡ g = cc in
-    let b : front ++ w ∷ more ≡ f ++ back = cc in
-    elim (split_two front more w f back b) [
-      | inl it ↦ inl (it.0, ap (λ (l : List Happening). h ∷ l) it.1 ∙ ap (λ (x : Happening). x ∷ (f ++ it.0)) a, it.2)
-      | inr it ↦ inr (it.0, ap (λ (l : List Happening). g ∷ l) it.1 ∙ ap (λ (x : Happening). x ∷ (front ++ w ∷ it.0)) (sym a), it.2)
+    elim (split_two front more w f back cc) [
+      | inl it ↦ inl (it.0, rw it.1 (rw a), it.2)
+      | inr it ↦ inr (it.0, rw it.1 (rw (sym a)), it.2)
     ]
 
 -- ---- own sources
@@ -50,4 +49,4 @@ module _ (s : Scenario) (hs : List Happening) where
   own_time t m other w o = (_, _, o, omega arith)
 
   pub at_place : (w : List ℕ) {p : List ℕ} → w ≡ p → IsSource s hs p → IsSource s hs w
-  at_place w e source = subst (λ q. IsSource s hs q) (sym e) source
+  at_place w e source = rw e source

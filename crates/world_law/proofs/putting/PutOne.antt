@@ -3,11 +3,11 @@ use Rattle.world_law.proofs.runs.Settled.{AreSettled, own_here}
 use Rattle.{run_law.specs.timed.Receptions.comes_before, tte_units.proofs.general_lemmas.Naturals.unequal, world_law.proofs.putting.Near.hears}
 use Rattle.std.proofs.lemmas.Bool.{and_left}
 use Rattle.world_law.proofs.Words.{◌&&◌, ◌++◌, ◌+◌, ◌==◌, ◌||◌, ◌∙◌, ◌∷◌, ◌≡◌, ◌≤◌, ◌⊎◌, AllBefore, Bool, ChangesState, DeviceId, Happening}
-use Rattle.world_law.proofs.Words.{Integrating, IsBefore, IsCaused, IsDue, IsFounded, IsIn, IsOwnSource, IsSource, Joining, LinkId, List, NoneBefore, NoteBody}
+use Rattle.world_law.proofs.Words.{IsBefore, IsDue, IsFounded, IsIn, IsOwnSource, IsSource, Joining, LinkId, List, NoneBefore, NoteBody}
 use Rattle.world_law.proofs.Words.{Scenario, Some, State, Units, VlId, What, Why, [], rows_place, and_right, ap, append_assoc, arith, bears_on, before_behind}
-use Rattle.world_law.proofs.Words.{behind, cases_Bool, cases_lt, cases_order, cause_of, eqb-true, false, false_from_ne_true, if◌then◌else◌, inl, inr}
-use Rattle.world_law.proofs.Words.{is_at_source, is_joined_by, is_taken_before, is_turned_on_at, le-ltb, members_in, nat_lt, never_self, numbered}
-use Rattle.world_law.proofs.{Words.{ℕ, place_of, rank, refl, state_after, state_before, subst, suc, sym, time_of, true}, runs.Firsts.earlier_still}
+use Rattle.world_law.proofs.Words.{behind, cases_Bool, cases_lt, cases_order, cause_of, eqb-true, false, false_from_ne_true, inl, inr}
+use Rattle.world_law.proofs.Words.{is_at_source, is_joined_by, is_taken_before, le-ltb, members_in, nat_lt, never_self, numbered}
+use Rattle.world_law.proofs.{Words.{ℕ, place_of, rank, refl, state_before, subst, suc, sym, time_of, true}, runs.Firsts.earlier_still}
 use Rattle.world_law.proofs.putting.PutShown.{AsState, numbered_here, seven}
 use Rattle.world_law.proofs.{giving.GivenParts.some_same, putting.Moving.{IsAllOfIt, IsMoving, off_source}}
 use Rattle.world_law.proofs.Words.{both_ways, in_left, in_parts, in_right}
@@ -35,10 +35,10 @@ module _ (s : Scenario) (js : List Happening) (now m : ℕ) where
       → is_taken_before device vl now link cause now body ≡ false
   takes_not (notes.Accepted other by from of_vl cycle) at o device vl link cause under =
       none_before now device other vl of_vl link by cause from
-      (subst (λ q. IsBefore q (now ∷ 2 ∷ device.0 ∷ link.0 ∷ cause ∷ []) → ⊥) o under)
+      (rw o at under)
   takes_not (notes.Delivered other by from of_vl cycle) at o device vl link cause under =
       none_before now device other vl of_vl link by cause from
-      (subst (λ q. IsBefore q (now ∷ 2 ∷ device.0 ∷ link.0 ∷ cause ∷ []) → ⊥) o under)
+      (rw o at under)
   takes_not other at o device vl link cause under = refl
 
   -- it bears on no device whose correction point is before its source
@@ -92,15 +92,15 @@ module _ (s : Scenario) (js : List Happening) (now k : ℕ) (w : Happening) wher
       → ChangesState s js device now state (suc k) why → Follows s js now w device
   follower_of device state whys.On there event c =
       let same = some_same c.2.1 w _ c.2.2.there there in
-      absurd (event c.2.0 _ (ap (λ (h : Happening). h.note.body) (sym same) ∙ c.2.3))
+      absurd (event c.2.0 _ (ap (λ h. h.note.body) (sym same) ∙ c.2.3))
   follower_of device state whys.Frame there event c =
       let same = some_same c.1.0 w _ c.1.1.there there in
-      record { event = event; of_it = inl (ap (λ (h : Happening). is_joined_by device h.note.body) (sym same) ∙ c.1.2) }
+      record { event = event; of_it = inl (rw (sym same) c.1.2) }
   follower_of device state whys.Correction there event c =
       let same = some_same c.2.3 w _ c.2.4.there there in
-      record { event = event; of_it = inr (c.1, (c.2.0, c.2.1, c.2.2, ap (λ (h : Happening). h.note.body) (sym same) ∙ c.2.5)) }
-  follower_of device state whys.SyncClique there event c = absurd (let e = c.1 in omega (arith, e))
-  follower_of device state whys.AsyncClique there event c = absurd (let e = c.1 in omega (arith, e))
+      record { event = event; of_it = inr (c.1, (c.2.0, c.2.1, c.2.2, rw (sym same) c.2.5)) }
+  follower_of device state whys.SyncClique there event c = absurd (omega arith)
+  follower_of device state whys.AsyncClique there event c = absurd (omega arith)
 
   -- so is one that is due with that cause
   pub due_follows : {y : Happening} → numbered js (suc k) ≡ Some w
@@ -111,22 +111,20 @@ module _ (s : Scenario) (js : List Happening) (now k : ℕ) (w : Happening) wher
     | inr none ↦ absurd (none of_rank)
     | inl it ↦
         let c : it.cause ≡ k + 1 = ap cause_of (sym it.is) ∙ cause in
-        let next : it.cause ≡ suc k = omega (arith, c) in
-        let changes = subst (λ b. IsCaused s js y.note.time b) it.is due.cause in
+        let next : it.cause ≡ suc k = omega arith in
         let at : ChangesState s js it.device now it.state it.cause it.why =
-        subst (λ t. ChangesState s js it.device t it.state it.cause it.why) now_is
-        changes
+        rw now_is at (rw it.is at due.cause)
         in (
           it,
           c,
           follower_of it.device it.state it.why there event
-              (subst (λ n. ChangesState s js it.device now it.state n it.why) next at),
+              (rw next at at),
         )
   ]
 
 -- the record has its number in the list
 pub at_number : (hs front c : List Happening) (w : Happening) → numbered (hs ++ (front ++ w ∷ c)) (suc (before_it hs front)) ≡ Some w
-at_number hs front c w = ap (λ l. numbered l (suc (before_it hs front))) (sym (append_assoc hs front (w ∷ c))) ∙ numbered_here (hs ++ front) c w
+at_number hs front c w = rw (sym (append_assoc hs front (w ∷ c))) (numbered_here (hs ++ front) c w)
 
 -- ---- one record
 
@@ -145,8 +143,8 @@ pub record IsOne (s : Scenario) (hs front back : List Happening) (now r : ℕ) (
   pub aside : (x : Happening) → IsIn x back → (device : DeviceId) → now ∷ r ∷ more ≡ rows_place now device → hears device x.note.body ≡ true → ⊥
 
 from_two : (now r : ℕ) (more : List ℕ) → IsBefore (now ∷ 2 ∷ []) (now ∷ r ∷ more) → 2 ≤ r
-from_two now r more (inl lt) = absurd (omega (arith, lt))
-from_two now r more (inr (e, inl lt)) = omega (arith, lt)
+from_two now r more (inl lt) = absurd (omega arith)
+from_two now r more (inr (e, inl lt)) = omega arith
 from_two now r more (inr (e, inr b)) = omega (arith, b.0)
 
 -- what hears at the instant is aside of what comes from another source
@@ -156,19 +154,18 @@ pub hears_aside : {s : Scenario} {hs coming : List Happening} (f rest : List Hap
     → IsBefore (rows_place now device) (now ∷ r ∷ more) ⊎ (now ∷ r ∷ more ≡ rows_place now device)
 hears_aside {s} {hs} {coming} f rest {now} {r} {more} x device m e yes_it =
     let by = (well_of m).by f rest x e in
-    let now_is = m.are.of_now x (subst (λ l. IsIn x l) (sym e) (Rattle.run_law.proofs.runs.Places.in_right x f (x ∷ rest) (inl refl))) in
-    let i : IsIn x coming = subst (λ l. IsIn x l) (sym e) (Rattle.run_law.proofs.runs.Places.in_right x f (x ∷ rest) (inl refl)) in
+    let now_is = m.are.of_now x (rw e (Rattle.run_law.proofs.runs.Places.in_right x f (x ∷ rest) (inl refl))) in
+    let i : IsIn x coming = rw e (Rattle.run_law.proofs.runs.Places.in_right x f (x ∷ rest) (inl refl)) in
     let act = hears_source s (hs ++ f) (time_of x) (members_in x) device x.note.body by.0 (off_source m x i) yes_it by.1
-    ∙ ap (λ (t : ℕ). t ∷ 6 ∷ device.0 ∷ []) now_is in
+    ∙ (rw now_is) in
     elim by.3 [
-      | inl lt ↦ inl (subst (λ q. IsBefore q (now ∷ r ∷ more)) act lt)
+      | inl lt ↦ inl (rw act at lt)
       | inr same ↦ inr (sym same ∙ act)
     ]
 
 pub placing_one : {s : Scenario} {hs front back : List Happening} {now r : ℕ} {more : List ℕ} {w : Happening} → IsOne s hs front back now r more w → IsPlacing s hs front back now r more w
 placing_one {s} {hs} {front} {back} {now} {r} {more} {w} p =
-    let mine : IsOwnSource s (hs ++ front) now (members_in w) w.note.body (now ∷ r ∷ more) = subst
-    (λ t. IsOwnSource s (hs ++ front) t (members_in w) w.note.body (now ∷ r ∷ more)) p.at p.mine in
+    let mine : IsOwnSource s (hs ++ front) now (members_in w) w.note.body (now ∷ r ∷ more) = rw p.at at p.mine in
     let longer : now ∷ 2 ∷ [] ≡ now ∷ r ∷ more → ⊥ = λ e.
     never_self (now ∷ r ∷ more) (subst (λ q. IsBefore q (now ∷ r ∷ more)) e p.moving.later) in
     record {
@@ -183,12 +180,12 @@ placing_one {s} {hs} {front} {back} {now} {r} {more} {w} p =
       least = least_of_own s (hs ++ front) (time_of w) (members_in w) w.note.body (now ∷ r ∷ more) p.mine;
       taken = (now ∷ r ∷ more, p.mine, p.here, inr refl);
       takes = λ device vl link cause under.
-          subst (λ t. is_taken_before device vl now link cause t w.note.body ≡ false) (sym p.at)
-          (takes_not s (hs ++ front) now (members_in w) w.note.body (now ∷ r ∷ more) mine device vl link cause under);
+          rw p.at (takes_not s (hs ++ front) now (members_in w) w.note.body (now ∷ r ∷ more) mine device vl link cause
+          under);
       apart = apart_of s (hs ++ front) now (members_in w) r more w.note.body mine longer;
       aside = λ x i device yes_it.
           let split = Rattle.run_law.proofs.runs.Places.parted x back i in
-          let whole : front ++ back ≡ (front ++ split.0) ++ x ∷ split.1 = ap (λ (l : List Happening). front ++ l) split.2
+          let whole : front ++ back ≡ (front ++ split.0) ++ x ∷ split.1 = ap (λ l. front ++ l) split.2
           ∙ sym (append_assoc front split.0 (x ∷ split.1)) in
           elim (hears_aside (front ++ split.0) split.1 x device p.moving whole yes_it) [
             | inl lt ↦ apart_of s (hs ++ front) now (members_in w) r more w.note.body mine longer device lt
@@ -203,7 +200,7 @@ module _ {s : Scenario} {hs front back : List Happening} {now r : ℕ} {more : L
         | inl f ↦ p.moving.are.of_now z (in_left z front back f)
         | inr (inl same) ↦ ap time_of same ∙ p.at
         | inr (inr b) ↦ p.moving.are.of_now z (in_right z front back
-            (subst (λ l. IsIn z l) (sym e) (in_left z c d b)))
+            (rw e (in_left z c d b)))
       ]
 
   -- nothing is to be put in yet, and nothing follows it
@@ -218,11 +215,9 @@ module _ {s : Scenario} {hs front back : List Happening} {now r : ℕ} {more : L
           | inl joins ↦ both_ways _ (last.no_join it.0.device) joins
           | inr first ↦
               let late : (z : Happening) → IsIn z (front ++ w ∷ c) → now ≤ time_of z =
-              λ z i. let at = put_now c d e z i in omega (arith, at) in
+              λ z i. let at = put_now c d e z i in omega arith in
               last.no_first it.0.device first.1.0 first.1.1 first.1.2 first.1.3
-              (ap (λ l. if is_turned_on_at s it.0.device now then Integrating else state_after s l
-              it.0.device)
-              (sym (earlier_still now hs (front ++ w ∷ c) late)) ∙ first.0)
+              (rw (sym (earlier_still now hs (front ++ w ∷ c) late)) first.0)
         ]);
   }
 
@@ -237,7 +232,7 @@ pub worked_then : {s : Scenario} {hs front back : List Happening} (then_ : List 
 worked_then {front} {back} then_ {w} p at z i is =
     elim (in_parts z front (w ∷ back) i) [
       | inl f ↦ absurd (not_there (in_left z front back f))
-      | inr (inl e) ↦ subst (λ h. IsBefore (place_of h) then_) (sym e) (at (ap (λ (h : Happening). is_at_source h.note.body) (sym e) ∙ is))
+      | inr (inl e) ↦ rw e (at (rw (sym e) is))
       | inr (inr b) ↦ absurd (not_there (in_right z front back b))
     ]
   where

@@ -19,7 +19,7 @@ pub record AsState (body : NoteBody) : Type 0 where
 -- a record of this rank is a change of state
 pub seven : (body : NoteBody) → AsState body ⊎ (rank body ≡ 7 → ⊥)
 seven (notes.State device state cause why) = inl (record { device = device; state = state; cause = cause; why = why; is = refl })
-seven other = inr (λ e. omega (arith, e))
+seven other = inr (λ e. omega arith)
 
 get_here : (ps rest : List Happening) (w : Happening) → slice_get (ps ++ w ∷ rest) (length ps) ≡ Some w
 get_here [] rest w = refl
@@ -70,7 +70,7 @@ one_shown network hs now body few put =
       parts = put.was;
       before = subst (AllBefore place_of put.front) place put.before;
       none = subst (NoneBefore place_of put.back) place put.none;
-      shows = put.is ∙ ap (λ (w : Happening). put.front ++ w ∷ put.back) (sym same);
+      shows = put.is ∙ (rw (sym same));
     }
 
 -- ---- a record that comes first, and the change of state that follows it: its number is the next
@@ -114,34 +114,34 @@ pub two_shown : (network : Network) (hs : List Happening) (now : ℕ) (body : No
     → IsShownPair network hs now body device state why coming settled
 two_shown network hs now body device state why {coming} few low above sole put put2 =
     let same = same_record network hs [] now body few in
-    let none_first : put.front ≡ [] = first_of put.front put.back (place_of (settled_as network hs now body)) put.before
-    (λ z i. above z (subst (λ l. IsIn z l) (sym put.was) i)) in
-    let rest : put.back ≡ coming = sym (put.was ∙ ap (λ (l : List Happening). l ++ put.back) none_first) in
-    let one_is : w ∷ coming ≡ put2.front ++ put2.back =
-    sym (put.is ∙ ap (λ (l : List Happening). l ++ settled_as network hs now body ∷ put.back) none_first
-    ∙ ap (λ (h : Happening). h ∷ put.back) (sym same) ∙ ap (λ (l : List Happening). w ∷ l) rest) ∙ put2.was in
+    let none_first = first_of put.front put.back (place_of (settled_as network hs now body)) put.before
+    (λ z i. above z (rw put.was i)) in
+    let rest = sym (put.was ∙ ap (λ l. l ++ put.back) none_first) in
+    let one_is =
+    sym (put.is ∙ ap (λ l. l ++ settled_as network hs now body ∷ put.back) none_first
+    ∙ ap (λ h. h ∷ put.back) (sym same) ∙ ap (λ l. w ∷ l) rest) ∙ put2.was in
     let x = behind_it put2.front put2.back one_is put2.none in
     record {
       first = λ z i b. above z i (subst (λ q. IsBefore (place_of z) q) (ap place_of same) b);
       mid = x.0;
       back = put2.back;
       parts = x.2;
-      before = subst (λ l. AllBefore place_of l change_place) x.1 put2.before;
+      before = rw x.1 at put2.before;
       none = put2.none;
       fresh = λ y there e.
           let of_rank : 7 ≡ rank y.note.body = ap second e in
           elim (seven y.note.body) [
             | inr none ↦ none (sym of_rank)
             | inl it ↦
-                let places : change_place ≡ time_of y ∷ 7 ∷ it.device.0 ∷ it.cause ∷ [] = e
+                let places = e
                 ∙ ap (λ b. time_of y ∷ rank b ∷ Rattle.run_law.specs.records.Ranks.key
                 (Rattle.run_law.specs.records.Ranks.members_in y) b) it.is in
                 let cause : length hs + 1 ≡ it.cause = cc in
-                let most = sole y (subst (λ l. IsIn y l) (sym x.2) (in_right y x.0 put2.back there)) it in
-                omega (arith, cause, most)
+                let most = sole y (rw x.2 (in_right y x.0 put2.back there)) it in
+                omega arith
           ];
       shows = put2.is
-          ∙ ap (λ (l : List Happening). l ++ settled_as network hs now (notes.State device state (length hs + 1) why)
+          ∙ ap (λ l. l ++ settled_as network hs now (notes.State device state (length hs + 1) why)
           ∷ put2.back) x.1;
     }
   where
@@ -153,8 +153,8 @@ two_shown network hs now body device state why {coming} few low above sole put p
 
     behind_it : (front back : List Happening) → w ∷ coming ≡ front ++ back → NoneBefore place_of back change_place
         → (mid : List Happening) × (front ≡ w ∷ mid) × (coming ≡ mid ++ back)
-    behind_it [] back e none = absurd (none w (subst (λ l. IsIn w l) e (inl refl)) (inr (refl, inl low)))
+    behind_it [] back e none = absurd (none w (rw (sym e) (inl refl)) (inr (refl, inl low)))
     behind_it (x ∷ mid) back e none =
         let is : w ≡ x = cc in
         let rest : coming ≡ mid ++ back = cc in
-        (mid, ap (λ (h : Happening). h ∷ mid) (sym is), rest)
+        (mid, rw (sym is), rest)

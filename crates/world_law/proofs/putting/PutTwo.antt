@@ -18,8 +18,9 @@ use Rattle.run_law.specs.declared.note.NoteBody.TheVariants as notes
 -- ---- whom the follower is of
 
 joins_device : (device : DeviceId) (body : NoteBody) → is_joined_by device body ≡ true → device_of body ≡ Some device
-joins_device device (notes.Permanent other link cause point judgements.Integrates) e = ap (λ (d : DeviceId). Some d) (one_device device other e)
-joins_device device (notes.Compressed other opened at cycle members judgements.Integrates) e = ap (λ (d : DeviceId). Some d) (one_device device other e)
+joins_device device (notes.Permanent other link cause point judgements.Integrates) e = rw (one_device device other e)
+joins_device device (notes.Compressed other opened at cycle members judgements.Integrates) e =
+    rw (one_device device other e)
 joins_device device other e = absurd cc
 
 pub follows_device : {s : Scenario} {js : List Happening} {now : ℕ} {w : Happening} {device : DeviceId}
@@ -32,8 +33,8 @@ cause_there : (s : Scenario) (js : List Happening) (device : DeviceId) (t : ℕ)
 cause_there s js device t state k whys.On c = (c.2.1, c.2.2.there)
 cause_there s js device t state k whys.Frame c = (c.1.0, c.1.1.there)
 cause_there s js device t state k whys.Correction c = (c.2.3, c.2.4.there)
-cause_there s js device t state k whys.SyncClique c = absurd (let e = c.1 in omega (arith, e))
-cause_there s js device t state k whys.AsyncClique c = absurd (let e = c.1 in omega (arith, e))
+cause_there s js device t state k whys.SyncClique c = absurd (omega arith)
+cause_there s js device t state k whys.AsyncClique c = absurd (omega arith)
 
 due_there : {s : Scenario} {js : List Happening} (k : ℕ) {y : Happening} → IsDueAs s js y → rank y.note.body ≡ 7
     → cause_of y.note.body ≡ k + 1 → (h : Happening) × (numbered js (suc k) ≡ Some h)
@@ -58,11 +59,11 @@ pub record IsPair (s : Scenario) {hs coming settled : List Happening} {now : ℕ
 
 own_of_change : (s : Scenario) (js : List Happening) (t m : ℕ) (device : DeviceId) (state : State) (cause : ℕ) (why : Why)
     → (why ≡ whys.Frame) ⊎ (why ≡ whys.Correction) → IsOwnSource s js t m (notes.State device state cause why) (t ∷ 2 ∷ [])
-own_of_change s js t m device state cause why (inl e) = subst (λ (y : Why). IsOwnSource s js t m (notes.State device state cause y) (t ∷ 2 ∷ [])) (sym e) refl
-own_of_change s js t m device state cause why (inr e) = subst (λ (y : Why). IsOwnSource s js t m (notes.State device state cause y) (t ∷ 2 ∷ [])) (sym e) refl
+own_of_change s js t m device state cause why (inl e) = rw e refl
+own_of_change s js t m device state cause why (inr e) = rw e refl
 
 six_or_less : (r : ℕ) → r ≤ 6 → (6 ≡ r) ⊎ (r < 6)
-six_or_less r le = elim (cases_lt r 6) [ inl lt ↦ inr lt | inr ge ↦ inl (omega (arith, le, ge)) ]
+six_or_less r le = elim (cases_lt r 6) [ inl lt ↦ inr lt | inr ge ↦ inl (omega arith) ]
 
 module _ {s : Scenario} {hs coming settled : List Happening} {now r : ℕ} {more : List ℕ} {body : NoteBody}
     {device : DeviceId} {state : State} {why : Why}
@@ -87,10 +88,10 @@ module _ {s : Scenario} {hs coming settled : List Happening} {now r : ℕ} {more
   at_change {js} {y} there due now_is yet =
       let it = due_follows s js now (length hs) leader there (λ line what e. p.no_event (ap rank e)) due
       now_is yet.0 yet.1 in
-      let same : device ≡ it.0.device = some_same device it.0.device (device_of body) p.is_of (follows_device it.2) in
-      ap (λ (t : ℕ). t ∷ 7 ∷ device.0 ∷ (length hs + 1) ∷ []) (sym now_is)
-      ∙ ap (λ (d : DeviceId). time_of y ∷ 7 ∷ d.0 ∷ (length hs + 1) ∷ []) same
-      ∙ ap (λ (c : ℕ). time_of y ∷ 7 ∷ it.0.device.0 ∷ c ∷ []) (sym it.1)
+      let same = some_same device it.0.device (device_of body) p.is_of (follows_device it.2) in
+      ap (λ t. t ∷ 7 ∷ device.0 ∷ (length hs + 1) ∷ []) (sym now_is)
+      ∙ ap (λ d. time_of y ∷ 7 ∷ d.0 ∷ (length hs + 1) ∷ []) same
+      ∙ ap (λ c. time_of y ∷ 7 ∷ it.0.device.0 ∷ c ∷ []) (sym it.1)
       ∙ sym (ap (λ b. time_of y ∷ rank b ∷ key (members_in y) b) it.0.is)
 
   -- with the first record, all is there but what follows it
@@ -100,8 +101,7 @@ module _ {s : Scenario} {hs coming settled : List Happening} {now r : ℕ} {more
     moved = λ c d y e due now_is other yet. absurd yet;
     new = λ c d y e due now_is of_rank cause. inr (
       of_rank,
-      cause ∙ ap (λ (js : List Happening). length js + 1)
-          (append-nil hs),
+      cause ∙ (rw (append-nil hs)),
     );
   }
 
@@ -109,26 +109,25 @@ module _ {s : Scenario} {hs coming settled : List Happening} {now r : ℕ} {more
   second_carried : IsCarried s hs (leader ∷ q.mid) q.back now change Yet (λ y. ⊥)
   second_carried =
       let n = length hs in
-      let here : IsIn change both = inr (in_right change q.mid (change ∷ q.back) (inl refl)) in
+      let here = inr (in_right change q.mid (change ∷ q.back) (inl refl)) in
       record {
         same = λ f rest y e due now_is yet.
             let found = due_there n due yet.0 yet.1 in
-            let longer = numbered_front (hs ++ f) rest (suc n) found.0 found.1 in
-            let all : (hs ++ f) ++ rest ≡ hs ++ leader ∷ q.mid = append_assoc hs f rest
-            ∙ ap (λ (l : List Happening). hs ++ l) (sym e) in
-            let is_w : found.0 ≡ leader = some_same found.0 leader (numbered (hs ++ leader ∷ q.mid) (suc n))
-            (ap (λ l. numbered l (suc n)) (sym all) ∙ longer) (numbered_here hs q.mid leader) in
-            inl (change, here, at_change (found.1 ∙ ap (λ (h : Happening). Some h) is_w) due now_is yet);
+            let all = append_assoc hs f rest
+            ∙ ap (λ l. hs ++ l) (sym e) in
+            let is_w = some_same found.0 leader (numbered (hs ++ leader ∷ q.mid) (suc n))
+            (rw (sym all) (numbered_front (hs ++ f) rest (suc n) found.0 found.1)) (numbered_here hs q.mid leader) in
+            inl (change, here, at_change (found.1 ∙ (rw is_w)) due now_is yet);
         moved = λ c d y e due now_is other yet.
             inl (change, here, at_change (numbered_here hs (q.mid ++ change ∷ c) leader) due now_is yet);
         new = λ c d y e due now_is of_rank cause.
             let no_event : (line : ℕ) (what : _) → change.note.body ≡ notes.Event line what → ⊥ = λ line what bad.
-            let one = ap rank bad in omega (arith, one) in
+            let one = ap rank bad in omega arith in
             let it = due_follows s (hs ++ leader ∷ (q.mid ++ change ∷ c)) now (before_it hs (leader ∷ q.mid)) change
             (at_number hs (leader ∷ q.mid) c change) no_event due now_is of_rank cause in
             absurd (elim it.2.of_it [
-              | inl joins ↦ let bad : false ≡ true = joins in cc
-              | inr first ↦ let six = ap rank first.1.3 in omega (arith, six)
+              | inl joins ↦ cc
+              | inr first ↦ let six = ap rank first.1.3 in omega arith
             ]);
       }
 
@@ -137,18 +136,17 @@ module _ {s : Scenario} {hs coming settled : List Happening} {now r : ℕ} {more
   apart_two other b = elim (six_or_less r p.low) [
     | inl six ↦ false_from_ne_true (other.0 == device.0) (λ e.
         absurd (never_self (rows_place now device) (subst (λ p_at. IsBefore p_at (rows_place now device))
-        (ap (λ (i : ℕ). now ∷ 6 ∷ i ∷ []) (eqb-true other.0 device.0 e))
+        (ap (λ i. now ∷ 6 ∷ i ∷ []) (eqb-true other.0 device.0 e))
         (subst (λ p_at. IsBefore (rows_place now other) p_at) (p.acts six) b))))
     | inr less ↦ absurd (elim b [
-      | inl lt ↦ omega (arith, lt)
-      | inr (e, inl lt) ↦ omega (arith, lt, less)
-      | inr (e, inr f) ↦ let g = f.0 in omega (arith, g, less)
+      | inl lt ↦ omega arith
+      | inr (e, inl lt) ↦ omega arith
+      | inr (e, inr f) ↦ omega arith
     ])
   ]
 
   placing_two : IsPlacing s hs (leader ∷ q.mid) q.back now r more change
   placing_two =
-      let low = p.low in
       let first = placing_one p.one in
       record {
         forward = first.forward;
@@ -161,9 +159,9 @@ module _ {s : Scenario} {hs coming settled : List Happening} {now r : ℕ} {more
         none = q.none;
         fresh = q.fresh;
         least = λ b. elim b [
-          | inl lt ↦ omega (arith, lt)
-          | inr (e, inl lt) ↦ omega (arith, lt, low)
-          | inr (e, inr f) ↦ let g = f.0 in omega (arith, g, low)
+          | inl lt ↦ omega arith
+          | inr (e, inl lt) ↦ omega arith
+          | inr (e, inr f) ↦ omega arith
         ];
         taken = (
           now ∷ 2 ∷ [],
@@ -176,21 +174,20 @@ module _ {s : Scenario} {hs coming settled : List Happening} {now r : ℕ} {more
         apart = apart_two;
         aside = λ x i other yes_it.
             let split = parted x q.back i in
-            let whole : coming ≡ (q.mid ++ split.0) ++ x ∷ split.1 = q.parts
-            ∙ ap (λ (l : List Happening). q.mid ++ l) split.2
+            let whole = q.parts
+            ∙ ap (λ l. q.mid ++ l) split.2
             ∙ sym (append_assoc q.mid split.0 (x ∷ split.1)) in
             elim (hears_aside (q.mid ++ split.0) split.1 x other p.one.moving whole yes_it) [
               | inl lt ↦ apart_two other lt
-              | inr own ↦ absurd (p.one.aside x (subst (λ l. IsIn x l) (sym q.parts) (in_right x q.mid q.back i))
+              | inr own ↦ absurd (p.one.aside x (rw q.parts (in_right x q.mid q.back i))
                   other own yes_it)
             ];
       }
 
   pub two_well : IsWell s hs both now r more (λ y. ⊥)
   two_well =
-      placed_well {front = leader ∷ q.mid} {back = q.back}
-      (subst (λ l. IsWell s hs (leader ∷ l) now r more Yet) q.parts
-      (placed_well {front = []} {back = coming} (well_of p.one.moving) (placing_one p.one) first_carried))
+      placed_well
+      (rw q.parts at (placed_well (well_of p.one.moving) (placing_one p.one) first_carried))
       placing_two second_carried
 
   -- THE TWO ARE PUT IN, AND THE FRONTIER GOES BEHIND THEIR SOURCE
@@ -200,14 +197,14 @@ module _ {s : Scenario} {hs coming settled : List Happening} {now r : ℕ} {more
       let at = now ∷ r ∷ more in
       let before : (x : Happening) → IsIn x (leader ∷ (q.mid ++ q.back)) → is_at_source x.note.body ≡ true
       → IsBefore (place_of x) (behind at) = λ x there.
-      worked_then {front = []} {back = coming} (behind at) p.one
+      worked_then (behind at) p.one
       (λ is. subst (λ p_at. IsBefore p_at (behind at))
       (own_here s (hs ++ []) now (members_in leader) body at is p.one.mine) (before_behind at))
-      x (subst (λ l. IsIn x (leader ∷ l)) (sym q.parts) there) in
+      x (rw q.parts there) in
       settled_by two_well p.one.moving.later
       (λ z i is. elim (in_parts z (leader ∷ q.mid) (change ∷ q.back) i) [
         | inl f ↦ before z (in_left z (leader ∷ q.mid) q.back f) is
-        | inr (inl e) ↦ absurd (let bad : false ≡ true = ap (λ (h : Happening). is_at_source h.note.body)
+        | inr (inl e) ↦ absurd (let bad : false ≡ true = ap (λ h. is_at_source h.note.body)
             (sym e) ∙ is in cc)
         | inr (inr b) ↦ before z (in_right z (leader ∷ q.mid) q.back b) is
       ]) all

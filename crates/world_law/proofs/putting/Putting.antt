@@ -3,7 +3,7 @@ use Rattle.world_law.proofs.runs.Settled.{AreSettled}
 use Rattle.world_law.proofs.Words.{◌++◌, ◌∙◌, ◌∷◌, ◌≡◌, ◌≤◌, AreOfNetwork, DeviceId, Happening}
 use Rattle.world_law.proofs.Words.{IsHeld, IsIn, IsOwnSource, List, Network, Node, NoteBody, Scenario}
 use Rattle.world_law.proofs.Words.{arith, behind, cause_of, in_left, in_parts, in_right, inl, inr}
-use Rattle.world_law.proofs.Words.{length, members_in, place_of, rank, refl, subst, sym, time_of, true, ℕ}
+use Rattle.world_law.proofs.Words.{length, members_in, place_of, rank, refl, sym, time_of, true, ℕ}
 use Rattle.world_law.proofs.{devices.Borne.moves_no_other, rows.AtHand.idle_taking}
 use Rattle.world_law.proofs.putting.{Bearing.{frames_aside, held_aside, known_aside}, Idle.{IsIdle, idle_bears, idle_rank}}
 use Rattle.world_law.proofs.putting.{Moving.IsAllOfIt, Near.known_cause, PutIn.own_time, PutOne.{IsOne, is_last, last_unfollowed, one_by}}
@@ -34,28 +34,26 @@ module _ {s : Scenario} {hs front back : List Happening} {now r : ℕ} {more : L
       let at = p.one.moving.are.of_now y i in
       let low = at_least y now r more at (p.one.moving.are.after y i) in
       let late = p.late in
-      (at, omega (arith, low, late))
+      (at, omega arith)
 
   put_late : (y : Happening) → IsIn y (front ++ w ∷ back) → (time_of y ≡ now) × (8 ≤ rank y.note.body)
   put_late y i =
       elim (in_parts y front (w ∷ back) i) [
         | inl f ↦ was_late y (in_left y front back f)
-        | inr (inl e) ↦ subst (λ (h : Happening). (time_of h ≡ now) × (8 ≤ rank h.note.body)) (sym e)
-            (p.one.at, idle_rank w.note.body p.idle)
+        | inr (inl e) ↦ rw e (p.one.at, idle_rank w.note.body p.idle)
         | inr (inr b) ↦ was_late y (in_right y front back b)
       ]
 
   all_of_it : IsAllOfIt s hs (front ++ w ∷ back) (now ∷ r ∷ more)
   all_of_it f rest y e before none due own =
       let at = own_time s (hs ++ f) (time_of y) (members_in y) y.note.body (now ∷ r ∷ more) own in
-      let place : now ∷ r ∷ more ≡ time_of y ∷ at.0 ∷ at.1 = at.2 in
       let now_is : now ≡ time_of y = cc in
       let same : r ≡ at.0 = cc in
       let late = p.late in
       let low = at.3 in
-      let high : 8 ≤ rank y.note.body = omega (arith, same, late, low) in
+      let high : 8 ≤ rank y.note.body = omega arith in
       let few = known_cause s hs f y.note.time y.note.body p.one.moving.forward p.one.given
-      (λ h i. let it = put_late h (subst (λ l. IsIn h l) (sym e) (in_left h f rest i)) in (it.0 ∙ now_is, it.1)) high due.cause in
+      (λ h i. let it = put_late h (rw e (in_left h f rest i)) in (it.0 ∙ now_is, it.1)) high due.cause in
       (w, in_right w front (w ∷ back) (inl refl), p.own f y due few (sym now_is) own)
 
   pub settled_put : AreSettled s hs (front ++ w ∷ back) (now ∷ r ∷ more) (behind (now ∷ r ∷ more)) now
@@ -66,7 +64,7 @@ module _ {s : Scenario} {hs front back : List Happening} {now r : ℕ} {more : L
 pub known_put : {s : Scenario} (hs front back : List Happening) (w : Happening) → IsIdle w.note.body
     → AreOfNetwork s (hs ++ (front ++ back)) → AreOfNetwork s (hs ++ (front ++ w ∷ back))
 known_put {s} hs front back w idle =
-    known_aside {s = s} hs front back w (λ device le. moves_no_other device w.note.body
+    known_aside hs front back w (λ device le. moves_no_other device w.note.body
     (idle_bears device w.note.body idle))
 
 pub held_put : {M : Type 0} {stands : M → Network → DeviceId → Node → Type 0} {s : Scenario} {hs : List Happening}

@@ -53,15 +53,15 @@ module _ {C M : Type 0} {reading : C → ℕ → ℕ} {stands : M → Network �
   -- and by some of those to come too
   by_coming : IsNext old at_it → (front back : List Happening) → world.settled ≡ front ++ back → (w : List ℕ)
       → IsSource s (hs_of ++ front) w → IsBefore w at_it → IsBefore w old.frontier
-  by_coming x [] back e w source lt = by_given x w (subst (λ l. IsSource s l w) (append-nil hs_of) source) lt
+  by_coming x [] back e w source lt = by_given x w (rw (append-nil hs_of) at source) lt
   by_coming x (f ∷ front) back e w source lt =
       let inside : (y : Happening) → IsIn y (f ∷ front) → IsIn y world.settled =
-      λ y i. subst (λ l. IsIn y l) (sym e) (in_left y (f ∷ front) back i) in
+      λ y i. rw e (in_left y (f ∷ front) back i) in
       elim (source_back hs_of (f ∷ front) world.now r more old.forward (λ y i. old.are.of_now y (inside y i))
       (λ y i. x.after y (inside y i)) source (inr lt)) [
         | inl old_one ↦ by_given x w old_one lt
         | inr (inl early) ↦ old.of_now w early
-        | inr (inr same) ↦ subst (λ p. IsBefore p old.frontier) (sym same) (old.are.begun f (inside f (inl refl)))
+        | inr (inr same) ↦ rw same (old.are.begun f (inside f (inl refl)))
       ]
 
   goes_up : IsNext old at_it → IsGoing s hs_of old.frontier at_it (λ p. ⊥)
@@ -117,7 +117,7 @@ module _ {C M : Type 0} {reading : C → ℕ → ℕ} {stands : M → Network �
             (k.0, k.1, held_moves g stands (λ never. never) (λ task never. never) k.2);
         told = told;
         wires = wires_move g world.wires
-            (subst (λ b. AreOnWires s hs_of old.frontier world.now b world.wires) told old.wires)
+            (rw told at old.wires)
             (λ e. (λ i. (i, λ never. never), λ both. both.0));
         ports = ports_move g world.ports old.ports (λ e. (λ i. (i, λ never. never), λ both. both.0));
         waiting = waiting_moves g (λ t ws never. never) old.waiting;
@@ -128,9 +128,9 @@ module _ {C M : Type 0} {reading : C → ℕ → ℕ} {stands : M → Network �
       → StandsHere reading stands s world notes r more
   comes_first later at waits first = stands_here (record {
     later = later;
-    waits = λ b. waits (subst (λ q. IsBefore q old.frontier) (sym at) b);
+    waits = λ b. waits (rw at b);
     first = subst (NoSourceBefore s hs_of old.frontier) at first.none;
-    after = λ z there b. first.after z there (subst (λ q. IsBefore (place_of z) q) (sym at) b);
+    after = λ z there b. first.after z there (rw at b);
   })
 
 module _ {C M : Type 0} {reading : C → ℕ → ℕ} {stands : M → Network → DeviceId → Node → Type 0} {s : Scenario}
@@ -150,8 +150,8 @@ module _ {C M : Type 0} {reading : C → ℕ → ℕ} {stands : M → Network �
     λ b.
         absurd (elim (no_higher world.now 14 world.now r (device.0 ∷ []) more
         (up_to_place (clock_place world.now device) here b)) [
-          | inl less ↦ omega (arith, less)
-          | inr same ↦ omega (arith, same.1, low)
+          | inl less ↦ omega arith
+          | inr same ↦ omega (arith, same.1)
         ]),
     λ less. let place = clock_place world.now device in stays here place (c.on place ((c.old.shown device lt ended).1 less)),
   )
@@ -193,9 +193,8 @@ module _ {C M : Type 0} {reading : C → ℕ → ℕ} {stands : M → Network �
       × IsHeld stands s hs settled (behind here) world.now other machine
   devices_then device {after} {machines} {settled} own set held others other lt = elim (cases_eq other.0 device.0) [
     | inl e ↦
-        let same : device ≡ other = ap (λ (k : ℕ). let d : DeviceId = record { 0 = k } in d) (sym e) in
-        subst (λ (d : DeviceId). (x : M) × (slice_get machines d.0 ≡ Some x)
-        × IsHeld stands s hs settled (behind here) world.now d x) same (after, set.there, held)
+        let same : device ≡ other = rw (sym e) in
+        rw (sym same) (after, set.there, held)
     | inr not ↦
         let k = c.devices other lt in
         (k.0, set.same other.0 not ∙ k.1, others other k.0 not (device_still (own other not) k.2))
@@ -247,9 +246,9 @@ module _ {C M : Type 0} {reading : C → ℕ → ℕ} {stands : M → Network �
         room = room;
         known = known;
         devices = devices;
-        early = λ fresh. absurd (let bad : false ≡ true = fresh in cc);
+        early = λ fresh. absurd (cc);
         untold = untold_on;
-        wires = subst (λ b. AreOnWires s hs (behind here) world.now b wires) (sym c.told) on_wires;
+        wires = rw c.told on_wires;
         ports = at_ports;
         waiting = awaited;
         stored = old.stored;
@@ -268,7 +267,7 @@ module _ {C M : Type 0} {reading : C → ℕ → ℕ} {stands : M → Network �
       here
   acts_on {machines} high low room are known devices =
       stands_on machines world.shown room are known devices
-      (wires_still (λ two. omega (arith, two, high)))
-      (ports_still (λ eight. omega (arith, eight, low)))
-      (waiting_still (λ three. omega (arith, three, high)))
-      (shown_still (omega (arith, low)))
+      (wires_still (λ two. omega arith))
+      (ports_still (λ eight. omega arith))
+      (waiting_still (λ three. omega arith))
+      (shown_still (omega arith))

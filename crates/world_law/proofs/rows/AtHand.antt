@@ -4,12 +4,12 @@ use Rattle.schedule_tables.specs.Windows.{OccursIn}
 use Rattle.std.proofs.lemmas.{Bool.cases_eq, Grind.flat_map-append}
 use Rattle.std.specs.Option.{IsSomeAnd}
 use Rattle.tte_units.proofs.general_lemmas.{Bools.turned, Lists.{last_if, last_more}}
-use Rattle.world_law.proofs.Words.{IsEntry, IsIn, IsInRange, IsSteady, KeepsRules, List, Network, Node, None, NoteBody, Option, Reaches, Row, RowId}
-use Rattle.world_law.proofs.Words.{Scenario, Some, TakenFrame, Units, VlId, ℕ, ℤ, [], adjustment_after, adjustment_before, amount, and_parts, ap}
+use Rattle.world_law.proofs.Words.{IsEntry, IsIn, IsInRange, IsSteady, KeepsRules, List, Network, Node, None, NoteBody, Option, Reaches, RowId}
+use Rattle.world_law.proofs.Words.{Scenario, Some, TakenFrame, VlId, ℕ, ℤ, [], adjustment_after, adjustment_before, amount, and_parts, ap}
 use Rattle.world_law.proofs.Words.{append-nil, arith, cases_Bool, cases_lt, dispatching, earlier, eqb-true, false, filter, filter-append, frames_taken}
 use Rattle.world_law.proofs.Words.{if◌then◌else◌, in_filter, in_parts, inl, inr, is_accepted, is_end, last_in, last_or, le-ltb, local_before, lt-ltb}
-use Rattle.world_law.proofs.Words.{nat_lt, option_map_or, plains, pos, refl, source_of, subst, sym, taken_by, time_of, true, value_of}
-use Rattle.world_law.proofs.Words.{◌&&◌, ◌*◌, ◌++◌, ◌+ℤ◌, ◌+◌, ◌<ℤ◌, ◌<◌, ◌==◌, ◌∙◌, ◌∷◌, ◌≡◌, ◌≤◌, ◌⊎◌, Bool, DeviceId, Entry, Happening, HasAtHand}
+use Rattle.world_law.proofs.Words.{nat_lt, plains, pos, refl, source_of, sym, taken_by, time_of, true, value_of}
+use Rattle.world_law.proofs.Words.{◌*◌, ◌++◌, ◌+ℤ◌, ◌+◌, ◌<ℤ◌, ◌<◌, ◌==◌, ◌∙◌, ◌∷◌, ◌≡◌, ◌≤◌, ◌⊎◌, Bool, DeviceId, Entry, Happening, HasAtHand}
 use Rattle.world_law.proofs.{devices.Plains.{adjustments_plain, earlier_plain}, putting.Idle.{IsIdle, drop_one}, runs.FoundedAs.AreFoundedAs}
 use Rattle.world_law.{proofs.rows.Reached.{IsForwarded, accepted_at, below_value, delivered_at, none_at_value}, specs.device.Takings.taken_in}
 use Rattle.run_law.specs.declared.note.NoteBody.TheVariants as notes
@@ -32,12 +32,9 @@ last_step : (device : DeviceId) (vl : VlId) (at : ℕ → ℤ) (o : Option Taken
 last_step device vl at o p h (notes.Accepted other link from of_vl cycle) is none last =
     elim (cases_Bool (device.0 == other.0)) [
       | inr apart ↦
-          subst (λ (b : Bool). IsLastBy device vl at (last_or o (filter (is_of vl) (if b then frame ∷ [] else [])))
-          (if (b && vl.0 == of_vl.0) then Some h else p)) (sym apart) last
+          rw apart last
       | inl mine ↦
-          subst (λ (b : Bool). IsLastBy device vl at (last_or o (filter (is_of vl) (if b then frame ∷ [] else [])))
-          (if (b && vl.0 == of_vl.0) then Some h else p)) (sym mine)
-          (of_mine (ap (λ (n : ℕ). let d : DeviceId = record { 0 = n } in d) (eqb-true device.0 other.0 mine)))
+          rw mine (of_mine (rw (eqb-true device.0 other.0 mine)))
     ]
   where
     frame : TakenFrame
@@ -47,24 +44,19 @@ last_step device vl at o p h (notes.Accepted other link from of_vl cycle) is non
     of_mine one =
         elim (cases_Bool (vl.0 == of_vl.0)) [
           | inr apart ↦
-              subst (λ (b : Bool). IsLastBy device vl at (last_or o (if of_vl.0 == vl.0 then frame ∷ [] else [])) (if b then Some h else p)) (sym apart)
-              (subst (λ (b : Bool). IsLastBy device vl at (last_or o (if b then frame ∷ [] else [])) p) (sym (turned vl.0 of_vl.0 false apart)) last)
+              rw apart (rw (turned vl.0 of_vl.0 false apart) last)
           | inl same ↦
-              let vls : vl ≡ of_vl = ap (λ (n : ℕ). let x : VlId = record { 0 = n } in x) (eqb-true vl.0 of_vl.0 same) in
-              let said : h.note.body ≡ notes.Accepted device link from vl cycle = is ∙ ap (λ (d : DeviceId). notes.Accepted d link from of_vl cycle) (sym one)
-              ∙ ap (λ (x : VlId). notes.Accepted device link from x cycle) (sym vls) in
-              let it : IsLastBy device vl at (Some frame) (Some h) = (link, from, said, refl) in
-              subst (λ (b : Bool). IsLastBy device vl at (last_or o (if of_vl.0 == vl.0 then frame ∷ [] else [])) (if b then Some h else p)) (sym same)
-              (subst (λ (b : Bool). IsLastBy device vl at (last_or o (if b then frame ∷ [] else [])) (Some h)) (sym (turned vl.0 of_vl.0 true same)) it)
+              let vls : vl ≡ of_vl = rw (eqb-true vl.0 of_vl.0 same) in
+              let said = is ∙ ap (λ d. notes.Accepted d link from of_vl cycle) (sym one)
+              ∙ ap (λ x. notes.Accepted device link from x cycle) (sym vls) in
+              rw same (rw (turned vl.0 of_vl.0 true same) (link, from, said, refl))
         ]
 last_step device vl at o p h (notes.Delivered other link from of_vl cycle) is none last =
     elim (cases_Bool (device.0 == other.0)) [
       | inr apart ↦
-          let frame : TakenFrame = record { vl = of_vl; cycle = cycle; at = at (time_of h) } in
-          subst (λ (b : Bool). IsLastBy device vl at (last_or o (filter (is_of vl) (if b then frame ∷ [] else []))) p) (sym apart) last
+          rw apart last
       | inl mine ↦
-          absurd (none link from of_vl cycle (ap (λ (n : ℕ). let d : DeviceId = record { 0 = n } in notes.Delivered d link from of_vl cycle)
-          (sym (eqb-true device.0 other.0 mine))))
+          absurd (none link from of_vl cycle (rw (sym (eqb-true device.0 other.0 mine))))
     ]
 last_step device vl at o p h other is none last = last
 
@@ -82,8 +74,7 @@ last_by device vl at (h ∷ hs) o p last none =
     let frames : last_or o (filter (is_of vl) (here ++ more)) ≡ last_or (last_or o (filter (is_of vl) here)) (filter (is_of vl) more) =
     ap (last_or o) (filter-append (is_of vl) here more) ∙ last_more o (filter (is_of vl) here) (filter (is_of vl) more) in
     let records = last_if (is_accepted device vl h.note.body) p h (filter (λ g. is_accepted device vl g.note.body) hs) in
-    subst (λ (x : Option TakenFrame). IsLastBy device vl at x (last_or p (filter (λ g. is_accepted device vl g.note.body) (h ∷ hs)))) (sym frames)
-    (subst (λ x. IsLastBy device vl at (last_or (last_or o (filter (is_of vl) here)) (filter (is_of vl) more)) x) (sym records) rest)
+    rw frames (rw records rest)
 
 -- ---- records that are all earlier
 
@@ -101,8 +92,8 @@ accepts device vl (notes.Accepted other link from of_vl cycle) e =
       link,
       from,
       cycle,
-      ap (λ (n : ℕ). let d : DeviceId = record { 0 = n } in notes.Accepted d link from of_vl cycle) (sym (eqb-true device.0 other.0 parts.0))
-          ∙ ap (λ (n : ℕ). let x : VlId = record { 0 = n } in notes.Accepted device link from x cycle) (sym (eqb-true vl.0 of_vl.0 parts.1)),
+      rw (sym (eqb-true device.0 other.0 parts.0))
+          (rw (sym (eqb-true vl.0 of_vl.0 parts.1))),
     )
 accepts device vl other e = absurd cc
 
@@ -124,8 +115,7 @@ pub record IsReaching (s : Scenario) (hs : List Happening) (device : DeviceId) (
 -- the row's value
 pub value_is : {network : Network} (row : RowId) {entry : Entry} (cycle : ℕ) → IsEntry network row.0 entry
     → value_of network (dispatching row cycle) ≡ pos (cycle * amount network.cycle + amount entry.row.offset)
-value_is {network} row cycle is = ap (λ (o : Option Row). pos
-    (cycle * amount network.cycle + option_map_or (λ (r : Row). amount r.offset) o 0)) is.row
+value_is {network} row cycle is = rw is.row
 
 module _ {s : Scenario} {hs : List Happening} {device : DeviceId} {node : Node} {row : RowId} {entry : Entry}
     {cycle t : ℕ} (r : IsReaching s hs device node row entry cycle t)
@@ -137,9 +127,8 @@ module _ {s : Scenario} {hs : List Happening} {device : DeviceId} {node : Node} 
         | inl lt ↦ lt
         | inr ge ↦
             let it = accepts device entry.row.vl h.note.body e in
-            let le = r.past h i in
             absurd (none_at_value cycle r.range r.rules r.steady r.founded f r.reached h it.0 it.1 it.2 i
-            (omega (arith, ge, le)) it.3)
+            (omega arith) it.3)
       ]
 
   -- at a switch, the last record of a taking is of an earlier time, and the node's frame is that of the record
@@ -147,16 +136,11 @@ module _ {s : Scenario} {hs : List Happening} {device : DeviceId} {node : Node} 
       (last_taken_frame node entry.row.vl) (last_accepted hs device entry.row.vl t)
   last_at switch =
       let vl = entry.row.vl in
-      let at = local_before s hs device in
-      let sooner = taken_sooner in
-      let same = filter_earlier (λ h. is_accepted device vl h.note.body) t hs sooner in
-      let last = last_by device vl at hs None None tt (λ h i link from of_vl of_cycle e.
-      (let bad : false ≡ true = sym switch ∙ delivered_at s hs h device link from of_vl of_cycle r.founded i e in
+      let same = filter_earlier (λ h. is_accepted device vl h.note.body) t hs taken_sooner in
+      let last = last_by device vl (local_before s hs device) hs None None tt (λ h i link from of_vl of_cycle e.
+      (let bad = sym switch ∙ delivered_at s hs h device link from of_vl of_cycle r.founded i e in
       cc)) in
-      subst (λ l. IsLastBy device vl at (last_or None (filter (is_of vl) l))
-      (last_accepted hs device vl t)) (sym r.taken)
-      (subst (λ (l : List Happening). IsLastBy device
-      vl at (last_or None (filter (is_of vl) (frames_taken s hs device))) (last_or None l)) (sym same) last)
+      rw r.taken (rw same last)
 
 -- two ids are one device's or not
 pub sender_or : (d e : DeviceId) → (d ≡ e) ⊎ (d ≡ e → ⊥)
@@ -173,8 +157,7 @@ has_frame {s} {hs} {device} {node} {row} {entry} {cycle} {t} r occurs (inr took)
       | inl sender ↦ record { entry = entry; is = r.is; leaves = r.leaves; occurs = occurs; has = inl sender }
       | inr other ↦
           let f : IsForwarded s.network device row.0 entry = record { is = r.is; leaves = r.leaves; other = other } in
-          let last = subst (λ o. IsLastBy device entry.row.vl (local_before s hs device) (last_taken_frame node entry.row.vl) o)
-          took.1.last (last_at r f took.0) in
+          let last = rw took.1.last at (last_at r f took.0) in
           record {
             entry = entry;
             is = r.is;
@@ -188,20 +171,15 @@ has_frame {s} {hs} {device} {node} {row} {entry} {cycle} {t} r occurs (inr took)
         → IsSomeAnd o (λ taking. (taking.cycle ≡ cycle) × (taking.at <ℤ value_of s.network (dispatching row cycle)))
     by f None last = absurd last
     by f (Some taking) last =
-        let body : notes.Accepted device took.1.link took.1.from entry.row.vl cycle ≡ notes.Accepted device last.0 last.1 entry.row.vl taking.cycle =
-        sym took.1.is ∙ last.2 in
-        let number : taking.cycle ≡ cycle = cc in
         let i : IsIn took.1.taken hs = elim (last_in None (filter (λ h. is_accepted device entry.row.vl h.note.body) (earlier t hs)) took.1.taken took.1.last) [
           | inl none ↦ absurd cc
           | inr i ↦ in_filter _ hs took.1.taken (in_filter _ (earlier t hs) took.1.taken i)
         ] in
         let at = accepted_at s hs took.1.taken device took.1.link took.1.from entry.row.vl cycle r.founded i took.1.is in
-        let below = below_value {cycle = cycle} {z = local_before s hs device (time_of took.1.taken)} r.range r.rules
+        let below = below_value r.range r.rules
         f at in (
-          number,
-          subst (λ z. z <ℤ value_of s.network (dispatching row cycle)) (sym last.3)
-              (subst (λ z. local_before s hs device (time_of took.1.taken) <ℤ z)
-              (sym (value_is row cycle r.is)) below),
+          cc,
+          rw last.3 (rw (value_is row cycle r.is) below),
         )
 
 -- and what the node has is at hand by them
@@ -214,8 +192,7 @@ at_hand {s} {hs} {device} {node} {row} {cycle} {t} has r =
       | inr other ↦ elim has.has [
         | inl sender ↦ absurd (other sender)
         | inr took ↦
-            let f : IsForwarded s.network device row.0 has.entry = record { is = r.is; leaves = r.leaves; other = other } in
-            let last = last_at r f took.0 in
+            let last = last_at r (record { is = r.is; leaves = r.leaves; other = other }) took.0 in
             by took.0 (last_taken_frame node has.entry.row.vl) took.1.last (last_accepted hs device has.entry.row.vl t) refl last
       ]
     ]
@@ -233,7 +210,7 @@ at_hand {s} {hs} {device} {node} {row} {cycle} {t} has r =
           number = refl;
           link = last.0;
           from = last.1;
-          is = last.2 ∙ ap (λ (n : ℕ). notes.Accepted device last.0 last.1 has.entry.row.vl n) there.0;
+          is = last.2 ∙ (rw there.0);
         } in
         (h.note.number, inr (switch, accepted))
 
@@ -254,25 +231,25 @@ pub taken_same : (device : DeviceId) (at other : ℕ → ℤ) (hs : List Happeni
     → taken_by device at hs ≡ taken_by device other hs
 taken_same device at other [] same = refl
 taken_same device at other (h ∷ hs) same =
-    ap (λ z. taken_in device z h.note.body ++ taken_by device at hs) (same h (inl refl))
-    ∙ ap (λ (l : List TakenFrame). taken_in device (other (time_of h)) h.note.body ++ l) (taken_same device at other hs (λ g i. same g (inr i)))
+    rw (same h (inl refl))
+    (rw (taken_same device at other hs (λ g i. same g (inr i))))
 
 -- records by which it takes none
 pub taken_none : (device : DeviceId) (at : ℕ → ℤ) (hs : List Happening) → ((h : Happening) → IsIn h hs → IsNoTaking device h.note.body)
     → taken_by device at hs ≡ []
 taken_none device at [] none = refl
 taken_none device at (h ∷ hs) none =
-    ap (λ (l : List TakenFrame). l ++ taken_by device at hs) (none h (inl refl) (at (time_of h))) ∙ taken_none device at hs (λ g i. none g (inr i))
+    rw (none h (inl refl) (at (time_of h))) (taken_none device at hs (λ g i. none g (inr i)))
 
 -- ---- numbers do not count
 
 taken_plain : (device : DeviceId) (at : ℕ → ℤ) (hs : List Happening) → taken_by device at (plains hs) ≡ taken_by device at hs
 taken_plain device at [] = refl
-taken_plain device at (h ∷ hs) = ap (λ (l : List TakenFrame). taken_in device (at (time_of h)) h.note.body ++ l) (taken_plain device at hs)
+taken_plain device at (h ∷ hs) = rw (taken_plain device at hs)
 
 local_plain : (s : Scenario) (hs : List Happening) (device : DeviceId) (t : ℕ) → local_before s (plains hs) device t ≡ local_before s hs device t
 local_plain s hs device t =
-    ap (λ (u : Units). pos (s.reading device t) +ℤ u.0)
+    ap (λ u. pos (s.reading device t) +ℤ u.0)
     (ap (λ l. adjustment_after s l device) (earlier_plain t hs) ∙ adjustments_plain s (earlier t hs) device)
 
 -- the frames that the device took, by the records without numbers
@@ -283,7 +260,7 @@ frames_plain s hs device =
 
 -- so records that differ in these alone say the same
 pub frames_by_others : (s : Scenario) (hs gs : List Happening) (device : DeviceId) → plains hs ≡ plains gs → frames_taken s hs device ≡ frames_taken s gs device
-frames_by_others s hs gs device same = sym (frames_plain s hs device) ∙ ap (λ l. frames_taken s l device) same ∙ frames_plain s gs device
+frames_by_others s hs gs device same = sym (frames_plain s hs device) ∙ (rw same (frames_plain s gs device))
 
 -- ---- one more record
 
@@ -291,7 +268,7 @@ frames_by_others s hs gs device same = sym (frames_plain s hs device) ∙ ap (λ
 before_put : (s : Scenario) (ps bs : List Happening) (w : Happening) (device : DeviceId) (t : ℕ) → t ≤ time_of w
     → adjustment_before s (ps ++ w ∷ bs) device t ≡ adjustment_before s (ps ++ bs) device t
 before_put s ps bs w device t le =
-    ap (λ l. adjustment_after s l device) (drop_one (λ h. nat_lt (time_of h) t) ps bs w (le-ltb (time_of w) t le))
+    rw (drop_one (λ h. nat_lt (time_of h) t) ps bs w (le-ltb (time_of w) t le))
 
 -- what the device takes by a record that leaves its adjustment as it was before the time of each other
 frames_among : (s : Scenario) (ps bs : List Happening) (w : Happening) (device : DeviceId)
@@ -302,14 +279,13 @@ frames_among : (s : Scenario) (ps bs : List Happening) (w : Happening) (device :
 frames_among s ps bs w device same sooner =
     let old = local_before s (ps ++ bs) device in
     let new = local_before s (ps ++ w ∷ bs) device in
-    let shows : (t : ℕ) → t ≤ time_of w → new t ≡ old t = λ t le. ap (λ (u : Units). pos (s.reading device t) +ℤ u.0) (same t le) in
+    let shows : (t : ℕ) → t ≤ time_of w → new t ≡ old t = λ t le. rw (same t le) in
     let in_front : (h : Happening) → IsIn h ps → IsIn h (ps ++ bs) = λ h i. front_in h ps bs i in
     let in_back : (h : Happening) → IsIn h bs → IsIn h (ps ++ bs) = λ h i. back_in h ps bs i in
     taken_parts device new ps (w ∷ bs)
-    ∙ ap (λ (l : List TakenFrame). l ++ taken_by device new (w ∷ bs)) (taken_same device new old ps (λ h i. shows (time_of h) (sooner h (in_front h i))))
-    ∙ ap (λ (l : List TakenFrame). taken_by device old ps ++ (taken_in device (new (time_of w)) w.note.body ++ l))
-    (taken_same device new old bs (λ h i. shows (time_of h) (sooner h (in_back h i))))
-    ∙ ap (λ z. taken_by device old ps ++ (taken_in device z w.note.body ++ taken_by device old bs)) (shows (time_of w) (omega arith))
+    ∙ (rw (taken_same device new old ps (λ h i. shows (time_of h) (sooner h (in_front h i))))
+    ((rw (taken_same device new old bs (λ h i. shows (time_of h) (sooner h (in_back h i))))
+    ((rw (shows (time_of w) (omega arith)))))))
   where
     front_in : (h : Happening) (xs ys : List Happening) → IsIn h xs → IsIn h (xs ++ ys)
     front_in h [] ys i = absurd i
@@ -333,19 +309,19 @@ frames_with s ps bs w device none sooner =
     let old = local_before s (ps ++ bs) device in
     let now = taken_in device (old (time_of w)) w.note.body in
     let behind = taken_none device old bs none in
-    let whole : frames_taken s (ps ++ bs) device ≡ taken_by device old ps = taken_parts device old ps bs
-    ∙ ap (λ (l : List TakenFrame). taken_by device old ps ++ l) behind ∙ append-nil (taken_by device old ps) in
+    let whole = taken_parts device old ps bs
+    ∙ ap (λ l. taken_by device old ps ++ l) behind ∙ append-nil (taken_by device old ps) in
     frames_among s ps bs w device (λ t le. before_put s ps bs w device t le) sooner
-    ∙ ap (λ (l : List TakenFrame). taken_by device old ps ++ (now ++ l)) behind
-    ∙ ap (λ (l : List TakenFrame). taken_by device old ps ++ l) (append-nil now)
-    ∙ ap (λ (l : List TakenFrame). l ++ now) (sym whole)
+    ∙ (rw behind
+    ((rw (append-nil now)
+    ((rw (sym whole))))))
 
 -- the same of a record at the end
 pub frames_end : (s : Scenario) (hs : List Happening) (w : Happening) (device : DeviceId) → IsNoTaking device w.note.body
     → ((h : Happening) → IsIn h hs → time_of h ≤ time_of w) → frames_taken s (hs ++ w ∷ []) device ≡ frames_taken s hs device
 frames_end s hs w device none sooner =
     frames_put s hs [] w device none (λ h i. elim (in_parts h hs [] i) [ inl front ↦ sooner h front | inr back ↦ absurd back ])
-    ∙ ap (λ l. frames_taken s l device) (append-nil hs)
+    ∙ (rw (append-nil hs))
 
 -- ---- a record that bears on nothing, put in
 

@@ -8,11 +8,11 @@ use Rattle.tte_units.specs.declared.speed.Speed.TheVariants.{Gbit1, Mbit100}
 use Rattle.tte_units.{proofs.general_lemmas.Lists.in_all, specs.OctetTime.octet_time, specs.declared.speed.Speed.Speed}
 use Rattle.world_law.proofs.Words.{Happening, HasAtHand, HasDone, HasTaskAt, IsAtCorrection, IsBefore, IsDue, IsEntry, IsFounded, IsIn, IsInRange, IsLeft}
 use Rattle.world_law.proofs.Words.{IsSteady, KeepsRules, Link, LinkId, List, Network, Node, None, Note, Option, Reaches, RowId, Scenario, Some, Stands}
-use Rattle.world_law.proofs.Words.{Synchronised, Up, VlId, Way, World, ℕ, ℤ, amount, ap, arith, before_later, both_ways, cases_lt, device_at, dispatch_body}
+use Rattle.world_law.proofs.Words.{Up, VlId, Way, World, ℕ, ℤ, amount, ap, arith, before_later, both_ways, cases_lt, device_at, dispatch_body}
 use Rattle.world_law.proofs.Words.{dispatching, doing, false, frames_taken, happenings, in_parts, in_right, inl, inr, ints, is_end, link_at, local_before}
 use Rattle.world_law.proofs.Words.{◌*◌, ◌++◌, ◌+◌, ◌<◌, ◌^◌, ◌∙◌, ◌∷◌, ◌≡◌, ◌≤◌, AllBefore, AreComing, Device, DeviceId, Dispatches, Down, Entry}
 use Rattle.world_law.proofs.rows.{AtHand.{IsReaching, at_hand, has_frame, value_is}, Reached.{ShowsAt, cycles_apart, row_ends, shows_at}}
-use Rattle.world_law.proofs.{Words.{option_map_or, place_of, pos, refl, subst, sym, task_place, time_of, true, value_of}, devices.OwnRecords.state_still}
+use Rattle.world_law.proofs.{Words.{option_map_or, place_of, pos, refl, sym, task_place, time_of, true, value_of}, devices.OwnRecords.state_still}
 use Rattle.world_law.proofs.{acts.Acting.{IsUnmoved, comes_so, undone_so}, devices.Passes.not_turned_on, frames.Masters.ends_differ, putting.PutIn.split_two}
 use Rattle.world_law.{proofs.runs.FoundedAs.{AreFoundedAs, as_founded}, specs.world.World.IsDueAs}
 use Rattle.tte_units.proofs.general_lemmas.Integers.{whole as not_negative}
@@ -30,12 +30,12 @@ founded_with s hs coming frontier founded within stands after ps qs x e =
       | inr old ↦ as_founded s hs founded ps old.0 x old.1
       | inl new ↦
           let it = stands new.0 qs x new.2 in
-          let there : IsIn x coming = subst (λ l. IsIn x l) (sym new.2) (in_right x new.0 (x ∷ qs) (inl refl)) in (
-            λ y i. elim (in_parts y hs new.0 (subst (λ l. IsIn y l) new.1 i)) [
+          let there : IsIn x coming = rw new.2 (in_right x new.0 (x ∷ qs) (inl refl)) in (
+            λ y i. elim (in_parts y hs new.0 (rw new.1 at i)) [
               | inl given ↦ before_later (place_of y) (place_of x) frontier (within y given) (after x there)
               | inr fresh ↦ it.0 y fresh
             ],
-            subst (λ l. IsDueAs s l x) (sym new.1) it.1,
+            rw new.1 it.1,
           )
     ]
 
@@ -77,11 +77,10 @@ pub dispatching_task : {s : Scenario} {hs : List Happening} {device : DeviceId} 
     (task_place s.network later device (doing (dispatching (record { 0 = d.place }) cycle)))
 dispatching_task {s} {hs} {device} {t} {later} {node} {cycle} u left has law past taken d =
     let row = row_at d.place in
-    let value = value_is row cycle d.row in
     let reached : Reaches s hs device (value_of s.network (dispatching row cycle)) later =
-    subst (λ z. Reaches s hs device z later) (sym value) d.reached in
+    rw (value_is row cycle d.row) d.reached in
     let c = comes_so s hs device t later node u left reached in
-    let state : node.standing.state ≡ Synchronised = left.state ∙ not_turned_on s hs device t u.not_on ∙ sym (state_still s hs device t later u.le u.still)
+    let state = left.state ∙ not_turned_on s hs device t u.not_on ∙ sym (state_still s hs device t later u.le u.still)
     ∙ sym (not_turned_on s hs device later u.not_on_later) ∙ d.up.synchronised in
     let r : IsReaching s hs device node row d.entry cycle later = record {
       range = law.range;
@@ -93,12 +92,11 @@ dispatching_task {s} {hs} {device} {t} {later} {node} {cycle} u left has law pas
       is = d.row;
       leaves = d.leaves;
       reached = d.reached;
-    } in
-    let frame = has_frame r d.occurs d.at_hand in (
+    } in (
       doing (dispatching row cycle),
       (
         left.counted.broken ∙ sym u.not_broken ∙ d.up.correct,
-        undone_so s hs device t later node (dispatching row cycle) u.le has (state, frame) c,
+        undone_so s hs device t later node (dispatching row cycle) u.le has (state, has_frame r d.occurs d.at_hand) c,
       ),
       c.reached,
       refl,
@@ -115,8 +113,8 @@ pub dispatches_so : {s : Scenario} {hs : List Happening} {device : DeviceId} {t 
     × ((d : Dispatches s hs device t has.entry.row.link cause has.entry.row.vl cycle) × (d.place ≡ row.0))
 dispatches_so {s} {hs} {device} {t} {row} {cycle} law past taken up has r =
     let reached : Reaches s hs device (pos (cycle * amount s.network.cycle + amount has.entry.row.offset)) t =
-    subst (λ z. Reaches s hs device z t) (value_is row cycle has.is) r in
-    let it = at_hand {s = s} {hs = hs} {t = t} has (record {
+    rw (value_is row cycle has.is) at r in
+    let it = at_hand has (record {
       range = law.range;
       rules = law.rules;
       steady = law.steady;
@@ -161,9 +159,10 @@ pub row_apart : {network : Network} {place : ℕ} {entry : Entry} → KeepsRules
 row_apart {network} {place} {entry} rules is =
     let begun = begun_below (amount entry.row.offset + 1) place entry rules is (omega arith) in
     let start = in_all
-    (λ (l : Link). amount network.correction + amount network.dmax + 4 * amount network.precision + pcf_port_time l ≤ amount network.tt_start)
+    (λ l. amount network.correction + amount network.dmax + 4 * amount network.precision + pcf_port_time l ≤ amount
+    network.tt_start)
     network.link entry.row.link.0 entry.link (rules ScheduleStart 0).begins is.link in
-    record { begins = omega (arith, begun, start); ends = row_ends rules is }
+    record { begins = omega arith; ends = row_ends rules is }
 
 -- the precision is not 0
 pub precise : {network : Network} → IsInRange network → 1 ≤ amount network.precision
@@ -185,7 +184,6 @@ pub no_row_with : {s : Scenario} {hs : List Happening} {device : DeviceId} {t : 
     → point ≤ amount s.network.correction → Reaches s hs device (pos (of_point * amount s.network.cycle + point)) t
     → Reaches s hs device (pos (cycle * amount s.network.cycle + amount entry.row.offset)) t → ⊥
 no_row_with {s} point of_point cycle range rules steady is early one two =
-    let n = s.network in
     apart_so point of_point cycle (row_apart rules is) early (precise range) (shows_at steady one)
     (shows_at steady two)
 
@@ -209,7 +207,7 @@ long_for length Gbit1 = omega arith
 far_before : (network : Network) (entry other : Entry) → IsClearBefore network entry other → amount entry.row.offset + 2 ^ 22 ≤ amount other.row.offset
 far_before network entry other clear =
     let long = long_for entry.vl.length entry.link.speed in
-    omega (arith, clear, long)
+    omega arith
 
 same_link : (a b : Link) → Some a ≡ Some b → a ≡ b
 same_link a b e = cc
@@ -220,9 +218,9 @@ same_way : (network : Network) (link : LinkId) (l m : Link) (way other : Way) (d
 same_way network link l m Up Up device rules a b c d = refl
 same_way network link l m Down Down device rules a b c d = refl
 same_way network link l m Up Down device rules a b c d =
-    absurd (ends_differ network link l rules a (c ∙ sym d ∙ ap (λ (x : Link). x.parent) (same_link m l (sym b ∙ a))))
+    absurd (ends_differ network link l rules a (c ∙ sym d ∙ (rw (same_link m l (sym b ∙ a)))))
 same_way network link l m Down Up device rules a b c d =
-    absurd (ends_differ network link l rules a (ap (λ (x : Link). x.child) (same_link l m (sym a ∙ b)) ∙ d ∙ sym c))
+    absurd (ends_differ network link l rules a (ap (λ x. x.child) (same_link l m (sym a ∙ b)) ∙ d ∙ sym c))
 
 -- ---- one row at an instant
 
@@ -246,7 +244,6 @@ pub one_row : {s : Scenario} {js : List Happening} {device : DeviceId} {t : ℕ}
 one_row {s} {js} {device} {t} other from with {cycle} number law same d e =
     let n = s.network in
     let size = amount n.cycle in
-    let p = amount n.precision in
     let z = local_before s js device t in
     let some = precise law.range in
     let x = amount d.entry.row.offset in
@@ -257,33 +254,33 @@ one_row {s} {js} {device} {t} other from with {cycle} number law same d e =
       | inl lt ↦ absurd (one_cycle size cycle number x y (row_apart law.rules d.row).ends some first second lt)
       | inr ge ↦ elim (cases_lt number cycle) [
         | inl gt ↦ absurd (one_cycle size number cycle y x (row_apart law.rules e.row).ends some second first gt)
-        | inr le ↦ omega (arith, ge, le)
+        | inr le ↦ omega arith
       ]
     ] in
     let near = fine law.steady in
     let one = shows_at near d.reached in
-    let two = subst (λ k. ShowsAt z (pos (k * size + y)) (2 ^ 22)) (sym cycles) (shows_at near e.reached) in
+    let two = rw (sym cycles) at (shows_at near e.reached) in
     let less = close size cycle x y one two in
     let more = close size cycle y x two one in
-    let links : d.entry.row.link ≡ e.entry.row.link = d.by ∙ same ∙ sym e.by in
-    let ways : d.entry.row.way ≡ e.entry.row.way = same_way n e.entry.row.link d.entry.link e.entry.link d.entry.row.way e.entry.row.way device law.rules
-    (subst (λ l. link_at n l ≡ Some d.entry.link) links d.row.link) e.row.link d.leaves e.leaves in
-    let occurs = subst (λ (k : ℕ). Rattle.schedule_tables.specs.Windows.OccursIn e.entry.vl k) (sym cycles) e.occurs in
+    let links = d.by ∙ same ∙ sym e.by in
+    let ways = same_way n e.entry.row.link d.entry.link e.entry.link d.entry.row.way e.entry.row.way device law.rules
+    (rw links at d.row.link) e.row.link d.leaves e.leaves in
+    let occurs = rw (sym cycles) at e.occurs in
     let a = (law.rules Periods d.entry.row.vl.0 d.entry.vl d.row.vl).0 in
     let b = (law.rules Periods e.entry.row.vl.0 e.entry.vl e.row.vl).0 in (
       elim (cases_lt d.place e.place) [
         | inl lt ↦ absurd (elim (law.rules Spacing e.place d.place d.entry e.entry lt d.row e.row (sym links) (sym ways)
             (occur_together b a occurs d.occurs)) [
-              | inl clear ↦ let far = far_before n d.entry e.entry clear in omega (arith, far, less)
-              | inr clear ↦ let far = far_before n e.entry d.entry clear in omega (arith, far, more)
+              | inl clear ↦ let far = far_before n d.entry e.entry clear in omega arith
+              | inr clear ↦ let far = far_before n e.entry d.entry clear in omega arith
             ])
         | inr ge ↦ elim (cases_lt e.place d.place) [
           | inl gt ↦ absurd (elim (law.rules Spacing d.place e.place e.entry d.entry gt e.row d.row links ways
               (occur_together a b d.occurs occurs)) [
-                | inl clear ↦ let far = far_before n e.entry d.entry clear in omega (arith, far, more)
-                | inr clear ↦ let far = far_before n d.entry e.entry clear in omega (arith, far, less)
+                | inl clear ↦ let far = far_before n e.entry d.entry clear in omega arith
+                | inr clear ↦ let far = far_before n d.entry e.entry clear in omega arith
               ])
-          | inr le ↦ omega (arith, ge, le)
+          | inr le ↦ omega arith
         ]
       ],
       cycles,
@@ -291,7 +288,8 @@ one_row {s} {js} {device} {t} other from with {cycle} number law same d e =
 
 -- ---- what tells of it
 
-some_end : (o : Option Device) → IsSomeAnd o (λ d. is_end_system d.role ≡ true) → option_map_or (λ (d : Device). is_end_system d.role) o false ≡ true
+some_end : (o : Option Device) → IsSomeAnd o (λ d. is_end_system d.role ≡ true) → option_map_or
+    (λ d. is_end_system d.role) o false ≡ true
 some_end None x = absurd x
 some_end (Some d) x = x
 
@@ -301,11 +299,11 @@ pub one_hand : {network : Network} {js : List Happening} {device : DeviceId} {pl
     → HasAtHand network js device entry t cause cycle → HasAtHand network js device entry t from cycle → cause ≡ from
 one_hand rules is (inl a) (inl b) = a.1 ∙ sym b.1
 one_hand {network} {device} {entry} rules is (inl a) (inr b) =
-    absurd (both_ways (is_end network device) b.0 (subst (λ d. is_end network d ≡ true) a.0
-    (some_end (device_at network entry.vl.sender) (rules Senders entry.row.vl.0 entry.vl is.vl))))
+    absurd (both_ways (is_end network device) b.0 (rw
+    a.0 at (some_end (device_at network entry.vl.sender) (rules Senders entry.row.vl.0 entry.vl is.vl))))
 one_hand {network} {device} {entry} rules is (inr a) (inl b) =
-    absurd (both_ways (is_end network device) a.0 (subst (λ d. is_end network d ≡ true) b.0
-    (some_end (device_at network entry.vl.sender) (rules Senders entry.row.vl.0 entry.vl is.vl))))
+    absurd (both_ways (is_end network device) a.0 (rw
+    b.0 at (some_end (device_at network entry.vl.sender) (rules Senders entry.row.vl.0 entry.vl is.vl))))
 one_hand rules is (inr a) (inr b) = grind arith
 
 -- one row of one cycle is told alike
@@ -315,13 +313,11 @@ pub told_alike : {s : Scenario} {js : List Happening} {device : DeviceId} {t : �
     → d.place ≡ e.place → cycle ≡ number → dispatch_body s device t link cause vl cycle
     ≡ dispatch_body s device t other from with number
 told_alike {s} {js} {device} {t} {link} other {cause} from {vl} with {cycle} number rules d e place cycles =
-    let entries : d.entry ≡ e.entry = one_entry s.network e.place d.entry e.entry (subst (λ k. IsEntry s.network k d.entry) place d.row) e.row in
-    let links : link ≡ other = sym d.by ∙ ap (λ (x : Entry). x.row.link) entries ∙ e.by in
-    let vls : vl ≡ with = sym d.of_vl ∙ ap (λ (x : Entry). x.row.vl) entries ∙ e.of_vl in
-    let hand : HasAtHand s.network js device e.entry t cause number = subst (λ x. HasAtHand s.network js device x t cause number) entries
-    (subst (λ k. HasAtHand s.network js device d.entry t cause k) cycles d.at_hand) in
-    let causes : cause ≡ from = one_hand rules e.row hand e.at_hand in
-    ap (λ l. dispatch_body s device t l cause vl cycle) links
-    ∙ ap (λ c. dispatch_body s device t other c vl cycle) causes
-    ∙ ap (λ v. dispatch_body s device t other from v cycle) vls
-    ∙ ap (λ k. dispatch_body s device t other from with k) cycles
+    let entries = one_entry s.network e.place d.entry e.entry (rw place at d.row) e.row in
+    let links = sym d.by ∙ ap (λ x. x.row.link) entries ∙ e.by in
+    let vls = sym d.of_vl ∙ ap (λ x. x.row.vl) entries ∙ e.of_vl in
+    let hand : HasAtHand s.network js device e.entry t cause number = rw entries at (rw cycles at d.at_hand) in
+    rw links
+    (rw (one_hand rules e.row hand e.at_hand)
+    ((rw vls
+    ((rw cycles)))))

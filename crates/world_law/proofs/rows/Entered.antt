@@ -1,6 +1,6 @@
 -- What a device found of a time-triggered frame that it took: a row of its virtual link enters the device, the cycle of its
 -- clock was one from 1 on, and the place in the cycle was not behind the row's window.
-use Rattle.{net_plan.proofs.SameIds.one_link, world_law.proofs.Words.{slice_get_within, standpoint, subst, sym, target_by, timed, timed_arrival, true, ℕ, ℤ}}
+use Rattle.{net_plan.proofs.SameIds.one_link, world_law.proofs.Words.{slice_get_within, standpoint, sym, target_by, timed, timed_arrival, true, ℕ, ℤ}}
 use Rattle.{pcf_codec.specs.{Fields.field, declared.refusal.PcfRefusal.PcfRefusal}, run_law.specs.scenario.{Devices.{is_parent_of, is_relay}, Ways.receiver_of}}
 use Rattle.{run_law.proofs.control.Verdicts.none_first, schedule_tables.specs.Windows.window_end, std.specs.Int.{int_div_euclid, int_rem_euclid}}
 use Rattle.{run_law.proofs.scenario.Ways.one_way, schedule_tables.{proofs.Entries.entry_by, specs.Entries.target_of}, std.proofs.Math.Nat.{div-add-mod, mod-lt}}
@@ -8,7 +8,7 @@ use Rattle.run_law.specs.{control.Arrivals.{frame_fault, frame_or_fault}, device
 use Rattle.run_law.specs.timed.Arrivals.{entry_arrival, entry_entering, octets_fault, octets_or_fault, row_fault, taken_or_fault}
 use Rattle.{std.proofs.{Common.{◌%◌, ◌/◌}, lemmas.Bool.{leb-true, not-false, or_parts}}, tte_units.proofs.general_lemmas.{Integers.not_less, Lists.find_at}}
 use Rattle.std.specs.Prelude.{Err, Result}
-use Rattle.world_law.proofs.Words.{◌*◌, ◌+◌, ◌<◌, ◌==◌, ◌∙◌, ◌≡◌, ◌≤ℤ◌, ◌≤◌, Arrival, ArrivesAs, Bool, DeviceId, Down, Entry, Happening, IsEntry, Link, LinkId}
+use Rattle.world_law.proofs.Words.{◌*◌, ◌+◌, ◌<◌, ◌==◌, ◌≡◌, ◌≤ℤ◌, ◌≤◌, Arrival, ArrivesAs, Bool, DeviceId, Down, Entry, Happening, IsEntry, Link, LinkId}
 use Rattle.world_law.proofs.Words.{List, Network, None, Ok, Option, Pcf, Reason, Scenario, Signal, Some, Standpoint, Units, Up, VlId, Way, and_parts, ap, arith}
 use Rattle.world_law.proofs.Words.{arrival_of, cases_Bool, control, control_arrival, eq-eqb, eqb-true, false, if◌then◌else◌, int_lt, is_end, last_taken, length}
 use Rattle.world_law.proofs.Words.{link_at, local_before, nat_le, negsuc, not, option_and_then, option_map, option_map_or, pos, refl, slice_get}
@@ -109,7 +109,7 @@ module _ (network : Network) (device : DeviceId) (link : LinkId) where
             is = it.is;
             of_vl = so.0;
             target = it.target;
-            begun = subst (λ n. 1 ≤ n) so.1 lies.0;
+            begun = rw so.1 at lies.0;
             in_cycle = so.1;
             in_time = lies.1;
           }
@@ -163,8 +163,8 @@ module _ (network : Network) (device : DeviceId) (link : LinkId) where
       by_row entry found (Some reason) t = absurd ((none_dropped reason).1 vl cycle t)
       by_row entry found None t =
           let it = entering network device link way (field 4 2 octets) entry received found in
-          subst (λ (v : VlId). v.0 < length network.vl) (own (is_end network device) entry.row.vl _ t)
-          (slice_get_within network.vl entry.row.vl.0 entry.vl it.is.vl)
+          rw (own (is_end network device) entry.row.vl _ t) at (slice_get_within network.vl entry.row.vl.0 entry.vl
+          it.is.vl)
 
       by_entry : (o : Option Entry) → entry_entering network device link (field 4 2 octets) ≡ o
           → entry_arrival network device at (length octets) last o ≡ arrivals.Delivered vl cycle → vl.0 < length
@@ -213,9 +213,9 @@ pub value_in : (z : ℤ) (size cycle : ℕ) → 1 ≤ size → 1 ≤ cycle → n
     × (z ≡ pos (cycle * size + place)) × (int_rem_euclid z (pos size) ≡ pos place)
 value_in (pos a) size cycle some begun e =
     let parts = div-add-mod a size in
-    let turned : size * (a / size) ≡ cycle * size = ap (λ n. size * n) e ∙ omega arith in
-    (a % size, mod-lt a {m = size} some, ap (λ n. pos n) (omega (arith, parts, turned)), refl)
-value_in (negsuc a) size cycle some begun e = absurd (let none : 0 ≡ cycle = e in omega (arith, none, begun))
+    let turned : size * (a / size) ≡ cycle * size = rw e (omega arith) in
+    (a % size, mod-lt a {m = size} some, ap (λ n. pos n) (omega arith), refl)
+value_in (negsuc a) size cycle some begun e = absurd (omega arith)
 
 -- the virtual link of a frame that is delivered is the network's
 pub delivered_of : (s : Scenario) (front : List Happening) (device : DeviceId) (t : ℕ) (link : LinkId) (cause : ℕ) (vl : VlId) (cycle : ℕ)

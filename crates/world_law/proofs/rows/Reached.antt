@@ -1,11 +1,11 @@
 -- A device's clock reaches a value: what it shows then, and what it has taken by then.
 use Rattle.{world_law.proofs.runs.FoundedAs.{AreFoundedAs, IsFoundedAs, founded_as}, schedule_tables.specs.Windows.window_end, std.proofs.Math.Nat.mul-le-mul_right}
-use Rattle.{run_law.specs.device.Standpoints.{natural, offset_in_cycle}, tte_units.proofs.general_lemmas.Naturals.same_heads}
+use Rattle.{run_law.specs.device.Standpoints.{offset_in_cycle}, tte_units.proofs.general_lemmas.Naturals.same_heads}
 use Rattle.{schedule_tables.specs.declared.rule.Rule.TheVariants.{Forwarding, WindowEnds}, tte_units.proofs.general_lemmas.Integers.{whole as not_negative}}
-use Rattle.std.specs.Int.{int_div_euclid, int_rem_euclid}
+use Rattle.std.specs.Int.{int_rem_euclid}
 use Rattle.world_law.proofs.{devices.Resting.in_order, runs.Firsts.earlier_still}
 use Rattle.world_law.proofs.Words.{◌*◌, ◌+ℤ◌, ◌+◌, ◌-ℤ◌, ◌-◌, ◌<ℤ◌, ◌<◌, ◌∙◌, ◌∷◌, ◌≡◌, ◌≤ℤ◌, ◌≤◌, DeviceId, Entry, Happening, IsCaused, IsEntry}
-use Rattle.world_law.proofs.Words.{IsIn, IsInRange, IsSteady, KeepsRules, List, Network, Reaches, Scenario, VlId, adjustment_after}
+use Rattle.world_law.proofs.Words.{IsIn, IsInRange, IsSteady, KeepsRules, List, Network, Reaches, Scenario, VlId}
 use Rattle.world_law.proofs.Words.{adjustment_before, amount, ap, arith, cases_lt, changed_at, earlier, inl, inr, ints, is_end, local_before}
 use Rattle.world_law.proofs.{Words.{pos, source_of, subst, sym, time_of, true, ℕ, ℤ}, rows.Entered.{IsTakenAt, delivered_end, taken_at, value_in}}
 use Rattle.run_law.specs.declared.note.NoteBody.TheVariants as notes
@@ -18,7 +18,7 @@ pub record ShowsAt (z v : ℤ) (precision : ℕ) : Type 0 where
   pub most : z <ℤ (v +ℤ pos precision)
 
 shown_so : (v a : ℤ) (r q precision : ℕ) → (v -ℤ a) ≤ℤ pos r → pos q <ℤ (v -ℤ a) → r < q + precision → ShowsAt (pos r +ℤ a) v precision
-shown_so v a r q precision reached before jump = record { least = omega (arith, ints, reached); most = omega (arith, ints, before, jump) }
+shown_so v a r q precision reached before jump = record { least = omega (arith, ints); most = omega (arith, ints) }
 
 -- so it does where its clock reaches the value
 pub shows_at : {s : Scenario} {hs : List Happening} {device : DeviceId} {v : ℤ} {t precision : ℕ}
@@ -27,18 +27,16 @@ pub shows_at : {s : Scenario} {hs : List Happening} {device : DeviceId} {v : ℤ
 shows_at {s} {hs} {device} {v} {t} {precision} steady r =
     let c = changed_at hs device t in
     let a = (adjustment_before s hs device t).0 in
-    let from = r.reach.from_on in
-    let reached : (v -ℤ a) ≤ℤ pos (s.reading device t) = r.reach.reached in
     elim (cases_lt c t) [
       | inr ge ↦
-          let same : c ≡ t = omega (arith, ints, from, ge) in
-          let below : (pos (s.reading device t) +ℤ a) <ℤ v = subst (λ (n : ℕ). (pos (s.reading device n) +ℤ a) <ℤ v) same r.below in
-          absurd (omega (arith, ints, reached, below))
+          let same : c ≡ t = omega (arith, ints) in
+          let below : (pos (s.reading device t) +ℤ a) <ℤ v = rw same at r.below in
+          absurd (omega (arith, ints))
       | inl lt ↦
-          let before = r.reach.not_before (t - 1) (omega (arith, ints, lt)) (omega (arith, ints, lt)) in
-          let again : t - 1 + 1 ≡ t = omega (arith, lt) in
-          let jump = subst (λ (n : ℕ). s.reading device n < s.reading device (t - 1) + precision) again (steady.no_jump (t - 1)) in
-          shown_so v a (s.reading device t) (s.reading device (t - 1)) precision reached before jump
+          let before = r.reach.not_before (t - 1) (omega (arith, ints)) (omega (arith, ints)) in
+          let again : t - 1 + 1 ≡ t = omega arith in
+          let jump = rw again at (steady.no_jump (t - 1)) in
+          shown_so v a (s.reading device t) (s.reading device (t - 1)) precision r.reach.reached before jump
     ]
 
 -- ---- the records of takings
@@ -48,11 +46,10 @@ same_clock : {s : Scenario} {hs : List Happening} {h : Happening} (device : Devi
     → (at : IsFoundedAs s hs h) → local_before s at.front device (time_of h) ≡ local_before s hs device (time_of h)
 same_clock {s} {hs} {h} device founded at =
     let later : (g : Happening) → IsIn g (h ∷ at.rest) → time_of h ≤ time_of g = λ g i. elim i [
-      | inl e ↦ let same : time_of g ≡ time_of h = ap time_of e in omega (arith, same)
+      | inl e ↦ let same : time_of g ≡ time_of h = ap time_of e in omega arith
       | inr more ↦ in_order hs (λ front rest x e. (founded front rest x e).0) at.front at.rest h at.whole g more
     ] in
-    ap (λ l. pos (s.reading device (time_of h)) +ℤ (adjustment_after s l device).0)
-    (sym (earlier_still (time_of h) at.front (h ∷ at.rest) later) ∙ ap (earlier (time_of h)) (sym at.whole))
+    rw (sym (earlier_still (time_of h) at.front (h ∷ at.rest) later) ∙ ap (earlier (time_of h)) (sym at.whole))
 
 module _ (s : Scenario) (hs : List Happening) (h : Happening) (device : DeviceId) (link : _) (cause : ℕ) (vl : VlId)
     (cycle : ℕ) (founded : AreFoundedAs s hs) (i : IsIn h hs) where
@@ -63,8 +60,8 @@ module _ (s : Scenario) (hs : List Happening) (h : Happening) (device : DeviceId
       let at = founded_as s hs h founded i in
       let caused : IsCaused s at.front h.note.time (notes.Accepted device link cause vl cycle) =
       subst (IsCaused s at.front h.note.time) body at.due.cause in
-      subst (λ z. IsTakenAt s.network device vl cycle z) (same_clock {s = s} {hs = hs} {h = h} device founded at)
-      (taken_at s at.front device (time_of h) link cause vl cycle caused)
+      rw (same_clock {s = s} {hs = hs} {h = h} device founded at) at (taken_at s at.front device (time_of h) link cause
+      vl cycle caused)
 
   -- and one that was delivered came to an end system
   pub delivered_at : h.note.body ≡ notes.Delivered device link cause vl cycle → is_end s.network device ≡ true
@@ -93,11 +90,10 @@ pub shown_at : {network : Network} {device : DeviceId} {vl : VlId} {cycle : ℕ}
     → (it : IsTakenAt network device vl cycle z) → IsShownAt network it.entry cycle z
 shown_at {network} {cycle} {z} range it =
     let sized = cycle_is range in
-    let number : natural (int_div_euclid z (pos (amount network.cycle))) ≡ cycle = ap (λ (y : ℤ). natural (int_div_euclid z y)) (sym sized.0) ∙ it.in_cycle in
-    let v = value_in z (amount network.cycle) cycle sized.1 it.begun number in
+    let v = value_in z (amount network.cycle) cycle sized.1 it.begun (rw (sym sized.0) it.in_cycle) in
     let place : offset_in_cycle network z ≡ pos v.0 = ap (int_rem_euclid z) sized.0 ∙ v.3 in
     let close = it.in_time in
-    record { place = v.0; shows = v.2; less = v.1; in_time = omega (arith, ints, close, place) }
+    record { place = v.0; shows = v.2; less = v.1; in_time = omega (arith, ints) }
 
 -- of two cycles the later begins where the earlier has ended
 pub cycles_apart : (a b size : ℕ) → a < b → a * size + size ≤ b * size
@@ -120,12 +116,12 @@ below_value {place} {entry} range rules f it =
     let shown = shown_at range it in
     let behind = (rules Forwarding place).from_switch it.place it.entry entry it.is f.is (sym it.of_vl) (λ e. f.other (sym e ∙ f.leaves))
     (it.target ∙ sym f.leaves) in
-    omega (arith, ints, shown.shows, shown.in_time, behind)
+    omega (arith, ints, shown.shows, shown.in_time)
 
 -- a row's window ends in the cycle, with room for the precision
 pub row_ends : {network : Network} {place : ℕ} {entry : Entry} → KeepsRules network → IsEntry network place entry
     → amount entry.row.offset + 4 * amount network.precision ≤ amount network.cycle
-row_ends {place} {entry} rules is = let ends = rules WindowEnds place entry is in omega (arith, ends)
+row_ends {place} {entry} rules is = let ends = rules WindowEnds place entry is in omega arith
 
 -- where the clock reaches the row's value in a cycle, it takes no frame of the virtual link
 pub none_at_value : {s : Scenario} {hs : List Happening} {device : DeviceId} {place : ℕ} (cycle : ℕ) {t : ℕ}
@@ -138,8 +134,8 @@ pub none_at_value : {s : Scenario} {hs : List Happening} {device : DeviceId} {pl
 none_at_value {s} {hs} {device} cycle {t} {entry} range rules steady founded f r h link cause of_cycle i at body =
     let n = s.network in
     let z = local_before s hs device t in
-    let it : IsTakenAt n device entry.row.vl of_cycle z = subst (λ u. IsTakenAt n device entry.row.vl of_cycle (local_before s hs device u)) at
-    (accepted_at s hs h device link cause entry.row.vl of_cycle founded i body) in
+    let it : IsTakenAt n device entry.row.vl of_cycle z =
+    rw at at (accepted_at s hs h device link cause entry.row.vl of_cycle founded i body) in
     let shown = shown_at range it in
     let shows = shows_at steady r in
     let ends = row_ends rules f.is in
@@ -149,9 +145,8 @@ none_at_value {s} {hs} {device} cycle {t} {entry} range rules steady founded f r
     (arith, ints, shows.least, shown.shows) in
     let most : of_cycle * amount n.cycle + shown.place < cycle * amount n.cycle + amount entry.row.offset + amount n.precision = omega
     (arith, ints, shows.most, shown.shows) in
-    let same : of_cycle ≡ cycle = same_heads of_cycle cycle (amount n.cycle) shown.place off shown.less (omega (arith, least, most, ends, sized.1)) (omega
-    (arith, least)) in
+    let same = same_heads of_cycle cycle (amount n.cycle) shown.place off shown.less (omega (arith, sized.1)) (omega
+    arith) in
     let low = below_value range rules f it in
-    let moved : z <ℤ pos (cycle * amount n.cycle + amount entry.row.offset) = subst (λ c. z <ℤ pos (c * amount n.cycle + amount entry.row.offset)) same
-    low in
-    omega (arith, ints, shows.least, moved)
+    let moved : z <ℤ pos (cycle * amount n.cycle + amount entry.row.offset) = rw same at low in
+    omega (arith, ints, shows.least)

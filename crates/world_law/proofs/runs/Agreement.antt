@@ -1,14 +1,14 @@
 -- What is due at a time is so in each scenario that agrees up to then.
-use Rattle.sync_state.specs.{Verdicts.HasVerdict, membership.Summary.Summarizes}
-use Rattle.std.{proofs.lemmas.Bool.le-leb, specs.Option.unwrap_or}
-use Rattle.run_law.{proofs.records.Order.in_drop, specs.{control.Corrections.standing_before, scenario.{Hypothesis.breaks_at, Scenarios.{last_set, turns_on}}}}
-use Rattle.world_law.proofs.Words.{◌&&◌, ◌+ℤ◌, ◌+◌, ◌<ℤ◌, ◌<◌, ◌==◌, ◌||◌, ◌∙◌, ◌∷◌, ◌≡◌, ◌≤ℤ◌, ◌≤◌, Agree, Bool, ComesToCorrection, DeviceId, Event}
-use Rattle.world_law.proofs.Words.{Happening, IfSome, Integrating, IsIn, IsReach, List, Network, None, Option, Reaches, Sends, Some, Verdict, What}
+use Rattle.sync_state.specs.{membership.Summary.Summarizes}
+use Rattle.std.{proofs.lemmas.Bool.le-leb}
+use Rattle.run_law.{proofs.records.Order.in_drop, specs.{control.Corrections.standing_before, scenario.{Scenarios.{last_set, turns_on}}}}
+use Rattle.world_law.proofs.Words.{◌&&◌, ◌<◌, ◌==◌, ◌||◌, ◌∙◌, ◌∷◌, ◌≡◌, ◌≤◌, Agree, Bool, ComesToCorrection, DeviceId, Event}
+use Rattle.world_law.proofs.Words.{Happening, IfSome, IsIn, IsReach, List, Network, None, Option, Reaches, Sends, Some, Verdict, What}
 use Rattle.world_law.proofs.Words.{[], adjustment_before, after_last, amount, and_parts, ap, arith, both_ways, cases_Bool, cases_lt, changed_at}
 use Rattle.world_law.proofs.Words.{changes_adjustment, correction_value, earlier, eqb-true, false_from_ne_true, filter, filter_map, has_cleared}
 use Rattle.world_law.proofs.Words.{heard_since, hearing_by, if◌then◌else◌, in_filter, inl, inr, int_le, int_lt, ints, is_broken, is_integration_cycle}
 use Rattle.world_law.proofs.Words.{is_turned_on_at, last_or, le-ltb, list_any, local_at_change, lt-ltb, nat_le, nat_lt, next_cycle, next_point, not}
-use Rattle.world_law.proofs.Words.{option_map_or, pos, recorded_cycle, refl, same_kept, scenario, state_after, state_before, subst, sym, time_of, true, ℕ, ℤ}
+use Rattle.world_law.proofs.Words.{option_map_or, pos, recorded_cycle, refl, same_kept, scenario, state_before, subst, sym, time_of, true, ℕ, ℤ}
 
 -- ---- the events
 
@@ -16,19 +16,19 @@ pub setting_same : {V : Type 0} {n : Network} {f g : DeviceId → ℕ → ℕ} {
     (setting : What → Option V) (initial : V) → Agree n f g events more t → u ≤ t
     → last_set (scenario n f events) setting initial u ≡ last_set (scenario n g more) setting initial u
 setting_same u setting initial a le =
-    ap (λ (l : List Event). unwrap_or (last_or None (filter_map (λ e. setting e.what) l)) initial) (a.befell u le)
+    rw (a.befell u le)
 
 pub broken_same : {n : Network} {f g : DeviceId → ℕ → ℕ} {events more : List Event} {t : ℕ} (u : ℕ)
     (device : DeviceId) → Agree n f g events more t → u ≤ t
     → is_broken (scenario n f events) device u ≡ is_broken (scenario n g more) device u
-broken_same u device a le = ap (λ (l : List Event). list_any (λ e. breaks_at device.0 e.what) l) (a.befell u le)
+broken_same u device a le = rw (a.befell u le)
 
 any_kept : {X : Type 0} (p q : X → Bool) (xs : List X) → ((x : X) → p x ≡ true → q x ≡ true) → list_any p xs ≡ list_any p (filter q xs)
 any_kept p q [] keeps = refl
 any_kept {X} p q (x ∷ xs) keeps = grind (arith, cases_Bool, list_any, filter, false_from_ne_true, both_ways, (any_kept p q xs keeps))
 
 at_time : (b : Bool) (a t : ℕ) → (b && a == t) ≡ true → nat_le a t ≡ true
-at_time b a t e = let same = eqb-true a t (and_parts b (a == t) e).1 in le-leb a t (omega (arith, same))
+at_time b a t e = let same = eqb-true a t (and_parts b (a == t) e).1 in le-leb a t (omega arith)
 
 module _ (n : Network) (f g : DeviceId → ℕ → ℕ) (events more : List Event) where
   pub turned_on_same : {t : ℕ} (u : ℕ) (device : DeviceId) → Agree n f g events more t → u ≤ t
@@ -43,8 +43,7 @@ module _ (n : Network) (f g : DeviceId → ℕ → ℕ) (events more : List Even
   pub state_same : (hs : List Happening) {t : ℕ} (u : ℕ) (device : DeviceId) → Agree n f g events more t → u ≤ t
       → state_before (scenario n f events) hs device u ≡ state_before (scenario n g more) hs device u
   state_same hs u device a le =
-      ap (λ (b : Bool). if b then Integrating else state_after (scenario n f events) (earlier u hs) device)
-      (turned_on_same u device a le)
+      rw (turned_on_same u device a le)
 
 -- ---- the times of changes
 
@@ -59,26 +58,26 @@ in_earlier u [] h i = absurd i
 in_earlier u (x ∷ hs) h i =
     elim (cases_lt (time_of x) u) [
       | inl lt ↦
-          elim (subst (λ l. IsIn h l) (ap (λ (b : Bool). if b then x ∷ earlier u hs else earlier u hs) (lt-ltb (time_of x) u lt)) i) [
-            | inl e ↦ subst (λ y. time_of y < u) (sym e) lt
+          elim (rw (ap (λ (b : Bool). if b then x ∷ earlier u hs else earlier u hs) (lt-ltb (time_of x) u lt)) at i) [
+            | inl e ↦ rw e lt
             | inr rest ↦ in_earlier u hs h rest
           ]
       | inr ge ↦ in_earlier u hs h
-          (subst (λ l. IsIn h l) (ap (λ (b : Bool). if b then x ∷ earlier u hs else earlier u hs) (le-ltb (time_of x) u ge)) i)
+          (rw (ap (λ (b : Bool). if b then x ∷ earlier u hs else earlier u hs) (le-ltb (time_of x) u ge)) at i)
     ]
 
 -- the last change before a time is not after it
 pub changed_before : (hs : List Happening) (device : DeviceId) (u : ℕ) → changed_at hs device u ≤ u
 changed_before hs device u =
     last_within None (filter (λ h. changes_adjustment device h.note.body) (earlier u hs)) u tt
-    (λ h i. let lt = in_earlier u hs h (in_filter _ (earlier u hs) h i) in omega (arith, lt))
+    (λ h i. let lt = in_earlier u hs h (in_filter _ (earlier u hs) h i) in omega arith)
 
 pub local_same : {n : Network} {f g : DeviceId → ℕ → ℕ} {events more : List Event} (hs : List Happening) {t : ℕ}
     (u : ℕ) (device : DeviceId) → Agree n f g events more t → u ≤ t
     → local_at_change (scenario n f events) hs device u ≡ local_at_change (scenario n g more) hs device u
 local_same {n} {f} {events} hs u device a le =
     let before = changed_before hs device u in
-    ap (λ m. pos m +ℤ (adjustment_before (scenario n f events) hs device u).0) (a.reads device (changed_at hs device u) (omega (arith, before, le)))
+    rw (a.reads device (changed_at hs device u) (omega arith))
 
 module _ (n : Network) (f g : DeviceId → ℕ → ℕ) (events more : List Event) (hs : List Happening) (t u : ℕ) where
   pub cleared_same : (by : ℕ) (device : DeviceId) → Agree n f g events more t → u ≤ t → by ≤ t
@@ -89,39 +88,35 @@ module _ (n : Network) (f g : DeviceId → ℕ → ℕ) (events more : List Even
   pub next_same : (device : DeviceId) → Agree n f g events more t → u ≤ t
       → next_cycle (scenario n f events) hs device u ≡ next_cycle (scenario n g more) hs device u
   next_same device a le =
-      ap (λ (b : Bool). if b then recorded_cycle (earlier u hs) device + 1 else recorded_cycle (earlier u hs) device)
-      (cleared_same u device a le le)
+      rw (cleared_same u device a le le)
 
   pub heard_same : (device : DeviceId) → Agree n f g events more t → u ≤ t
       → ((h : Happening) → IsIn h hs → time_of h ≤ t) → heard_since (scenario n f events) hs device u
       ≡ heard_since (scenario n g more) hs device u
   heard_same device a le all =
       let since = after_last (λ h. nat_lt (time_of h) u && changes_adjustment device h.note.body) hs in
-      let flag = cleared_same u device a le le in
       ap (filter_map (λ h. hearing_by n device h h.note.body))
       (same_kept (λ h. not (has_cleared (scenario n f events) hs device u u) || has_cleared (scenario n f events) hs
       device u (time_of h))
       (λ h. not (has_cleared (scenario n g more) hs device u u) || has_cleared (scenario n g more) hs device u
       (time_of h)) since
       (λ h i.
-      ap (λ (b : Bool). not b || has_cleared (scenario n f events) hs device u (time_of h)) flag
-      ∙ ap (λ (b : Bool). not (has_cleared (scenario n g more) hs device u u) || b)
-      (cleared_same (time_of h) device a le (all h (in_drop _ hs h i)))))
+      rw (cleared_same u device a le le)
+      (rw (cleared_same (time_of h) device a le (all h (in_drop _ hs h i))))))
 
 module _ (n : Network) (f g : DeviceId → ℕ → ℕ) (events more : List Event) where
   pub reach_same : {t : ℕ} (u : ℕ) (device : DeviceId) {from v : ℤ} → Agree n f g events more t → u ≤ t
       → IsReach (f device) from v (pos u) → IsReach (g device) from v (pos u)
   reach_same u device {v} a le r = record {
     from_on = r.from_on;
-    reached = subst (λ m. v ≤ℤ pos m) (a.reads device u le) r.reached;
-    not_before = λ x after lt. subst (λ m. pos m <ℤ v) (a.reads device x (omega (arith, ints, lt, le)))
-        (r.not_before x after lt);
+    reached = rw (a.reads device u le) at r.reached;
+    not_before = λ x after lt. rw (a.reads device x (omega (arith, ints, lt, le))) at (r.not_before x after lt);
   }
 
   pub reaches_same : {hs : List Happening} {t u : ℕ} {device : DeviceId} {v : ℤ} → Agree n f g events more t → u ≤ t
       → Reaches (scenario n f events) hs device v u → Reaches (scenario n g more) hs device v u
   reaches_same {hs} {u} {device} {v} a le r = record {
-    below = subst (λ z. z <ℤ v) (local_same hs u device a le) r.below;
+    below = rw (local_same hs u device a le) at r.below;
     reach = reach_same u device a le r.reach;
   }
 
@@ -149,5 +144,5 @@ module _ (n : Network) (f g : DeviceId → ℕ → ℕ) (events more : List Even
         correct = sym (broken_same u device a le) ∙ d.correct;
         summary = d.summary;
         heard = subst (Summarizes d.summary) (heard_same n f g events more hs t u device a le all) d.heard;
-        comes = subst (λ x. HasVerdict x d.summary verdict) same d.comes;
+        comes = rw same at d.comes;
       }

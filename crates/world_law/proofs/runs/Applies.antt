@@ -30,7 +30,7 @@ event_cause s hs time other e c = absurd e
 
 pub clock_cause : (s : Scenario) (hs : List Happening) (time : Units) (body : NoteBody) → rank body ≡ 14 → IsCaused s hs time body → EndsAt s.events time
 clock_cause s hs time (notes.Clock device reading adjustment state) e c = c.ends
-clock_cause s hs time other e c = absurd (omega (arith, e))
+clock_cause s hs time other e c = absurd (omega arith)
 
 event_more : {events : List Event} (event : Event) {time : Units} {line : ℕ} {what : What}
     → IsEventRecord events time line what → IsEventRecord (events ++ event ∷ []) time line what
@@ -38,13 +38,13 @@ event_more event r = grind (arith, in_front)
 
 -- the place of an event's record
 pub event_place : (y : Happening) (line : ℕ) (what : What) → y.note.body ≡ notes.Event line what → place_of y ≡ time_of y ∷ 1 ∷ line ∷ []
-event_place y line what e = ap (λ b. time_of y ∷ rank b ∷ key (members_in y) b) e
+event_place y line what e = rw e
 
 -- a record of rank 2 or more before the event's is of an earlier time
 pub earlier_by_rank : (t r a line : ℕ) (more : List ℕ) → 2 ≤ r → IsBefore (t ∷ r ∷ more) (a ∷ 1 ∷ line ∷ []) → t < a
 earlier_by_rank t r a line more two (inl lt) = lt
-earlier_by_rank t r a line more two (inr (e, inl lt)) = absurd (omega (arith, lt, two))
-earlier_by_rank t r a line more two (inr (e, inr (f, b))) = absurd (omega (arith, f, two))
+earlier_by_rank t r a line more two (inr (e, inl lt)) = absurd (omega arith)
+earlier_by_rank t r a line more two (inr (e, inr (f, b))) = absurd (omega arith)
 
 -- ---- the two scenarios
 
@@ -104,28 +104,24 @@ module _ {n : Network} {f g : DeviceId → ℕ → ℕ} {events : List Event} {e
                       cause = subst (IsCaused (scenario n f events) ps y.note.time) (sym found.2)
                           was;
                     },
-                    subst (λ p. IsBefore p mark)
-                        (ap (λ u. amount u ∷ 1 ∷ (r.before + 1) ∷ []) (sym r.at) ∙ ap
-                        (λ (l : ℕ). time_of y ∷ 1 ∷ l ∷ []) (sym r.line_is) ∙ sym at)
-                        (may.told r.before r.event old),
+                    rw (ap (λ u. amount u ∷ 1 ∷ (r.before + 1) ∷ []) (sym r.at) ∙ ap
+                        (λ (l : ℕ). time_of y ∷ 1 ∷ l ∷ []) (sym r.line_is) ∙ sym at) at (may.told r.before r.event
+                        old),
                   )
               | inr new ↦
                   absurd (never_self (place_of_event events event)
                   (subst (λ p. IsBefore p (place_of_event events event))
                   (at
-                  ∙ ap (λ u. amount u ∷ 1 ∷ found.0 ∷ []) (r.at ∙ ap (λ (e : Event). e.time) (sym new.1))
-                  ∙ ap (λ (l : ℕ). amount event.time ∷ 1 ∷ l ∷ []) (r.line_is ∙ ap (λ k. k + 1) new.0))
+                  ∙ ap (λ u. amount u ∷ 1 ∷ found.0 ∷ []) (r.at ∙ ap (λ e. e.time) (sym new.1))
+                  ∙ ap (λ l. amount event.time ∷ 1 ∷ l ∷ []) (r.line_is ∙ ap (λ k. k + 1) new.0))
                   here))
             ]
         | inr (inl clock) ↦
-            let lt = earlier_by_rank (time_of y) (rank y.note.body) (amount event.time) (length events + 1)
-            (key (members_in y) y.note.body)
-            (omega (arith, clock)) here in
             elim (Contains-push_cases events event _ (clock_cause (scenario n g (events ++ event ∷ [])) ps
             y.note.time y.note.body clock due.cause)) [
               | inl old ↦ absurd (may.running y.note.time old)
-              | inr e ↦ let same : amount event.time ≡ time_of y = ap (λ (x : Event). amount x.time) e in
-                  absurd (omega (arith, lt, same))
+              | inr e ↦ let same : amount event.time ≡ time_of y = rw e in
+                  absurd (omega arith)
             ]
         | inr (inr own) ↦
             let lt = earlier_by_rank (time_of y) (rank y.note.body) (amount event.time) (length events + 1)
@@ -143,7 +139,11 @@ module _ {n : Network} {f g : DeviceId → ℕ → ℕ} {events : List Event} {e
       ]
 
 pub line_before : (t a line next : ℕ) → t ≤ a → line < next → IsBefore (t ∷ 1 ∷ line ∷ []) (a ∷ 1 ∷ next ∷ [])
-line_before t a line next le lt = elim (cases_lt t a) [ inl sooner ↦ inl sooner | inr ge ↦ inr (omega (arith, le, ge), inr (refl, inl lt)) ]
+line_before t a line next le lt = elim (cases_lt t a) [
+  | inl sooner ↦ inl sooner
+  | inr ge ↦
+      inr (omega arith, inr (refl, inl lt))
+]
 
 pub same_length : (n : Network) (ns : List Note) → length ns ≡ length (happenings n ns)
 same_length n ns = ap length (sym (same_notes n ns)) ∙ length-map (happenings n ns) (λ h. h.note)
@@ -160,7 +160,7 @@ before_event {n} {f} {events} {event} {ns} may run h there =
           let due = (run.founded at.0 at.1 h at.2).1 in
           let found = event_cause (scenario n f events) at.0 h.note.time h.note.body it due.cause in
           let r = found.3 in
-          let few : r.before < length events = slice_get_within events r.before r.event r.is in
+          let few = slice_get_within events r.before r.event r.is in
           let order = may.in_order r.before r.event r.is in
           let time : time_of h ≡ amount r.event.time = ap amount r.at in
           subst (λ p. IsBefore p (place_of_event events event)) (sym (event_place h found.0 found.1 found.2))
@@ -169,7 +169,6 @@ before_event {n} {f} {events} {event} {ns} may run h there =
 
 pub run_goes_on_by_event : RunGoesOnByEvent
 run_goes_on_by_event n f g events event mark ns may run =
-    let s = scenario n f events in
     let r = scenario n g (events ++ event ∷ []) in
     let hs = happenings n ns in
     let here = place_of_event events event in
@@ -179,7 +178,7 @@ run_goes_on_by_event n f g events event mark ns may run =
       founded = λ ps qs y e.
           let was = run.founded ps qs y e in (
             was.0,
-            due_on may ps y (subst (λ l. IsIn y l) (sym e) (in_right y ps (y ∷ qs) (inl refl))) was.0
+            due_on may ps y (rw e (in_right y ps (y ∷ qs) (inl refl))) was.0
                 was.1,
           );
       full = λ ps qs y e before rest due lt.
@@ -188,7 +187,7 @@ run_goes_on_by_event n f g events event mark ns may run =
       within = all;
     } in
     let due : IsDue r hs x = record {
-      number = ap (λ k. k + 1) (same_length n ns);
+      number = rw (same_length n ns);
       same = refl;
       begun = may.begun;
       cause = record { event = event; before = length events; line_is = refl; is = at_length events [] event; at = refl; same = refl };

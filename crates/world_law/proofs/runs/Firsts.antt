@@ -3,17 +3,17 @@ use Rattle.run_law.specs.{scenario.Ways.hold_at, timed.Dispatching.IsUp}
 use Rattle.tte_units.proofs.general_lemmas.Lists.{pushed}
 use Rattle.world_law.proofs.Words.{Integrating, IsActing, IsBefore, IsForward, IsIn, IsSource, LinkId, List, Network, None, NoneBefore, NoteBody, Reaches}
 use Rattle.world_law.proofs.Words.{Scenario, Signal, Some, Standing, Task, ℕ, ℤ, [], adjustment_after, adjustment_at_hearing, after_last, ap, append-nil}
-use Rattle.world_law.proofs.Words.{append_assoc, arith, cases_Bool, cases_lt, chain, dispatching, doing, earlier, emitting, ends_stretch, filter}
+use Rattle.world_law.proofs.Words.{append_assoc, arith, cases_Bool, cases_lt, chain, earlier, emitting, ends_stretch, filter}
 use Rattle.world_law.proofs.Words.{filter-append, heard_as, if◌then◌else◌, in_front, inl, inr, integration_cycle, ints, is_accepted, is_turned_on_at}
-use Rattle.world_law.proofs.Words.{last_or, length, nat_lt, next_point, no_cluster, numbered, observation_window, place_of, plan_of, point_by, points_of}
+use Rattle.world_law.proofs.Words.{last_or, length, nat_lt, no_cluster, numbered, observation_window, place_of, plan_of, point_by, points_of}
 use Rattle.world_law.proofs.Words.{rank, refl, slice_get, state_after, state_at_hearing, subst, suc, sym, time_of, way_from, zero}
-use Rattle.world_law.proofs.Words.{◌++◌, ◌+◌, ◌<◌, ◌∙◌, ◌∷◌, ◌≡◌, ◌≤◌, ◌⊎◌, AreClusters, Arrives, DeviceId, Dispatches, Emits, Gives, Happening}
+use Rattle.world_law.proofs.Words.{◌++◌, ◌+◌, ◌<◌, ◌∙◌, ◌∷◌, ◌≡◌, ◌≤◌, ◌⊎◌, Arrives, DeviceId, Dispatches, Emits, Gives, Happening}
 use Rattle.world_law.proofs.{devices.OwnRecords.earlier_no, lists.Lists.{behind_no, behind_yes, map_none}, runs.TaskPlaces.placed_so}
 use Rattle.world_law.specs.{device.Told.next_in, source.Sources.{IsArriving, IsDeparting}}
 use Rattle.run_law.specs.declared.note.NoteBody.TheVariants as notes
 
 pub source_before : (w q p : List ℕ) → (w ≡ q) ⊎ IsBefore w q → IsBefore q p → IsBefore w p
-source_before w q p (inl e) b = subst (λ l. IsBefore l p) (sym e) b
+source_before w q p (inl e) b = rw e b
 source_before w q p (inr lt) b = chain w q p lt b
 
 -- ---- one more record
@@ -37,7 +37,7 @@ module _ (s : Scenario) (hs : List Happening) (x : Happening) (t : ℕ) (device 
   arriving_more a =
       elim (numbered_more hs x a.putting cause a.there) [
         | inl old ↦ inl (record { putting = a.putting; there = old; signal = a.signal; arrives = a.arrives })
-        | inr new ↦ inr (new.0, (a.signal, subst (λ g. Arrives s g device link t a.signal) (sym new.1) a.arrives))
+        | inr new ↦ inr (new.0, (a.signal, rw new.1 a.arrives))
       ]
 
   -- what leaves was given before, or is the frame that the new record gives
@@ -49,9 +49,8 @@ module _ (s : Scenario) (hs : List Happening) (x : Happening) (t : ℕ) (device 
         | inl old ↦ inl (record { giving = d.giving; there = old; gives = d.gives; held = d.held })
         | inr new ↦ inr (
           new.0,
-          subst (λ (g : Happening). Gives s.network g.note.body device link) (sym new.1) d.gives,
-          subst (λ g. t ≡ time_of g + hold_at s link (way_from s.network device link) (time_of g))
-              (sym new.1) d.held,
+          rw new.1 d.gives,
+          rw new.1 d.held,
         )
       ]
 
@@ -61,7 +60,7 @@ module _ (s : Scenario) (hs : List Happening) (x : Happening) (t : ℕ) (device 
 
 get_parts : {X : Type 0} (xs ys : List X) (x : X) (i : ℕ) → slice_get (xs ++ ys) i ≡ Some x → (slice_get xs i ≡ Some x) ⊎ IsIn x ys
 get_parts [] [] x i e = absurd cc
-get_parts [] (y ∷ ys) x zero e = let same : x ≡ y = cc in inr (inl same)
+get_parts [] (y ∷ ys) x zero e = inr (inl cc)
 get_parts [] (y ∷ ys) x (suc i) e = elim (get_parts [] ys x i e) [ inl none ↦ absurd cc | inr more ↦ inr (inr more) ]
 get_parts (z ∷ xs) ys x zero e = inl e
 get_parts (z ∷ xs) ys x (suc i) e = get_parts xs ys x i e
@@ -83,10 +82,10 @@ earlier_still t hs zs of = grind (arith, filter-append, nat_lt, time_of, earlier
 
 -- where a place is not behind one of the time, its time is no later, and at the time its rank is no higher
 pub no_higher : (t k now r : ℕ) (ws more : List ℕ) → (t ∷ k ∷ ws ≡ now ∷ r ∷ more) ⊎ IsBefore (t ∷ k ∷ ws) (now ∷ r ∷ more) → (t < now) ⊎ ((t ≡ now) × (k ≤ r))
-no_higher t k now r ws more (inl e) = let a : t ≡ now = cc in let b : k ≡ r = cc in inr (a, omega (arith, b))
+no_higher t k now r ws more (inl e) = let b : k ≡ r = cc in inr (cc, omega arith)
 no_higher t k now r ws more (inr (inl lt)) = inl lt
-no_higher t k now r ws more (inr (inr (e, inl lt))) = inr (e, omega (arith, lt))
-no_higher t k now r ws more (inr (inr (e, inr (f, b)))) = inr (e, omega (arith, f))
+no_higher t k now r ws more (inr (inr (e, inl lt))) = inr (e, omega arith)
+no_higher t k now r ws more (inr (inr (e, inr (f, b)))) = inr (e, omega arith)
 
 -- a record of the time that is not before a place of it has at least its rank
 pub at_least : (g : Happening) (now r : ℕ) (more : List ℕ) → time_of g ≡ now → (IsBefore (place_of g) (now ∷ r ∷ more) → ⊥) → r ≤ rank g.note.body
@@ -101,7 +100,7 @@ gives_rank network other device link g = absurd g
 -- ---- what acts
 
 pub of_high_rank : (device : DeviceId) (z : Happening) (body : NoteBody) → 4 ≤ rank body → point_by device z body ≡ None
-of_high_rank device z (notes.Permanent other link cause point verdict) high = absurd (omega (arith, high))
+of_high_rank device z (notes.Permanent other link cause point verdict) high = absurd (omega arith)
 of_high_rank device z other high = refl
 
 points_one : (hs : List Happening) (z : Happening) (device : DeviceId) → 4 ≤ rank z.note.body → (points_of (hs ++ z ∷ []) device ≡ points_of hs device)
@@ -110,7 +109,7 @@ points_one hs z device high = grind (arith, ends_stretch, point_by, cases_Bool, 
 
 pub points_back : (zs hs : List Happening) (device : DeviceId) → ((z : Happening) → IsIn z zs → 4 ≤ rank z.note.body)
     → (points_of (hs ++ zs) device ≡ points_of hs device) ⊎ (points_of (hs ++ zs) device ≡ [])
-points_back [] hs device high = inl (ap (λ l. points_of l device) (append-nil hs))
+points_back [] hs device high = inl (rw (append-nil hs))
 points_back (z ∷ zs) hs device high = grind (arith, points_of, append_assoc, points_one, (points_back zs (hs ++ z ∷ []) device (λ y i. high y (inr i))))
 
 abbrev pub standing_in : Scenario → DeviceId → ℕ → List Happening → Standing
@@ -152,7 +151,7 @@ emits_back {s} hs zs {t} {device} {sent} high e =
             cm = e.cm;
             correct = e.correct;
             clusters = e.clusters;
-            are = subst (λ l. AreClusters (observation_window s.network) l e.clusters) same e.are;
+            are = rw same at e.are;
             cluster = e.cluster;
             there = e.there;
             is = e.is;
@@ -160,7 +159,7 @@ emits_back {s} hs zs {t} {device} {sent} high e =
             heard = refl;
           })
       | inr none ↦ absurd (no_cluster (observation_window s.network) e.clusters e.cluster
-          (subst (λ l. AreClusters (observation_window s.network) l e.clusters) none e.are) e.there)
+          (rw none at e.are) e.there)
     ]
 
 -- what acts by the records with those to come, where these have the rank of acts or a higher one, acts by those given
@@ -181,13 +180,13 @@ acting_back {s} hs zs {t} {device} of high (IsActing.corrects cycle d) =
     let same = earlier_still t hs zs of in
     IsActing.corrects cycle
     (record {
-      next = subst (λ w. next_point (standing_in s device t w) ≡ Some cycle) same d.next;
+      next = rw same at d.next;
       reached = reaches_back s (hs ++ zs) hs t device same d.reached;
       correct = d.correct;
     })
 acting_back {s} hs zs {t} {device} of high (IsActing.dispatches link cause vl cycle d) =
     let e = dispatches_same s (hs ++ zs) hs t device link cause vl cycle (earlier_still t hs zs of) d in
-    subst (λ (n : ℕ). IsActing s hs t device (doing (dispatching (record { 0 = n }) cycle))) e.1 (IsActing.dispatches link cause vl cycle e.0)
+    rw e.1 at (IsActing.dispatches link cause vl cycle e.0)
 
 -- ---- all sources
 
@@ -198,7 +197,7 @@ IsBack s hs now w = IsSource s hs w ⊎ (IsBefore w (now ∷ []) ⊎ (w ≡ now 
 pub arrives_later : {s : Scenario} {g : Happening} {device : DeviceId} {link : LinkId} {t : ℕ} {signal : Signal}
     → IsForward s → Arrives s g device link t signal → time_of g < t
 arrives_later {g} {device} {link} forward a =
-    let one = forward link a.way device (time_of g) a.receiver in omega (arith, one, a.at)
+    let one = forward link a.way device (time_of g) a.receiver in omega (arith, a.at)
 
 pub source_back : {s : Scenario} (hs zs : List Happening) (now r : ℕ) (more : List ℕ) → IsForward s
     → ((z : Happening) → IsIn z zs → time_of z ≡ now) → NoneBefore place_of zs (now ∷ r ∷ more) → {w : List ℕ}
@@ -209,7 +208,11 @@ source_back hs zs now r more forward of none (IsSource.arriving t device link ca
       | inr new ↦
           let later = arrives_later forward a.arrives in
           let at = of a.putting new in
-          elim (no_higher t 2 now r _ more le) [ inl lt ↦ absurd (omega (arith, later, at, lt)) | inr same ↦ absurd (omega (arith, later, at, same.0)) ]
+          elim (no_higher t 2 now r _ more le) [
+            | inl lt ↦ absurd (omega arith)
+            | inr same ↦
+                absurd (omega (arith, same.0))
+          ]
     ]
 source_back hs zs now r more forward of none (IsSource.ripening t device link cause point x) le =
     let p = x.permanent in
@@ -231,33 +234,38 @@ source_back hs zs now r more forward of none (IsSource.ripening t device link ca
             };
           }))
       | inr new ↦
-          let at = of p.arrival new in
-          let low = at_least p.arrival now r more at (none p.arrival new) in
+          let low = at_least p.arrival now r more (of p.arrival new) (none p.arrival new) in
           let two : rank p.arrival.note.body ≡ 2 = ap rank p.arrived in
           let from = p.reached.from_on in
-          elim (no_higher t 3 now r _ more le) [ inl lt ↦ absurd (omega (arith, ints, from, at, lt)) | inr same ↦ absurd (omega (arith, low, two, same.1)) ]
+          elim (no_higher t 3 now r _ more le) [
+            | inl lt ↦ absurd (omega (arith, ints))
+            | inr same ↦
+                absurd (omega (arith, same.1))
+          ]
     ]
 source_back {s} hs zs now r more forward of none (IsSource.acting t device task a) le =
     let p = placed_so s.network t device task in
-    let late = p.late in
     elim (no_higher t p.rank now r (device.0 ∷ p.rest) more (subst (λ q. (q ≡ now ∷ r ∷ more) ⊎ IsBefore q (now ∷ r ∷ more)) p.is le)) [
       | inl lt ↦ inr (inl (subst (λ q. IsBefore q (now ∷ [])) (sym p.is) (inl lt)))
       | inr same ↦
-          inl (IsSource.acting t device task (acting_back hs zs (λ z i. let at = of z i in omega (arith, at, same.0))
-          (λ z i. let low = at_least z now r more (of z i) (none z i) in omega (arith, low, same.1, late)) a))
+          inl (IsSource.acting t device task (acting_back hs zs (λ z i. omega (arith, same.0))
+          (λ z i. let low = at_least z now r more (of z i) (none z i) in omega (arith, same.1)) a))
     ]
 source_back {s} hs zs now r more forward of none (IsSource.departing t device link cause d) le =
     elim (numbered_parts hs zs d.giving cause d.there) [
       | inl old ↦ inl (IsSource.departing t device link cause (record { giving = d.giving; there = old; gives = d.gives; held = d.held }))
       | inr new ↦
-          let at = of d.giving new in
-          let low = at_least d.giving now r more at (none d.giving new) in
+          let low = at_least d.giving now r more (of d.giving new) (none d.giving new) in
           let few = gives_rank s.network d.giving.note.body device link d.gives in
           let held = d.held in
-          elim (no_higher t 8 now r _ more le) [ inl lt ↦ absurd (omega (arith, held, at, lt)) | inr same ↦ absurd (omega (arith, low, few, same.1)) ]
+          elim (no_higher t 8 now r _ more le) [
+            | inl lt ↦ absurd (omega arith)
+            | inr same ↦
+                absurd (omega (arith, same.1))
+          ]
     ]
 source_back hs zs now r more forward of none (IsSource.following t cause h it) le =
-    elim (no_higher t 2 now r _ more le) [ inl lt ↦ inr (inl (inl lt)) | inr same ↦ inr (inr (ap (λ (n : ℕ). n ∷ 2 ∷ []) same.0)) ]
+    elim (no_higher t 2 now r _ more le) [ inl lt ↦ inr (inl (inl lt)) | inr same ↦ inr (inr (rw same.0)) ]
 source_back hs zs now r more forward of none (IsSource.befalling time line what it) le =
     inl (IsSource.befalling time line what it)
 source_back hs zs now r more forward of none (IsSource.ending time device is there it) le =

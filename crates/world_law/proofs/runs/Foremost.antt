@@ -4,12 +4,12 @@ use Rattle.run_law.proofs.law.FirstPlaces.{numbered_in}
 use Rattle.world_law.proofs.{giving.GivenParts.{in_get, no_later_breaks, some_same}, runs.Firsts.arrives_later}
 use Rattle.{run_law.specs.scenario.Scenarios.turns_on, world_law.specs.{source.Sources.IsRipening, world.{Moves.NothingBefore, World.IsWaitingFor}}}
 use Rattle.world_law.proofs.Words.{dispatching, doing, task_place, both_ways}
-use Rattle.world_law.proofs.Words.{◌&&◌, ◌+◌, ◌<◌, ◌==◌, ◌||◌, ◌∙◌, ◌∷◌, ◌≡◌, ◌≤◌, Bool, DeviceId, Dispatches, Happening, HasDone, HasSent, HasTaskAt}
-use Rattle.world_law.proofs.Words.{HaveBefallen, IsActing, IsAtRest, IsBefore, IsIn, IsLeft, IsReach, IsSource, LinkId, List, Network, Node, Note, NoteBody}
+use Rattle.world_law.proofs.Words.{◌&&◌, ◌+◌, ◌<◌, ◌==◌, ◌∙◌, ◌∷◌, ◌≡◌, ◌≤◌, Bool, DeviceId, Dispatches, Happening, HasDone, HasSent, HasTaskAt}
+use Rattle.world_law.proofs.Words.{HaveBefallen, IsActing, IsAtRest, IsBefore, IsIn, IsLeft, IsSource, LinkId, List, Network, Node, Note, NoteBody}
 use Rattle.world_law.proofs.Words.{Scenario, Stands, Task, VlId, Waiting, World, [], amount, ap, arith, cases_Bool, cases_lt, chain, clock_place}
 use Rattle.world_law.proofs.Words.{eqb-true, false, false_from_ne_true, happenings, inl, inr, is_turned_on_at, list_any, moves, place_of, pos, refl, ripe_place}
 use Rattle.world_law.proofs.Words.{task_place}
-use Rattle.world_law.proofs.{Words.{slice_get_within, subst, sym, time_of, true, ℕ}, acts.Acting.{IsUnmoved, correcting_task, emitting_task, sending_task}}
+use Rattle.world_law.proofs.{Words.{slice_get_within, sym, time_of, true, ℕ}, acts.Acting.{IsUnmoved, correcting_task, emitting_task, sending_task}}
 
 -- no act that is not worked off is before the place
 abbrev pub NoActBefore : Scenario → List Happening → List ℕ → List ℕ → Type 0
@@ -25,8 +25,9 @@ pub none_but_acts : {C M : Type 0} {reading : C → ℕ → ℕ} {stands : M →
 none_but_acts {world} {p} old none acts (IsSource.arriving t device link cause a) not b =
     let later = arrives_later old.forward a.arrives in
     let found = old.wires.all t device link cause a
-    (λ open_ at. none.befell open_ (chain (world.now ∷ 2 ∷ []) (t ∷ 2 ∷ device.0 ∷ link.0 ∷ cause ∷ []) p (inl (omega (arith, later, at))) b)) not in
-    none.wires found.0 found.1 (subst (λ q. IsBefore q p) (sym found.2) b)
+    (λ open_ at. none.befell open_ (chain (world.now ∷ 2 ∷ []) (t ∷ 2 ∷ device.0 ∷ link.0 ∷ cause ∷ []) p
+    (inl (omega arith)) b)) not in
+    none.wires found.0 found.1 (rw found.2 b)
 none_but_acts {s} {world} {notes} old none acts (IsSource.ripening t device link cause point r) not b =
     let e : Waiting = record { device = device; link = link; cause = cause; frame = r.frame; point = point } in
     let p_is = r.permanent in
@@ -47,15 +48,13 @@ none_but_acts {s} {world} {notes} old none acts (IsSource.ripening t device link
     let sound = sym (no_later_breaks s old.frontier world.now t device old.befallen le) ∙ p_is.correct in
     let one : (u : ℕ) → IsRipening s (happenings s.network notes) u device link cause point
     → IsBefore (ripe_place u e) old.frontier → ⊥ = λ u x under.
-    let arrival : x.permanent.arrival ≡ p_is.arrival = some_same x.permanent.arrival p_is.arrival _ x.permanent.there p_is.there in
-    let reached = subst (λ h. IsReach (s.reading device) (pos (time_of h)) point.0 (pos u)) arrival x.permanent.reached in
-    not (subst (λ n. IsBefore (ripe_place n e) old.frontier)
-    (one_reach (s.reading device) (pos (time_of p_is.arrival)) point.0 u t reached p_is.reached)
-    under) in
+    let arrival = some_same x.permanent.arrival p_is.arrival _ x.permanent.there p_is.there in
+    let reached = rw arrival at x.permanent.reached in
+    not (rw (one_reach (s.reading device) (pos (time_of p_is.arrival)) point.0 u t reached p_is.reached) at under) in
     none.waiting e (old.waiting.all e it sound one) t le p_is.reached.reached b
 none_but_acts old none acts (IsSource.acting t device task a) not b = acts t device task a not b
 none_but_acts {p} old none acts (IsSource.departing t device link cause d) not b =
-    let found = old.ports.all t device link cause d not in none.ports found.0 found.1 (subst (λ q. IsBefore q p) (sym found.2) b)
+    let found = old.ports.all t device link cause d not in none.ports found.0 found.1 (rw found.2 b)
 none_but_acts {s} {world} {notes} {p} old none acts (IsSource.following t cause h it) not b =
     let i = numbered_in (happenings s.network notes) cause h it.there in
     elim (old.not_later (place_of h) (old.run.within h i)) [
@@ -64,29 +63,27 @@ none_but_acts {s} {world} {notes} {p} old none acts (IsSource.following t cause 
         | inl past ↦ not (old.of_now (t ∷ 2 ∷ []) (inl past))
         | inr ge ↦
             let at = it.same_time in
-            let now : t ≡ world.now = omega (arith, at, few, ge) in
+            let now : t ≡ world.now = omega arith in
             elim (cases_Bool world.pending) [
-              | inl open_ ↦ none.befell open_ (subst (λ (n : ℕ). IsBefore (n ∷ 2 ∷ []) p) now b)
+              | inl open_ ↦ none.befell open_ (rw now at b)
               | inr told ↦ not
-                  (subst (λ (n : ℕ). IsBefore (n ∷ 2 ∷ []) old.frontier) (sym now)
-                  (old.untold.done told cause h (record { there = it.there; same_time = at ∙ now })))
+                  (rw now (old.untold.done told cause h (record { there = it.there; same_time = at ∙ now })))
             ]
       ]
     ]
 none_but_acts old none acts (IsSource.befalling time line what it) not b =
     let told = old.befallen.told it.before it.event it.is in
-    let at : amount it.event.time ∷ 1 ∷ [] ≡ amount time ∷ 1 ∷ [] = ap (λ u. amount u ∷ 1 ∷ []) (sym it.at) in
-    not (subst (λ q. IsBefore q old.frontier) at
-    (chain (amount it.event.time ∷ 1 ∷ []) (amount it.event.time ∷ 1 ∷ (it.before + 1) ∷ []) old.frontier
+    let at : amount it.event.time ∷ 1 ∷ [] ≡ amount time ∷ 1 ∷ [] = rw (sym it.at) in
+    not (rw at at (chain (amount it.event.time ∷ 1 ∷ []) (amount it.event.time ∷ 1 ∷ (it.before + 1) ∷ []) old.frontier
     (inr (refl, inr (refl, tt))) told))
 none_but_acts {s} {world} {p} old none acts (IsSource.ending time device is there ends) not b =
     let it = (old.ended time).0 ends in
     let now : amount time ≡ world.now = ap unsigned_abs it.1 in
-    let place : clock_place (amount time) device ≡ clock_place world.now device = ap (λ n. clock_place n device) now in
+    let place : clock_place (amount time) device ≡ clock_place world.now device = rw now in
     let lt = slice_get_within s.network.device device.0 is there in
     elim (cases_lt device.0 world.shown) [
-      | inl less ↦ not (subst (λ q. IsBefore q old.frontier) (sym place) ((old.shown device lt it.0).1 less))
-      | inr ge ↦ none.clocks device lt it.0 ge (subst (λ q. IsBefore q p) place b)
+      | inl less ↦ not (rw place ((old.shown device lt it.0).1 less))
+      | inr ge ↦ none.clocks device lt it.0 ge (rw place at b)
     ]
 
 -- ---- acts, but for dispatches
@@ -115,7 +112,8 @@ not_on_after {s} t device b lt = none_any (λ e. turns_on device e.what && amoun
     let at = in_get s.events e i in
     let early = b.past at.0 e at.1 in
     and_none (turns_on device e.what) (amount e.time == t)
-    (false_from_ne_true (amount e.time == t) (λ same. let time = eqb-true (amount e.time) t same in absurd (omega (arith, time, early, lt)))))
+    (false_from_ne_true (amount e.time == t) (λ same. let time = eqb-true (amount e.time) t same in
+    absurd (omega arith))))
   where
     and_none : (b c : Bool) → c ≡ false → (b && c) ≡ false
     and_none true c e = e
@@ -123,7 +121,7 @@ not_on_after {s} t device b lt = none_any (λ e. turns_on device e.what && amoun
 
     none_any : {X : Type 0} (q : X → Bool) (xs : List X) → ((x : X) → IsIn x xs → q x ≡ false) → list_any q xs ≡ false
     none_any q [] none = refl
-    none_any q (x ∷ xs) none = ap (λ (c : Bool). c || list_any q xs) (none x (inl refl)) ∙ none_any q xs (λ y i. none y (inr i))
+    none_any q (x ∷ xs) none = rw (none x (inl refl)) (none_any q xs (λ y i. none y (inr i)))
 
 -- a device that is not turned on at the time is not moved by what leaves it at rest
 pub unmoved_by : (s : Scenario) (device : DeviceId) (now : ℕ) (body : NoteBody) → is_turned_on_at s device now ≡ false → IsAtRest s device now body

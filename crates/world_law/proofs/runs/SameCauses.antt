@@ -1,13 +1,13 @@
 -- What causes a record at a time causes it in each scenario that agrees up to then.
-use Rattle.{drift_clock.specs.transparent.Points.point_of, run_law.proofs.law.FirstPlaces.numbered_in, std.proofs.Common.arith}
+use Rattle.{run_law.proofs.law.FirstPlaces.numbered_in, std.proofs.Common.arith}
 use Rattle.run_law.specs.{control.Leaving.departure, scenario.Ways.{cut_set, delay_at, hold_at, hold_set, wire_of, wire_set}}
-use Rattle.{run_law.specs.control.Permanence.IsPermanenceOutcome, world_law.proofs.Words.{state_before, subst, sym, time_of, timed, timed_arrival, way_from, ℕ}}
-use Rattle.world_law.proofs.Words.{◌∙◌, ◌≡◌, ◌≤◌, Agree, Arrival, Arrives, ArrivesAs, BecomesPermanent, Bool, ChangesState, Compressed, Departs, Departure}
-use Rattle.world_law.proofs.Words.{DeviceId, Dispatches, Emits, Event, Happening, IsArrivedRecord, IsCaused, IsDropped, IsIn, IsLost, Joining, Judgement}
-use Rattle.world_law.proofs.Words.{Launch, LinkId, List, Network, None, NoteBody, Option, Pcf, Reason, Ripe, Send, Signal, Some, State, Units, Up}
+use Rattle.{world_law.proofs.Words.{state_before, sym, time_of, timed, timed_arrival, way_from, ℕ}}
+use Rattle.world_law.proofs.Words.{◌∙◌, ◌≡◌, ◌≤◌, Agree, Arrival, Arrives, ArrivesAs, BecomesPermanent, ChangesState, Compressed, Departs, Departure}
+use Rattle.world_law.proofs.Words.{DeviceId, Dispatches, Emits, Event, Happening, IsArrivedRecord, IsCaused, IsDropped, IsIn, IsLost, Judgement}
+use Rattle.world_law.proofs.Words.{LinkId, List, Network, NoteBody, Pcf, Reason, Ripe, Send, Signal, Some, State, Units, Up}
 use Rattle.world_law.proofs.Words.{VlId, Way, Why, adjustment_at_hearing, adjustment_before, amount, ap, arrival_of, before_permanence, control}
-use Rattle.world_law.proofs.Words.{control_arrival, false, has_joined_at, heard_as, if◌then◌else◌, inl, inr, is_broken, is_cut, last_taken, launched, nat_lt}
-use Rattle.world_law.proofs.Words.{not, numbered, observation_window, plan_of, points_of, pos, refl, scenario, signal_of, standpoint, state_at_hearing}
+use Rattle.world_law.proofs.Words.{false, heard_as, inl, inr, is_broken, is_cut, last_taken, launched, nat_lt}
+use Rattle.world_law.proofs.Words.{not, numbered, observation_window, plan_of, refl, scenario, standpoint, state_at_hearing}
 use Rattle.world_law.proofs.runs.Agreement.{broken_same, comes_same, reach_same, reaches_same, sends_same, setting_same, state_same}
 use Rattle.run_law.specs.declared.judgement.Why.TheVariants as whys
 use Rattle.run_law.specs.declared.note.NoteBody.TheVariants as notes
@@ -37,9 +37,7 @@ module _ (n : Network) (f g : DeviceId → ℕ → ℕ) (events more : List Even
   launched_same : (h : Happening) (body : NoteBody) → Agree n f g events more t → u ≤ t
       → launched (scenario n f events) h u body ≡ launched (scenario n g more) h u body
   launched_same h (notes.Event line (Send link octets)) a le =
-      ap (λ (b : Bool). let o : Option Launch = if b then None else Some
-      (record { link = link; way = Up; signal = signal_of octets }) in o)
-      (cut_same link Up a le)
+      rw (cut_same link Up a le)
   launched_same h (notes.Left device link cause clock) a le = refl
   launched_same h (notes.TtSent device link cause vl cycle) a le = refl
   launched_same h other a le = refl
@@ -62,7 +60,7 @@ module _ (n : Network) (f g : DeviceId → ℕ → ℕ) (events more : List Even
       → arrival_of (scenario n f events) hs device u link cause signal
       ≡ arrival_of (scenario n g more) hs device u link cause signal
   judged_same link cause (control frame) a le =
-      ap (λ p. control_arrival n device link p frame) (standpoint_same a le)
+      rw (standpoint_same a le)
   judged_same link cause (timed octets) a le =
       ap (λ p. timed_arrival n device link p octets (last_taken hs device u link cause))
       (standpoint_same a le)
@@ -79,8 +77,7 @@ module _ (n : Network) (f g : DeviceId → ℕ → ℕ) (events more : List Even
   hearing_state_same : Agree n f g events more t → u ≤ t
       → state_at_hearing (scenario n f events) hs device u ≡ state_at_hearing (scenario n g more) hs device u
   hearing_state_same a le =
-      ap (λ (x : State). if has_joined_at hs device u then Joining else x)
-      (state_same n f g events more hs u device a le)
+      rw (state_same n f g events more hs u device a le)
 
 module _ (n : Network) (f g : DeviceId → ℕ → ℕ) (events more : List Event) (hs : List Happening) (t u : ℕ)
     (device : DeviceId) where
@@ -100,17 +97,13 @@ module _ (n : Network) (f g : DeviceId → ℕ → ℕ) (events more : List Even
           of_frame = p.of_frame;
           waits = p.waits;
           at_point =
-              p.at_point ∙ ap (λ m. point_of (pos m) p.clock n.dmax.0)
-              (a.reads device (time_of p.arrival) (sooner t hs cause p.arrival all p.there));
+              p.at_point ∙ (rw (a.reads device (time_of p.arrival) (sooner t hs cause p.arrival all p.there)));
           reached = reach_same n f g events more u device a le p.reached;
           correct = sym (broken_same u device a le) ∙ p.correct;
         };
         becomes =
             let judged = before_permanence hs device u link cause x.frame point in
-            subst (λ y. IsPermanenceOutcome n device y
-            (adjustment_at_hearing (scenario n f events) judged device u).0 (points_of judged device) x.frame
-            point.0
-            is) (hearing_state_same n f g events more judged t u device a le) x.becomes;
+            rw (hearing_state_same n f g events more judged t u device a le) at x.becomes;
       }
 
   emits_same : {sent : Compressed} {verdict : Judgement} → Agree n f g events more t → u ≤ t

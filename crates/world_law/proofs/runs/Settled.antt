@@ -1,9 +1,9 @@
 -- What is to come while a source is worked off and its own record is not given yet.
 use Rattle.world_law.proofs.Words.{◌++◌, ◌∷◌, ◌≡◌, AllBefore, AreComing, Happening, IsBefore, IsIn, IsOwnSource, IsWorkedOff, List, NoneBefore}
 use Rattle.world_law.proofs.Words.{NoteBody, Scenario, [], arith, before_behind, before_later, behind, cases_Bool, chain, false, inl, inr, is_at_source, key}
-use Rattle.world_law.proofs.Words.{members_in, parted, place_of, rank, refl, subst, sym, time_of, true, ℕ}
+use Rattle.world_law.proofs.Words.{members_in, parted, place_of, rank, refl, time_of, true, ℕ}
 use Rattle.world_law.proofs.Words.{Bool, IsOfThisTime, both_ways}
-use Rattle.world_law.specs.world.World.{AreInOrder, AreUntold, Befell, IsDueAs}
+use Rattle.world_law.specs.world.World.{AreUntold, Befell, IsDueAs}
 use Rattle.run_law.specs.declared.note.NoteBody.TheVariants as notes
 
 -- a record that stands at its source does so
@@ -15,7 +15,7 @@ own_here s js t m other p e o = grind arith
 
 pub frame_source : (body : NoteBody) → rank body ≡ 4 → is_at_source body ≡ true
 frame_source (notes.Compressed device opened at cycle members verdict) e = refl
-frame_source other e = absurd (omega (arith, e))
+frame_source other e = absurd (omega arith)
 
 -- between two places: up to the first the records given are the run, and each source before the second is worked off
 pub record AreSettled (s : Scenario) (hs coming : List Happening) (from to : List ℕ) (now : ℕ) : Type 0 where
@@ -41,7 +41,7 @@ late_of {s} {hs} {coming} {frontier} are z i = elim (cases_Bool (is_at_source z.
       let split = parted z coming i in
       let off = are.by split.0 split.1 z split.2 in
       let here = own_here s (hs ++ split.0) (time_of z) (members_in z) z.note.body off.0 is off.1 in
-      absurd (are.after z i (subst (λ p. IsBefore p frontier) here off.3))
+      absurd (are.after z i (rw here at off.3))
 ]
 
 pub settled_of : {s : Scenario} {hs coming : List Happening} {frontier : List ℕ} {now : ℕ}
@@ -83,9 +83,9 @@ none_pending told none done = record {
   none = λ same. none;
   waits = λ open_. absurd (both_ways _ told open_);
   early = λ open_. absurd (both_ways _ told open_);
-  real = λ e i. absurd (subst (λ l. IsIn e l) none i);
+  real = λ e i. absurd (rw none at i);
   all = λ open_. absurd (both_ways _ told open_);
-  in_order = subst (λ (l : List Befell). AreInOrder l) (sym none) tt;
+  in_order = rw none tt;
 }
 
 -- nothing has no part

@@ -2,8 +2,8 @@
 use Rattle.{run_law.specs.records.Happenings.frame_from, world_law.specs.source.Sources.{IsArriving, IsDeparting, IsRipening, IsSourced}}
 use Rattle.world_law.proofs.Words.{◌∙◌, ◌∷◌, ◌≡◌, ◌⊎◌, Arrival, ArrivesAs, BecomesPermanent, ChangesState, ComesToCorrection, Departs, Departure, DeviceId}
 use Rattle.world_law.proofs.Words.{Happening, IsActing, IsArrivedRecord, IsAtCorrection, IsBefore, IsCaused, IsDropped, IsDue, IsLost, IsOwnSource, IsSource}
-use Rattle.world_law.proofs.Words.{LinkId, List, Network, NoteBody, Option, Pcf, Reason, Ripe, Scenario, Some, State, Units, Verdict, Why, [], amount, ap}
-use Rattle.world_law.proofs.Words.{arith, correcting, dispatching, doing, emitting, frame_by, inl, inr, key, members_in, option_and_then, option_map_or, rank}
+use Rattle.world_law.proofs.Words.{LinkId, List, Network, NoteBody, Reason, Ripe, Scenario, Some, State, Units, Verdict, Why, [], amount, ap}
+use Rattle.world_law.proofs.Words.{arith, correcting, dispatching, doing, emitting, frame_by, inl, inr, key, members_in, option_map_or, rank}
 use Rattle.world_law.proofs.Words.{refl, sending, sym, ℕ}
 use Rattle.run_law.specs.declared.judgement.Why.TheVariants as whys
 use Rattle.run_law.specs.declared.note.NoteBody.TheVariants as notes
@@ -99,13 +99,13 @@ by_body s hs time members (notes.Arrived device link cause clock) m c =
 by_body s hs time members (notes.Permanent device link cause point verdict) m c =
     let r = ripening_of_it s hs (amount time) device link cause point _ c in
     let p = r.permanent in
-    let frame : frame_from hs cause ≡ Some r.frame = ap (λ (o : Option Happening). option_and_then (λ h. h.frame) o) p.there ∙ p.of_frame in
-    let same : r.frame.members.0 ≡ members = sym (m ∙ ap (λ (o : Option Pcf). option_map_or (λ f. f.members.0) o 0) frame) in
-    let at = ap (λ (k : ℕ). amount time ∷ 3 ∷ device.0 ∷ amount point ∷ k ∷ link.0 ∷ cause ∷ []) same in (
+    let frame : frame_from hs cause ≡ Some r.frame = rw p.there p.of_frame in
+    let same = sym (m ∙ ap (λ o. option_map_or (λ f. f.members.0) o 0) frame) in
+    let at = ap (λ k. amount time ∷ 3 ∷ device.0 ∷ amount point ∷ k ∷ link.0 ∷ cause ∷ []) same in (
       _,
       at,
       IsSource.ripening (amount time) device link cause point r,
-      inl (ap (λ (k : ℕ). amount time ∷ 3 ∷ device.0 ∷ amount point ∷ k ∷ link.0 ∷ cause ∷ []) same),
+      inl (rw same),
     )
 by_body s hs time members (notes.Compressed device opened at cycle of_masters verdict) m c =
     (_, refl, IsSource.acting (amount time) device (emitting _) (IsActing.emits _ verdict c), inl refl)

@@ -2,7 +2,7 @@
 use Rattle.{net_plan.specs.declared.event.What.TheVariants.End, run_law.specs.runs.DueRecords.EndsAt, std.specs.List.Contains}
 use Rattle.{std.proofs.lemmas.List.Elements.Contains-append_cases, world_law.specs.source.Applying.{MayFollow, RunStaysUnderMore, place_of_event}}
 use Rattle.world_law.proofs.Words.{◌++◌, ◌+◌, ◌-◌, ◌<◌, ◌∷◌, ◌≡◌, ◌≤◌, ◌⊎◌, AllBefore, DeviceId, Event, Happening, IsBefore, IsCaused, IsDue, IsEventRecord}
-use Rattle.world_law.proofs.Words.{IsIn, List, Network, Some, Units, What, [], amount, ap, arith, happenings, in_front, in_right, inl, inr, key, length}
+use Rattle.world_law.proofs.Words.{List, Network, Some, Units, What, [], amount, ap, arith, in_front, in_right, inl, inr, key, length}
 use Rattle.world_law.proofs.Words.{members_in, place_of, rank, refl, scenario, slice_get, subst, suc, sym, time_of, zero, ℕ}
 use Rattle.world_law.proofs.runs.{Applies.{agree_back, clock_cause, earlier_by_rank, event_cause, event_place, kinds, up_to_it}, SameCauses.caused_same}
 
@@ -10,7 +10,7 @@ use Rattle.world_law.proofs.runs.{Applies.{agree_back, clock_cause, earlier_by_r
 get_parts : {X : Type 0} (xs ys : List X) (x : X) (i : ℕ) → slice_get (xs ++ ys) i ≡ Some x
     → (slice_get xs i ≡ Some x) ⊎ ((length xs ≤ i) × (slice_get ys (i - length xs) ≡ Some x))
 get_parts [] ys x i e =
-    let same : i ≡ i - 0 = omega arith in inr (omega arith, subst (λ (k : ℕ). slice_get ys k ≡ Some x) same e)
+    let same : i ≡ i - 0 = omega arith in inr (omega arith, rw same at e)
 get_parts (z ∷ xs) ys x zero e = inl e
 get_parts (z ∷ xs) ys x (suc i) e = grind (arith, length, slice_get, (get_parts xs ys x i e))
 
@@ -24,7 +24,7 @@ old_event events others event y order r b = grind (arith, get_parts, length, tim
 contains_get : {X : Type 0} (xs : List X) (x : X) → Contains xs x → (i : ℕ) × (slice_get xs i ≡ Some x)
 contains_get [] x there = absurd (omega (arith, there.1))
 contains_get (y ∷ ys) x (zero, lt, e) = (0, ap Some e)
-contains_get (y ∷ ys) x (suc i, lt, e) = let more = contains_get ys x (i, omega (arith, lt), e) in (suc more.0, more.1)
+contains_get (y ∷ ys) x (suc i, lt, e) = let more = contains_get ys x (i, omega arith, e) in (suc more.0, more.1)
 
 -- a clock's record is that of the end, which is none of the events before, and no later event is before its time
 no_clock : (events others : List Event) (event : Event) (time : Units) → ((time : Units) → EndsAt events time → ⊥)
@@ -33,7 +33,7 @@ no_clock : (events others : List Event) (event : Event) (time : Units) → ((tim
 no_clock events others event time running order ends lt =
     elim (Contains-append_cases events (event ∷ others) (record { time = time; what = End }) ends) [
       | inl old ↦ running time old
-      | inr new ↦ let there = contains_get (event ∷ others) _ new in let late = order there.0 _ there.1 in omega (arith, late, lt)
+      | inr new ↦ let there = contains_get (event ∷ others) _ new in let late = order there.0 _ there.1 in omega arith
     ]
 
 module _ {n : Network} {f g : DeviceId → ℕ → ℕ} {events others : List Event} {event : Event} {mark : List ℕ}
@@ -86,7 +86,7 @@ module _ {n : Network} {f g : DeviceId → ℕ → ℕ} {events others : List Ev
       | inr (inl clock) ↦
           let lt = earlier_by_rank (time_of y) (rank y.note.body) (amount event.time) (length events + 1)
           (key (members_in y) y.note.body)
-          (omega (arith, clock)) (may.sooner (place_of y) here) in
+          (omega arith) (may.sooner (place_of y) here) in
           absurd (no_clock events others event y.note.time may.running may.in_order
           (clock_cause (scenario n g (events ++ event ∷ others)) ps y.note.time y.note.body clock due.cause) lt)
       | inr (inr own) ↦
@@ -102,8 +102,7 @@ pub run_stays_under_more : RunStaysUnderMore
 run_stays_under_more n f g events event others mark ns may run = record {
   founded = λ ps qs y e.
       let was = run.founded ps qs y e in
-      let there : IsIn y (happenings n ns) = subst (λ l. IsIn y l) (sym e) (in_right y ps (y ∷ qs) (inl refl)) in
-      (was.0, due_on may ps y (run.within y there) was.0 was.1);
+      (was.0, due_on may ps y (run.within y (rw e (in_right y ps (y ∷ qs) (inl refl)))) was.0 was.1);
   full = λ ps qs y e before rest due lt.
       run.full ps qs y e before rest (due_back may ps y lt before due) lt;
   within = run.within;

@@ -1,8 +1,8 @@
 -- Where the tasks of a device stand.
 use Rattle.schedule_tables.specs.Dispatches.{dispatch_order}
-use Rattle.world_law.proofs.Words.{◌∙◌, ◌<◌, ◌∷◌, ◌≡◌, ◌≤◌, ◌⊎◌, DeviceId, Dispatches, Happening, IsBefore, List, Network, Option, Scenario, Task, VlId}
-use Rattle.world_law.proofs.Words.{LinkId, [], act_place, amount, ap, arith, chain, dispatching, doing, emitting, inl, inr, option_map_or, refl, sending, correcting, subst, sym, task_place, ℕ}
-use Rattle.{net_plan.specs.declared.tables.Row.Row, run_law.specs.records.Ranks.sign}
+use Rattle.world_law.proofs.Words.{◌∙◌, ◌<◌, ◌∷◌, ◌≡◌, ◌≤◌, ◌⊎◌, DeviceId, Dispatches, Happening, IsBefore, List, Network, Scenario, Task, VlId}
+use Rattle.world_law.proofs.Words.{LinkId, [], act_place, amount, ap, arith, chain, dispatching, doing, emitting, inl, inr, refl, sending, correcting, subst, sym, task_place, ℕ}
+use Rattle.{run_law.specs.records.Ranks.sign}
 
 -- ---- what a place tells
 
@@ -56,7 +56,7 @@ module _ (network : Network) (t : ℕ) (device : DeviceId) where
       let same : p.rank ≡ r = ap second (sym p.is ∙ e) in
       let late = p.late in
       let low = p.low in
-      elim other [ inl less ↦ omega (arith, less, same, late) | inr more ↦ omega (arith, more, same, low) ]
+      elim other [ inl less ↦ omega arith | inr more ↦ omega arith ]
 
   -- the place before all that the device does is before each task
   pub acts_first : (task : Task) → IsBefore (act_place t device) (task_place network t device task)
@@ -86,4 +86,4 @@ pub row_order : {s : Scenario} {hs : List Happening} {device : DeviceId} {t : �
     → dispatch_order s.network (record { 0 = d.place }) ≡ amount d.entry.row.offset ∷ d.entry.row.link.0 ∷ d.place
     ∷ []
 row_order d =
-    ap (λ (o : Option Row). option_map_or (λ (r : Row). amount r.offset ∷ r.link.0 ∷ d.place ∷ []) o []) d.row.row
+    rw d.row.row

@@ -1,6 +1,6 @@
 -- What a world gives next is the next record of the run.
 use Rattle.world_law.specs.world.World.{IsDueAs}
-use Rattle.world_law.proofs.Words.{◌++◌, ◌+◌, ◌∙◌, ◌∷◌, ◌≡◌, Happening, IsBefore, IsDue, IsIn, IsScenarioRun, IsWorkedOff, List, NoSourceBefore}
+use Rattle.world_law.proofs.Words.{◌++◌, ◌∙◌, ◌∷◌, ◌≡◌, Happening, IsBefore, IsDue, IsIn, IsScenarioRun, IsWorkedOff, List, NoSourceBefore}
 use Rattle.world_law.proofs.Words.{Note, Scenario, [], ap, append-nil, before_or_not, behind, chain, happening, happenings, inl, inr, length, length-map}
 use Rattle.world_law.{proofs.Words.{never_self, parted, place_of, refl, subst, sym, ℕ}, specs.world.World.{FirstSettledIsNext, NothingSettledIsAll, note_of}}
 use Rattle.world_law.{proofs.runs.{Firsts.source_before, Next.{is_next, none_due}, Settled.{AreSettled, settled_of}, Sourced.sourced}, specs.source.Next.NoneDueBefore}
@@ -11,12 +11,12 @@ length_is s ns = ap length (sym (same_notes s.network ns)) ∙ length-map (happe
 
 due_now : {s : Scenario} {hs : List Happening} {y : Happening} → IsDue s hs y → IsDueAs s (hs ++ []) y
 due_now {s} {hs} {y} due =
-    subst (λ l. IsDueAs s l y) (sym (append-nil hs)) (record { same = due.same; begun = due.begun; cause = due.cause })
+    rw (append-nil hs) (record { same = due.same; begun = due.begun; cause = due.cause })
 
 worked_now : {s : Scenario} {hs : List Happening} (to : List ℕ) (y : Happening) → IsWorkedOff s hs to y
     → IsWorkedOff s (hs ++ []) to y
 worked_now {s} {hs} to y worked =
-    subst (λ l. IsWorkedOff s l to y) (sym (append-nil hs)) worked
+    rw (append-nil hs) worked
 
 module _ {s : Scenario} {hs : List Happening} (z : Happening) (rest : List Happening) {from to : List ℕ}
     {now : ℕ} (settled : AreSettled s hs (z ∷ rest) from to now) where
@@ -24,13 +24,13 @@ module _ {s : Scenario} {hs : List Happening} (z : Happening) (rest : List Happe
   pub first_before : (other : Happening) → IsIn other rest → IsBefore (place_of z) (place_of other)
   first_before other i =
       let at = parted other rest i in
-      (settled.founded (z ∷ at.0) at.1 other (ap (λ (l : List Happening). z ∷ l) at.2)).0 z (inl refl)
+      (settled.founded (z ∷ at.0) at.1 other (ap (λ l. z ∷ l) at.2)).0 z (inl refl)
 
   none_under : (other : Happening) → IsIn other (z ∷ rest) → (p : List ℕ) → IsBefore p (place_of z)
       → IsBefore (place_of other) p → ⊥
   none_under other (inl e) p here under =
       never_self (place_of z) (chain (place_of z) p (place_of z)
-      (subst (λ h. IsBefore (place_of h) p) e under) here)
+      (rw e at under) here)
   none_under other (inr i) p here under =
       let order = first_before other i in
       never_self (place_of z) (chain (place_of z) (place_of other) (place_of z) order
@@ -39,11 +39,10 @@ module _ {s : Scenario} {hs : List Happening} (z : Happening) (rest : List Happe
   not_at : (other : Happening) → IsIn other (z ∷ rest) → (p : List ℕ) → p ≡ place_of other → IsBefore p (place_of z)
       → ⊥
   not_at other (inl e) p at here =
-      never_self (place_of z) (subst (λ q. IsBefore q (place_of z)) (at ∙ ap place_of e) here)
+      never_self (place_of z) (rw (at ∙ ap place_of e) at here)
   not_at other (inr i) p at here =
-      let order = first_before other i in
-      never_self (place_of z) (chain (place_of z) (place_of other) (place_of z) order
-      (subst (λ q. IsBefore q (place_of z)) at here))
+      never_self (place_of z) (chain (place_of z) (place_of other) (place_of z) (first_before other i)
+      (rw at at here))
 
   none_before : NoSourceBefore s hs to (place_of z) → NoneDueBefore place_of (IsDue s) from hs (place_of z)
   none_before none y due not here =
@@ -53,7 +52,7 @@ module _ {s : Scenario} {hs : List Happening} (z : Happening) (rest : List Happe
             let under = λ (o : Happening) (i : IsIn o (z ∷ rest)) (b : IsBefore (place_of o) (place_of y)). none_under o i
             (place_of y) here b in
             let found = settled.full [] (z ∷ rest) y refl (λ n i. absurd i) under not (due_now due)
-            (worked_now {s = s} {hs = hs} to y (source.place, source.own, source.source, worked)) in
+            (worked_now to y (source.place, source.own, source.source, worked)) in
             not_at found.0 found.1 (place_of y) (sym found.2) here
         | inr waits ↦ none source.place source.source waits
             (source_before source.place (place_of y) (place_of z) source.no_later here)
@@ -68,10 +67,16 @@ pub first_is_next : (s : Scenario) (notes : List Note) (z : Happening) (rest : L
 first_is_next s notes z rest from to now run settled none =
     let hs = happenings s.network notes in
     let x = happening s.network hs (note_of notes z) in
-    let first : IsDueAs s hs z = subst (λ l. IsDueAs s l z) (append-nil hs) (settled.founded [] rest z refl).1 in
+    let first : IsDueAs s hs z = rw (append-nil hs) at (settled.founded [] rest z refl).1 in
     let place : place_of x ≡ place_of z = ap place_of (sym first.same) in
-    let due : IsDue s hs x = record { number = ap (λ n. n + 1) (length_is s notes); same = refl; begun = first.begun; cause = first.cause } in
-    let not : IsBefore (place_of x) from → ⊥ = λ b. settled.after z (inl refl) (subst (λ p. IsBefore p from) place b) in
+    let due : IsDue s hs x = record {
+      number = rw (length_is s notes);
+      same = refl;
+      begun = first.begun;
+      cause =
+          first.cause;
+    } in
+    let not : IsBefore (place_of x) from → ⊥ = λ b. settled.after z (inl refl) (rw place at b) in
     let free : NoneDueBefore place_of (IsDue s) from hs (place_of x) = subst
     (NoneDueBefore place_of (IsDue s) from hs) (sym place)
     (none_before z rest settled none) in
@@ -100,8 +105,8 @@ run_to {s} notes {coming} {from} {to} until run settled none after up_to =
     ] in
     let found = settled.full [] coming y refl (λ n i. absurd i)
     (λ o i b. after o i (chain (place_of o) (place_of y) until b here)) not (due_now due)
-    (worked_now {s = s} {hs = hs} to y (source.place, source.own, source.source, worked)) in
-    after found.0 found.1 (subst (λ q. IsBefore q until) (sym found.2) here) in
+    (worked_now to y (source.place, source.own, source.source, worked)) in
+    after found.0 found.1 (rw found.2 here) in
     move_mark (IsDue s) run (λ n i. up_to (place_of n) (run.within n i))
     (none_due place_of (IsDue s) from hs until run.within free)
 

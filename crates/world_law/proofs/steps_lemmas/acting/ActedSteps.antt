@@ -41,9 +41,7 @@ pub heard_by_it : {C M : Type 0} {reading : C → ℕ → ℕ} {stands : M → N
     → IsActOn reading stands s world notes old device machine after (acts.Emit sent heard) → IsHeardSo heard
 heard_by_it {s} {device} {sent} heard on =
     let node = on.node in
-    let st = on.st in
-    let x = on.did in
-    subst IsHeardSo (sym x.1.1)
+    subst IsHeardSo (sym on.did.1.1)
     (heard_so (plan_of s.network device) (observation_window s.network) node.standing.state node.standing.adjustment.0 sent.at.0 sent.cycle sent.members)
 
 -- ---- all kinds
@@ -63,20 +61,20 @@ module _ {C M : Type 0} (reading : C → ℕ → ℕ) (stands : M → Network �
   emission_by sent ripe.Within s world notes device after bodies machines settled old a on are set put =
       act_goes_by
       (emits_one settled sent ripe.Within tt on set
-      (subst (λ l. ArePutIn s.network (happenings s.network notes) world.now l world.settled settled) are put))
+      (rw are at put))
   emission_by sent ripe.Outside s world notes device after bodies machines settled old a on are set put =
       act_goes_by
       (emits_one settled sent ripe.Outside tt on set
-      (subst (λ l. ArePutIn s.network (happenings s.network notes) world.now l world.settled settled) are put))
+      (rw are at put))
   emission_by sent ripe.Ignored s world notes device after bodies machines settled old a on are set put =
       act_goes_by
       (emits_one settled sent ripe.Ignored tt on set
-      (subst (λ l. ArePutIn s.network (happenings s.network notes) world.now l world.settled settled) are put))
+      (rw are at put))
   emission_by sent ripe.Integrates s world notes device after bodies machines settled old a on are set put =
-      join_goes_by {reading = reading} {stands = stands} {s = s} {world = world} {notes = notes} {old = old} {device = device} {machine = a.machine} {after = after} {sent = sent} {machines = machines} {settled = settled} (record {
+      join_goes_by (record {
         on = on;
         set = set;
-        put = subst (λ l. ArePutIn s.network (happenings s.network notes) world.now l world.settled settled) are put;
+        put = rw are at put;
       })
   emission_by sent heard s world notes device after bodies machines settled old a on are set put =
       absurd (heard_by_it heard on)
@@ -85,24 +83,24 @@ module _ {C M : Type 0} (reading : C → ℕ → ℕ) (stands : M → Network �
   acts_by (acts.Send frame) s world notes device after bodies machines settled old a on are set put =
       act_goes_by
       (sends_one settled frame on set
-      (subst (λ l. ArePutIn s.network (happenings s.network notes) world.now l world.settled settled) are put))
+      (rw are at put))
   acts_by (acts.Emit sent heard) s world notes device after bodies machines settled old a on are set put =
       emission_by sent heard s world notes device after bodies machines settled old a on are set put
   acts_by (acts.Correct cycle verdict) s world notes device after bodies machines settled old a on are set put =
-      correct_goes_by old device a.machine {after = after} {cycle = cycle} verdict
-      a.was {adjustment = a.adjustment} {machines = machines} {settled = settled} (record {
+      correct_goes_by old device a.machine verdict
+      a.was (record {
         on = on;
         before = a.before;
         stood = a.stood;
         state = a.is;
         stands_then = a.stands_then;
         set = set;
-        put = subst (λ l. ArePutIn s.network (happenings s.network notes) world.now l world.settled settled) are put;
+        put = rw are at put;
       })
   acts_by (acts.Dispatch row cycle) s world notes device after bodies machines settled old a on are set put =
       act_goes_by
       (dispatches_one settled row on are.2 are.3 set
-      (subst (λ l. ArePutIn s.network (happenings s.network notes) world.now l world.settled settled) are.4 put))
+      (rw are.4 at put))
 
   -- it acts: what comes of it is to come
   pub acted_step : (s : Scenario) (world : World C M) (notes : List Note) (device : DeviceId) (after : M)

@@ -5,9 +5,9 @@ use Rattle.world_law.proofs.steps_lemmas.Words.{ComesToCorrection, DeviceId}
 use Rattle.world_law.proofs.steps_lemmas.Words.{Dispatches, Happening, Integrating, IsCaused, IsOwnSource}
 use Rattle.world_law.proofs.steps_lemmas.Words.{LinkId, List, NoteBody, Scenario, SyncClique, Units, VlId, []}
 use Rattle.world_law.proofs.steps_lemmas.Words.{amount, ap, arith, cases_Bool, dispatch_body}
-use Rattle.world_law.proofs.steps_lemmas.Words.{false, if◌then◌else◌, inl, inr, is_cut, members_in}
-use Rattle.world_law.proofs.steps_lemmas.Words.{place_of, rank, same_device}
-use Rattle.world_law.proofs.steps_lemmas.Words.{subst, sym, time_of, true, way_from, ℕ}
+use Rattle.world_law.proofs.steps_lemmas.Words.{false, if◌then◌else◌, inl, inr, is_cut}
+use Rattle.world_law.proofs.steps_lemmas.Words.{place_of, same_device}
+use Rattle.world_law.proofs.steps_lemmas.Words.{sym, time_of, true, way_from, ℕ}
 use Rattle.world_law.proofs.steps_lemmas.Words.{length, row_order, rows_place}
 use Rattle.schedule_tables.specs.Dispatches.{dispatch_order}
 use Rattle.run_law.specs.declared.judgement.Why.TheVariants as whys
@@ -33,7 +33,7 @@ at_it : (now t : ℕ) (device other : DeviceId) (p : DeviceId → ℕ → Type 0
 at_it now t device other p own c =
     let e = here_at now t device.0 other.0 own in
     let same = same_device other device (sym e.1) in
-    (sym e.0, (same, subst (λ (n : ℕ). p device n) (sym e.0) (subst (λ (d : DeviceId). p d t) same c)))
+    (sym e.0, (same, rw e.0 (rw same at c)))
 
 -- a row has a place of its own
 no_row : {s : Scenario} {js : List Happening} (now : ℕ) {t : ℕ} (device : DeviceId) {other : DeviceId} {link : _}
@@ -42,7 +42,7 @@ no_row : {s : Scenario} {js : List Happening} (now : ℕ) {t : ℕ} (device : De
 no_row now device d e =
     let long = ap length e in
     let order = ap length (row_order d) in
-    omega (arith, long, order)
+    omega arith
 
 module _ (s : Scenario) (js : List Happening) (now : ℕ) (device : DeviceId) (time : Units) (m : ℕ) where
   -- what comes from the correction point of the device is of the instant, and caused by it
@@ -76,15 +76,15 @@ pub same_told : (s : Scenario) (now : ℕ) (device : DeviceId) (link : LinkId) (
 same_told s now device link cause vl cycle x y told e at_x at =
     let lost : (h : Happening) → h.note.body ≡ kinds.Lost device link cause → time_of h ≡ now → place_of h ≡ now ∷ 9 ∷ device.0 ∷ link.0 ∷ cause ∷ [] =
     λ h body time.
-    ap (λ b. time_of h ∷ rank b ∷ Rattle.run_law.specs.records.Ranks.key (members_in h) b) body
-    ∙ ap (λ (n : ℕ). n ∷ 9 ∷ device.0 ∷ link.0 ∷ cause ∷ []) time in
+    rw body
+    (rw time) in
     let sent : (h : Happening) → h.note.body ≡ kinds.TtSent device link cause vl cycle → time_of h ≡ now
     → place_of h ≡ now ∷ 10 ∷ device.0 ∷ link.0 ∷ cause ∷ vl.0 ∷ cycle ∷ [] = λ h body time.
-    ap (λ b. time_of h ∷ rank b ∷ Rattle.run_law.specs.records.Ranks.key (members_in h) b) body
-    ∙ ap (λ (n : ℕ). n ∷ 10 ∷ device.0 ∷ link.0 ∷ cause ∷ vl.0 ∷ cycle ∷ []) time in
+    rw body
+    (rw time) in
     let by_cut : (b : Bool) → is_cut s link (way_from s.network device link) now ≡ b
     → dispatch_body s device now link cause vl cycle ≡ (if b then kinds.Lost device link cause else kinds.TtSent device link cause vl cycle) = λ b is.
-    ap (λ (c : Bool). if c then kinds.Lost device link cause else kinds.TtSent device link cause vl cycle) is in
+    rw is in
     elim (cases_Bool (is_cut s link (way_from s.network device link) now)) [
       | inl cut ↦ lost x (told ∙ by_cut true cut) at_x ∙ sym (lost y (e ∙ by_cut true cut) at)
       | inr whole ↦ sent x (told ∙ by_cut false whole) at_x ∙ sym (sent y (e ∙ by_cut false whole) at)

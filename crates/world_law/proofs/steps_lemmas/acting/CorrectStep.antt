@@ -15,10 +15,8 @@ module _ {C M : Type 0} {reading : C → ℕ → ℕ} {stands : M → Network �
   was_timed {after} {cycle} {verdict} x =
       let on = x.on in
       let node = on.node in
-      let st = on.st in
-      let act = on.did in
-      ap is_timed (x.stood node st.is).0 ∙ (point_number node.standing.state node.standing.number cycle
-      act.1.0.pending.1.own).0
+      ap is_timed (x.stood node on.st.is).0 ∙ (point_number node.standing.state node.standing.number cycle
+      on.did.1.0.pending.1.own).0
 
   pub correct_goes_by : {after : M} {cycle : ℕ} (verdict : Verdict) (was : State) {adjustment : Units}
       {machines : List M} {settled : List Happening}
@@ -37,7 +35,7 @@ module _ {C M : Type 0} {reading : C → ℕ → ℕ} {stands : M → Network �
   correct_goes_by (Corrected by) Synchronised x =
       corrected_goes_by by x
   correct_goes_by (Corrected by) Off x =
-      absurd (let bad : false ≡ true = was_timed
+      absurd (let bad = was_timed
       x in cc)
   correct_goes_by (Corrected by) Integrating x =
-      absurd (let bad : false ≡ true = was_timed x in cc)
+      absurd (let bad = was_timed x in cc)

@@ -4,18 +4,18 @@ use Rattle.world_law.{proofs.putting.Moving.{settled_moves, stays}, specs.{steps
 use Rattle.world_law.proofs.{putting.PutOne.corrected_unfollowed, steps_lemmas.Words.{with_clique, ℕ}}
 use Rattle.world_law.proofs.steps_lemmas.Words.{StandsHere, turned_by, ◌++◌, ◌+ℤ◌, ◌+◌, ◌<◌, ◌∙◌, ◌∷◌, ◌≡◌, ◌≤◌, ArePutIn, AsyncClique, Cleared, Corrected, DeviceId}
 use Rattle.world_law.proofs.steps_lemmas.Words.{Happening, HasCleared, Integrating, IsBefore, IsIn, IsNoTaking, IsReadyAt, IsSet}
-use Rattle.world_law.proofs.steps_lemmas.Words.{IsShownPut, IsUnfollowed, Joining, List, Network, Node, Note, NoteBody, Scenario, Stands, StandsBehind}
+use Rattle.world_law.proofs.steps_lemmas.Words.{IsShownPut, Joining, List, Network, Node, Note, NoteBody, Scenario, Stands, StandsBehind}
 use Rattle.world_law.proofs.steps_lemmas.Words.{State, Summary, SyncClique, Synchronised, Units, Verdict, Why, World, [], acting, adjustment_by}
-use Rattle.world_law.proofs.steps_lemmas.Words.{ap, arith, behind, called, correcting, doing, earlier_still, ends_stretch}
-use Rattle.world_law.proofs.steps_lemmas.Words.{false, happenings, if◌then◌else◌, in_right, inl, inr, is_turned_on_at, length}
+use Rattle.world_law.proofs.steps_lemmas.Words.{arith, behind, called, correcting, doing, earlier_still, ends_stretch}
+use Rattle.world_law.proofs.steps_lemmas.Words.{false, happenings, if◌then◌else◌, in_right, inl, inr, length}
 use Rattle.world_law.proofs.steps_lemmas.Words.{moment_of, none_in, numbers_end, one_shown, place_of, point_number, rank, acts_on, devices_then}
-use Rattle.world_law.proofs.steps_lemmas.Words.{record_of, refl, state_after, state_by, subst, sym, true}
+use Rattle.world_law.proofs.steps_lemmas.Words.{record_of, refl, state_by, subst, sym, true}
 use Rattle.world_law.proofs.steps_lemmas.acting.Correcting.{clique_change, clique_over, corrected_over, still_now}
 use Rattle.world_law.proofs.steps_lemmas.acting.Points.{HasOutcome, IsAtPoint, all_point, grown_none, grown_one}
 use Rattle.world_law.proofs.steps_lemmas.acting.{Clearing.{cleared_more, cleared_over}, Kept.{IsBare, bare_act, kept_over, out_by_acts, ready_after}}
 use Rattle.world_law.proofs.steps_lemmas.acting.{Moves.IsCorrectedSo, Over.IsOver, OneAct.still_came, Stage.{IsActRecordAt, StageAt, one_goes_by, IsActOn}}
 use Rattle.world_law.proofs.steps_lemmas.acting.Points.{IsClique, at_point, clique_record, corrected_record, no_frames, none_at_point, not_on}
-use Rattle.world_law.proofs.steps_lemmas.Words.{◌⊎◌, Bool, ClockTask, Compressed, Contains-push_cases, HadComeTo, HasDoneTask, Moment, Task, before_behind}
+use Rattle.world_law.proofs.steps_lemmas.Words.{◌⊎◌, Bool, Compressed, Contains-push_cases, HadComeTo, HasDoneTask, Moment, Task, before_behind}
 use Rattle.world_law.proofs.steps_lemmas.Words.{change_still, changed_at, emitting, is_synchronised, rows_place, task_place}
 use Rattle.std.proofs.Common.{Contains}
 use Rattle.run_law.specs.declared.note.NoteBody.TheVariants as kinds
@@ -70,16 +70,14 @@ one_point_step {stands} {s} {world} {notes} {device} {machine} {after} {node} {b
     let hs = happenings s.network notes in
     let now = world.now in
     let w = record_of s.network hs p.front now body in
-    let new = p.front ++ w ∷ p.back in
     let st2 : StageAt stands s hs (p.front ++ p.back) now device machine node 6 (device.0 ∷ []) =
-    subst (λ l. StageAt stands s hs l now device machine node 6 (device.0 ∷ [])) p.parts st in
-    let put = as_put now w refl (omega (arith, late)) in
-    let here = behind (rows_place now device) in
+    rw p.parts at st in
+    let put = as_put now w refl (omega arith) in
     let none = none_at_point s hs (p.front ++ p.back) now device node cycle c.old.range c.old.rules st2.steady st2.work point.pending point.due in
-    one_goes_by c st p (omega (arith, room)) a
+    one_goes_by c st p (omega arith) a
     (all_point st2.work point
     (grown_one p.front p.back st2.work put late) out) set
-    (kept_over stands {hs = hs} {new = new} {frontier = here} after it.is st2.work.sound it.over it.ready it.cleared
+    (kept_over stands after it.is st2.work.sound it.over it.ready it.cleared
     (it.taken ∙ taken_then stands s hs p.front p.back now device machine node w st2 refl takes)
     it.bare
     (turned_then stands s hs p.front p.back now device machine node st2 put) it.phase
@@ -108,9 +106,8 @@ pub corrected_worked : {M : Type 0} {stands : M → Network → DeviceId → Nod
     → (task : Task) → HasDoneTask after task → HadComeTo s device after changed now task
     ⊎ IsBefore (task_place s.network now device task) (behind (rows_place now device))
 corrected_worked {s} {now} {device} {node} after heard by changed st is task has =
-    let x = corrected_done node (moment_of s device now) heard by task (subst (λ n. HasDoneTask n task) is has) in
-    subst (λ t. HadComeTo s device after changed now t ⊎ IsBefore (task_place s.network now device t) (behind (rows_place now device))) (sym x.1)
-    (elim (st.worked (emitting x.0) x.2) [
+    let x = corrected_done node (moment_of s device now) heard by task (rw is at has) in
+    rw x.1 (elim (st.worked (emitting x.0) x.2) [
       | inl sooner ↦ inl sooner
       | inr gone ↦ inr (stays (rows_place now device) (task_place s.network now device (emitting x.0)) gone)
     ])
@@ -122,7 +119,7 @@ cleared_done : (s : Scenario) (now : ℕ) (device : DeviceId) (node : Node) (mom
 cleared_done s now device node moment heard cycle (emitting c) has = inl has
 cleared_done s now device node moment heard cycle (doing deed) has = elim (Contains-push_cases node.done (correcting cycle) deed has) [
   | inl old ↦ inl old
-  | inr e ↦ inr (ap (λ (d : ClockTask). task_place s.network now device (doing d)) (sym e))
+  | inr e ↦ inr (rw (sym e))
 ]
 
 -- one that finds itself outside the others had done what it has
@@ -169,43 +166,37 @@ module _ {C M : Type 0} {reading : C → ℕ → ℕ} {stands : M → Network �
       let timed = (point_number node.standing.state node.standing.number cycle first.pending.1.own).0 in
       let off = not_on s hs world.settled now device node st.work timed in
       let point = at_point s device now node cycle heard Cleared first to in
-      let sound : node.broken ≡ false = first.pending.0 in
-      let quiet = no_frames s device now node cycle heard Cleared sound point in
+      let quiet = no_frames s device now node cycle heard Cleared first.pending.0 point in
       let ready = ready_after s act.0 (acts.Correct cycle Cleared) st.work.ready st.steady st.precise st.wide on.may act.1
-      (ap (λ (n : Node). n.last) is) in
+      (rw is) in
       let there = called (moment_of s device now) acting
       (after_correction node (moment_of s device now) heard cycle Cleared) in
       let over : IsOver s (hs ++ world.settled) now device act.0 =
-      subst (λ n. IsOver s (hs ++ world.settled) now device n) (sym is)
-      (cleared_over cycle (moment_of s device now) heard st.work off st.calm.off st.calm.broken st.calm.falls st.cleared
+      rw is (cleared_over cycle (moment_of s device now) heard st.work off st.calm.off st.calm.broken st.calm.falls
+      st.cleared
       to.verdict_is
       first.pending.1 first.due (st.work.ready.in_time (doing (correcting cycle)) first.pending) st.wide quiet) in
       let cleared : HasCleared act.0 = subst HasCleared (sym is)
       (cleared_more node cycle (moment_of s device now) heard
       (point_number node.standing.state node.standing.number cycle first.pending.1.own).1 st.cleared) in
-      let more = device.0 ∷ [] in
-      let here = now ∷ 6 ∷ more in
-      let later : IsBefore (now ∷ 2 ∷ []) here = inr (refl, inl (omega arith)) in
+      let here = now ∷ 6 ∷ (device.0 ∷ []) in
       let none = none_at_point s hs world.settled now device node cycle old.range old.rules st.steady st.work
       first.pending first.due in
-      let kept = kept_over stands {hs = hs} {new = world.settled} {frontier = behind here} after act.2 st.work.sound
-      over ready cleared (ap (λ (n : Node). n.taken) is ∙ st.taken)
+      let kept = kept_over stands after act.2 st.work.sound
+      over ready cleared (rw is st.taken)
       (bare_act s.network device node (moment_of s device now) (acts.Correct cycle Cleared) act.0 act.1 st.bare)
       (λ on. turned_by st.moving (st.turned on))
-      (ap (λ (n : Node). n.phase) is) st.calm.falls
+      (rw is) st.calm.falls
       (λ task has. elim (cleared_done s now device node (moment_of s device now) heard cycle task
-      (subst (λ n. HasDoneTask n task) is has)) [
+      (rw is at has)) [
         | inl did ↦ still_worked act.0 (changed_at (hs ++ world.settled) device (now + 1)) st
-            (ap (λ (n : Node). n.standing.adjustment) is)
+            (rw is)
             (sym (change_still (hs ++ world.settled) device now (now + 1) (omega arith) (still_now st.work off)))
             task did
         | inr at ↦ inr (subst (λ q. IsBefore q (behind here)) (sym at) (before_behind here))
       ])
       st.reach (inl (out_by_acts s hs now device none)) in
-      subst (λ (l : List Happening). StandsBehind reading stands s
-      (record world { early = false; machines = machines; settled = l }) notes here)
-      (sym x.put)
-      (acts_on on.here (omega arith) (omega arith) old.room
+      rw x.put (acts_on on.here (omega arith) (omega arith) old.room
       (settled_moves st.moving
       (all_point st.work point
       (grown_none s hs world.settled now device (λ z i. (st.work.of_now z i).0)) tt))
@@ -238,32 +229,27 @@ module _ {C M : Type 0} {reading : C → ℕ → ℕ} {stands : M → Network �
       let act = on.did in
       let first = act.1.0 in
       let heard = act.1.1.0 in
-      let to = act.1.1.1 in
       let is = node_is node act.0 heard act.1.1.2 in
       let timed = (point_number node.standing.state node.standing.number cycle first.pending.1.own).0 in
       let off = not_on s hs world.settled now device node st.work timed in
-      let point = at_point s device now node cycle heard verdict first to in
+      let point = at_point s device now node cycle heard verdict first act.1.1.1 in
       let ready = ready_after s act.0 (acts.Correct cycle verdict) st.work.ready st.steady st.precise st.wide on.may act.1
-      (ap (λ (n : Node). n.last) is) in
-      let room = on.room in
+      (rw is) in
       let body = kinds.State device Integrating 0 why in
       let p : IsShownPut s.network hs now body world.settled settled =
-      subst (λ l. IsShownPut s.network hs now body world.settled l) (sym put.2)
-      (one_shown s.network hs now body (omega arith) put.1) in
+      rw put.2 (one_shown s.network hs now body (omega arith) put.1) in
       let w = record_of s.network hs p.front now body in
       let new = p.front ++ w ∷ p.back in
       let st2 : StageAt stands s hs (p.front ++ p.back) now device machine node 6 (device.0 ∷ []) =
-      subst (λ l. StageAt stands s hs l now device machine
-      node 6 (device.0 ∷ [])) p.parts st in
+      rw p.parts at st in
       let as_it = as_put now w refl (omega arith) in
       let over : IsOver s (hs ++ new) now device act.0 =
-      subst (λ n. IsOver s (hs ++ new) now device n) (sym is)
-      (clique_over s hs p.front p.back now device node w 0 why (moment_of s device now) heard verdict st2.work off
+      rw is (clique_over s hs p.front p.back now device node w 0 why (moment_of s device now) heard verdict st2.work off
       st2.calm.off st2.calm.broken
       as_it p.none (lost node.standing.state) (kept node.standing.adjustment) refl ends) in
       let cleared : HasCleared act.0 =
-      subst HasCleared (sym is) (λ n there. let less = st.cleared n there in omega (arith, less)) in
-      one_point_step {then_ = act.0} on.here st p room (omega arith)
+      subst HasCleared (sym is) (λ n there. let less = st.cleared n there in omega arith) in
+      one_point_step on.here st p on.room (omega arith)
       (clique_record stands s hs p.front p.back now device machine node cycle verdict why st2 off
       point clique p.none) (λ at. refl)
       point
@@ -273,15 +259,15 @@ module _ {C M : Type 0} {reading : C → ℕ → ℕ} {stands : M → Network �
         over = over;
         ready = ready;
         cleared = cleared;
-        taken = ap (λ (n : Node). n.taken) is;
+        taken = rw is;
         bare = bare_act s.network device node (moment_of s device now) (acts.Correct cycle verdict) act.0 act.1 st.bare;
-        phase = ap (λ (n : Node). n.phase) is;
+        phase = rw is;
         worked = λ task has.
             still_worked act.0 (changed_at (hs ++ new) device (now + 1)) st2
-            (ap (λ (n : Node). n.standing.adjustment) is ∙ kept node.standing.adjustment)
+            (rw is (kept node.standing.adjustment))
             (sym (clique_change s hs p.front p.back now device node w 0 why st2.work off as_it p.none refl)) task
             (clique_done node (moment_of s device now) heard verdict task
-            (subst (λ n. HasDoneTask n task) is has));
+            (rw is at has));
       }) x.set
 
   pub alone_goes_by : {after : M} {cycle : ℕ} {was : State} {adjustment : Units} {machines : List M}
@@ -327,37 +313,35 @@ corrected_goes_by {reading} {stands} {s} {world} {notes} {old} {device} {machine
     let act = on.did in
     let first = act.1.0 in
     let heard = act.1.1.0 in
-    let to = act.1.1.1 in
     let is = act.1.1.2 in
     let point_is = point_number node.standing.state node.standing.number cycle first.pending.1.own in
-    let synchronised : node.standing.state ≡ Synchronised = sym (x.stood node st.is).0 in
+    let synchronised = sym (x.stood node st.is).0 in
     let sum : adjustment ≡ act.0.standing.adjustment = (x.stands_then act.0 act.2).1 in
-    let sum_is : adjustment.0 ≡ (node.standing.adjustment.0 +ℤ by.0) = ap (λ (u : Units). u.0) sum ∙ ap (λ (n : Node). n.standing.adjustment.0) is in
+    let sum_is : adjustment.0 ≡ (node.standing.adjustment.0 +ℤ by.0) = rw sum (rw is) in
     let off = not_on s hs world.settled now device node st.work point_is.0 in
-    let point = at_point s device now node cycle heard (Corrected by) first to in
+    let point = at_point s device now node cycle heard (Corrected by) first act.1.1.1 in
     let ready = ready_after s act.0 (acts.Correct cycle (Corrected by)) st.work.ready st.steady st.precise st.wide
     on.may act.1
-    (ap (λ (n : Node). n.last) is) in
-    let room = on.room in
+    (rw is) in
     let body = kinds.Corrected device cycle by adjustment in
-    let p : IsShownPut s.network hs now body world.settled settled = subst (λ l. IsShownPut s.network hs now body world.settled l) (sym x.put.2)
-    (one_shown s.network hs now body (omega arith) x.put.1) in
+    let p : IsShownPut s.network hs now body world.settled settled =
+    rw x.put.2 (one_shown s.network hs now body (omega arith) x.put.1) in
     let w = record_of s.network hs p.front now body in
     let new = p.front ++ w ∷ p.back in
     let st2 : StageAt stands s hs (p.front ++ p.back) now device machine node 6 (device.0 ∷ []) =
-    subst (λ l. StageAt stands s hs l now device machine node 6 (device.0 ∷ [])) p.parts st in
+    rw p.parts at st in
     let so : IsCorrectedSo s device (now + 1) node w cycle by adjustment (moment_of s device now) =
     record { body = refl; before = omega arith; timed = point_is.0; number = point_is.1; sum = sym sum_is; reads = refl } in
     let quiet = no_frames s device now node cycle heard (Corrected by) first.pending.0 point in
-    let over : IsOver s (hs ++ new) now device act.0 = subst (λ n. IsOver s (hs ++ new) now device n) (sym is)
+    let over : IsOver s (hs ++ new) now device act.0 = rw is
     (corrected_over p.front p.back heard st2.work off st2.calm.off st2.calm.broken
     (as_put now w refl (omega arith)) p.none so synchronised quiet) in
     let cleared : HasCleared act.0 = subst HasCleared (sym is) (λ n there. absurd (none_in (correcting n) there)) in
-    let lone : IsUnfollowed s hs now body = corrected_unfollowed s hs now device cycle by adjustment (λ joining.
-    let same = earlier_still now hs world.settled (λ z i. let at = (st.work.of_now z i).0 in omega (arith, at)) in
+    let lone = corrected_unfollowed s hs now device cycle by adjustment (λ joining.
+    let same = earlier_still now hs world.settled (λ z i. omega arith) in
     not_joining (sym synchronised ∙ st.work.left.state
-    ∙ ap (λ l. if is_turned_on_at s device now then Integrating else state_after s l device) same ∙ joining)) in
-    one_point_step {then_ = act.0} on.here st p room (omega arith)
+    ∙ (rw same joining))) in
+    one_point_step on.here st p on.room (omega arith)
     (corrected_record stands s hs p.front p.back now device machine node cycle by adjustment st2
     off point sum_is p.none lone)
     (λ at. refl) point
@@ -367,8 +351,8 @@ corrected_goes_by {reading} {stands} {s} {world} {notes} {old} {device} {machine
       over = over;
       ready = ready;
       cleared = cleared;
-      taken = ap (λ (n : Node). n.taken) is;
+      taken = rw is;
       bare = bare_act s.network device node (moment_of s device now) (acts.Correct cycle (Corrected by)) act.0 act.1 st.bare;
-      phase = ap (λ (n : Node). n.phase) is;
+      phase = rw is;
       worked = corrected_worked act.0 heard by (changed_at (hs ++ new) device (now + 1)) st2 is;
     }) x.set

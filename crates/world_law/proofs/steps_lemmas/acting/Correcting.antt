@@ -3,14 +3,14 @@ use Rattle.{run_law.specs.machines.Answers.with_corrected, sync_state.proofs.Sta
 use Rattle.{std.proofs.Common.Contains, world_law.{proofs.runs.Foremost.unmoved_by, specs.device.Own.{IsStill, borne}}}
 use Rattle.{tte_units.proofs.general_lemmas.Integers.ahead_yet, world_law.proofs.devices.Borne.{left_alike, tell_alike}}
 use Rattle.world_law.proofs.devices.{OwnRecords.{adjustment_still, cycle_still, integration_still, state_still}, Passes.{local_still, started_still}}
-use Rattle.world_law.proofs.steps_lemmas.Words.{◌++◌, ◌+ℤ◌, ◌+◌, ◌-ℤ◌, ◌<ℤ◌, ◌<◌, ◌∙◌, ◌∷◌, ◌≡◌, ◌≤ℤ◌, ◌≤◌, AreClusters, Bool, ClockTask, Compressed, DeviceId}
+use Rattle.world_law.proofs.steps_lemmas.Words.{◌++◌, ◌+ℤ◌, ◌+◌, ◌<ℤ◌, ◌<◌, ◌∙◌, ◌∷◌, ◌≡◌, ◌≤ℤ◌, ◌≤◌, AreClusters, Bool, ClockTask, Compressed, DeviceId}
 use Rattle.world_law.proofs.steps_lemmas.Words.{Happening, HasDoneFrom, HasSentFrom, Integrating, IsDeedOf, IsIn, IsLeft, IsWaiting, Joining, List, Moment}
 use Rattle.world_law.proofs.steps_lemmas.Words.{Network, Node, None, NoneBefore, NoteBody, Scenario, Summary, Synchronised, Units, Verdict, Why, [], acting}
 use Rattle.world_law.proofs.steps_lemmas.Words.{adjustment_by, ap, append-nil, append_assoc, arith, bears_on, called, cases_lt, change_still, changed_at}
 use Rattle.world_law.proofs.steps_lemmas.Words.{correcting, dispatching, earlier, ends_stretch, false, filter, filter-append, if◌then◌else◌, in_left, in_right}
 use Rattle.world_law.proofs.steps_lemmas.Words.{inl, inr, is_broken, is_cm, is_synchronised, is_turned_on_at, moves, no_cluster, none_in, none_kept}
 use Rattle.world_law.proofs.steps_lemmas.Words.{not_turned_on, observation_window, place_of, pos, rank, recorded_cycle, refl, sending}
-use Rattle.world_law.proofs.steps_lemmas.{Words.{state_by, subst, sym, time_of, true, value_of, with_clique, ℕ}, acting.Work.IsAtWork}
+use Rattle.world_law.proofs.steps_lemmas.{Words.{state_by, sym, time_of, true, value_of, with_clique, ℕ}, acting.Work.IsAtWork}
 use Rattle.world_law.proofs.steps_lemmas.acting.{GoesOn.IsPutAs, Moves.{IsBase, IsCorrectedSo, changed_by, cliques, corrects, joiner_corrects, one_earlier}}
 use Rattle.run_law.specs.declared.judgement.Why.TheVariants as whys
 use Rattle.run_law.specs.declared.note.NoteBody.TheVariants as kinds
@@ -25,7 +25,7 @@ pub still_now : {s : Scenario} {hs zs : List Happening} {now : ℕ} {device : De
     → IsAtWork s hs zs now device node → is_turned_on_at s device now ≡ false
     → IsStill (hs ++ zs) device now (now + 1)
 still_now {s} {now} {device} w off h i from lt =
-    unmoved_by s device now h.note.body off (w.still h i (omega (arith, from, lt)))
+    unmoved_by s device now h.note.body off (w.still h i (omega arith))
 
 pub base_then : {s : Scenario} {hs zs : List Happening} {now : ℕ} {device : DeviceId} {node : Node}
     → IsAtWork s hs zs now device node → is_turned_on_at s device now ≡ false
@@ -60,7 +60,8 @@ pub none_bear : {s : Scenario} {hs : List Happening} (front back : List Happenin
 none_bear front back w work off at late none z i = grind (arith, in_right, bears_none, cases_lt, rank, unmoved_by)
 
 pub one_in : (q : Happening → Bool) (w : Happening) (back : List Happening) → filter q back ≡ [] → filter q (w ∷ back) ≡ filter q (w ∷ [])
-one_in q w back none = filter-append q (w ∷ []) back ∙ ap (λ (l : List Happening). filter q (w ∷ []) ++ l) none ∙ append-nil (filter q (w ∷ []))
+one_in q w back none = filter-append q (w ∷ []) back ∙ ap (λ l. filter q (w ∷ []) ++ l) none ∙ append-nil
+    (filter q (w ∷ []))
 
 two_in : (q : Happening → Bool) (hs front back : List Happening) → filter q back ≡ [] → filter q (hs ++ (front ++ back)) ≡ filter q hs ++ filter q front
 two_in q hs front back none = grind (arith, filter-append, filter, append-nil)
@@ -77,19 +78,19 @@ pub borne_two : (hs front mid rest : List Happening) (device : DeviceId) (w f : 
 borne_two hs front mid rest device w f none =
     let q = λ (h : Happening). bears_on device h.note.body in
     let gone = none_kept q mid (λ z i. none z (in_left z mid rest i)) in
-    let left : filter q rest ≡ [] = none_kept q rest (λ z i. none z (in_right z mid rest i)) in
+    let left = none_kept q rest (λ z i. none z (in_right z mid rest i)) in
     filter-append q ((hs ++ (front ++ (mid ++ rest))) ++ w ∷ []) (f ∷ [])
-    ∙ ap (λ (l : List Happening). l ++ filter q (f ∷ [])) (borne_in hs front (mid ++ rest) device w none
+    ∙ ap (λ l. l ++ filter q (f ∷ [])) (borne_in hs front (mid ++ rest) device w none
     ∙ filter-append q hs (front ++ w ∷ (mid ++ rest))
-    ∙ ap (λ (l : List Happening). filter q hs ++ l) (filter-append q front (w ∷ (mid ++ rest))
-    ∙ ap (λ (l : List Happening). filter q front ++ l)
-    (one_in q w (mid ++ rest) (filter-append q mid rest ∙ ap (λ (l : List Happening). l ++ filter q rest) gone ∙ left))))
+    ∙ ap (λ l. filter q hs ++ l) (filter-append q front (w ∷ (mid ++ rest))
+    ∙ ap (λ l. filter q front ++ l)
+    (one_in q w (mid ++ rest) (filter-append q mid rest ∙ ap (λ l. l ++ filter q rest) gone ∙ left))))
     ∙ append_assoc (filter q hs) (filter q front ++ filter q (w ∷ [])) (filter q (f ∷ []))
-    ∙ ap (λ (l : List Happening). filter q hs ++ l) (append_assoc (filter q front) (filter q (w ∷ [])) (filter q (f ∷ [])))
+    ∙ ap (λ l. filter q hs ++ l) (append_assoc (filter q front) (filter q (w ∷ [])) (filter q (f ∷ [])))
     ∙ sym (filter-append q hs (front ++ w ∷ (mid ++ f ∷ rest))
-    ∙ ap (λ (l : List Happening). filter q hs ++ l) (filter-append q front (w ∷ (mid ++ f ∷ rest))
-    ∙ ap (λ (l : List Happening). filter q front ++ l) (filter-append q (w ∷ []) (mid ++ f ∷ rest)
-    ∙ ap (λ (l : List Happening). filter q (w ∷ []) ++ l) (filter-append q mid (f ∷ rest) ∙ ap (λ (l : List Happening). l ++ filter q (f ∷ rest)) gone
+    ∙ ap (λ l. filter q hs ++ l) (filter-append q front (w ∷ (mid ++ f ∷ rest))
+    ∙ ap (λ l. filter q front ++ l) (filter-append q (w ∷ []) (mid ++ f ∷ rest)
+    ∙ ap (λ l. filter q (w ∷ []) ++ l) (filter-append q mid (f ∷ rest) ∙ ap (λ l. l ++ filter q (f ∷ rest)) gone
     ∙ one_in q f rest left))))
 
 -- ---- what it has done and sent then
@@ -103,10 +104,10 @@ pub corrects_it : (network : Network) (reading : ℕ → ℕ) (device : DeviceId
     → moment.reading.0 ≡ pos (reading t) → HasDoneFrom network reading device (called moment acting (with_corrected node moment heard by)) t (t + 1) (t + 1)
 corrects_it network reading device node t moment heard by reads = record {
   undone = λ deed u x from lt.
-      let same : t ≡ x = omega (arith, from, lt) in
-      let here = subst (λ z. z <ℤ (value_of network deed -ℤ (node.standing.adjustment.0 +ℤ by.0))) reads
-      (ahead_yet moment.reading.0 (node.standing.adjustment.0 +ℤ by.0) _ (value_of network deed) refl u.ahead) in
-      subst (λ (n : ℕ). pos (reading n) <ℤ (value_of network deed -ℤ (node.standing.adjustment.0 +ℤ by.0))) same here;
+      let same : t ≡ x = omega arith in
+      let here = rw reads at (ahead_yet moment.reading.0 (node.standing.adjustment.0 +ℤ by.0) _ (value_of network deed)
+      refl u.ahead) in
+      rw same at here;
   done = λ deed there. absurd (none_in deed there);
 }
 
@@ -131,8 +132,7 @@ module _ (s : Scenario) (device : DeviceId) (node : Node) where
       } in
       elim (cases_lt x now) [
         | inl before ↦ has.unsent sent waits x before
-        | inr ge ↦ let at : x ≡ now = omega (arith, ge, lt) in subst
-            (λ (n : ℕ). pos (s.reading device n) <ℤ sent.at.0) (sym at) (none sent waits)
+        | inr ge ↦ let at : x ≡ now = omega arith in rw at (none sent waits)
       ]
   kept_so false sent clusters cluster cm are there is not_yet none has x lt =
       absurd (no_cluster (observation_window s.network) clusters cluster are there)
@@ -169,22 +169,20 @@ corrected_over {s} {hs} front back {now} {device} {node} {w} {cycle} {by} {adjus
     let after = called moment acting (with_corrected node moment heard by) in
     let old = hs ++ (front ++ back) in
     let base = base_then work off same in
-    let five : 5 ≤ rank w.note.body = subst (λ b. 5 ≤ rank b) (sym so.body) (omega arith) in
-    let bears = none_bear front back w work off p.at five none in
+    let bears = none_bear front back w work off p.at (rw so.body (omega arith)) none in
     let borne_so = borne_in hs front back device w bears in
     let changes : Rattle.run_law.specs.device.LocalClocks.changes_adjustment device w.note.body ≡ true =
     ap (Rattle.run_law.specs.device.LocalClocks.changes_adjustment device) so.body ∙ Rattle.std.proofs.lemmas.Bool.eq-eqb device.0 device.0 refl in
-    let at : changed_at (hs ++ (front ++ w ∷ back)) device (now + 1) ≡ now =
+    let at =
     sym (tell_alike s (old ++ w ∷ []) (hs ++ (front ++ w ∷ back)) device (now + 1) borne_so).change
     ∙ ap (Rattle.world_law.specs.device.Told.change_in device) (one_earlier (now + 1) old w so.before)
     ∙ changed_by device (earlier (now + 1) old) w changes ∙ p.at in
-    let reads : moment.reading.0 ≡ pos (s.reading device now) = so.reads ∙ ap (λ (n : ℕ). pos (s.reading device n)) p.at in
+    let reads = so.reads ∙ ap (λ n. pos (s.reading device n)) p.at in
     record {
       left = left_called moment
           (left_alike (hs ++ (front ++ w ∷ back)) borne_so
           (corrects s old device (now + 1) node w cycle by adjustment moment heard so synchronised later base));
-      done = subst (λ n. HasDoneFrom s.network (s.reading device) device after n (now + 1) (now + 1)) (sym at)
-          (corrects_it s.network (s.reading device) device node now moment heard by reads);
+      done = rw at (corrects_it s.network (s.reading device) device node now moment heard by reads);
       sent = corrected_sent s device node moment heard by work.sent quiet;
     }
 
@@ -207,28 +205,26 @@ joiner_over {s} {hs} front mid rest {now} {device} {node} {w} f cause {by} {mome
     let old = hs ++ (front ++ (mid ++ rest)) in
     let whole = hs ++ (front ++ w ∷ (mid ++ f ∷ rest)) in
     let base = base_then work off same in
-    let five : 5 ≤ rank w.note.body = subst (λ b. 5 ≤ rank b) (sym so.body) (omega arith) in
-    let bears = none_bear front (mid ++ rest) w work off at five none in
+    let bears = none_bear front (mid ++ rest) w work off at (rw so.body (omega arith)) none in
     let borne_so = borne_two hs front mid rest device w f bears in
     let changes : Rattle.run_law.specs.device.LocalClocks.changes_adjustment device w.note.body ≡ true =
     ap (Rattle.run_law.specs.device.LocalClocks.changes_adjustment device) so.body ∙ Rattle.std.proofs.lemmas.Bool.eq-eqb device.0 device.0 refl in
     let no_change : Rattle.run_law.specs.device.LocalClocks.changes_adjustment device f.note.body ≡ false =
     ap (Rattle.run_law.specs.device.LocalClocks.changes_adjustment device) e in
-    let changed : changed_at whole device (now + 1) ≡ now =
+    let changed =
     sym (tell_alike s ((old ++ w ∷ []) ++ f ∷ []) whole device (now + 1) borne_so).change
     ∙ ap (Rattle.world_law.specs.device.Told.change_in device) (one_earlier (now + 1) (old ++ w ∷ []) f lt)
-    ∙ ap (λ (l : List Happening). Rattle.std.specs.Option.option_map_or time_of (Rattle.std.specs.List.last_or None l) 0)
+    ∙ ap (λ l. Rattle.std.specs.Option.option_map_or time_of (Rattle.std.specs.List.last_or None l) 0)
     (Rattle.world_law.proofs.lists.Lists.filter_no (λ g. Rattle.run_law.specs.device.LocalClocks.changes_adjustment device g.note.body)
     (earlier (now + 1) (old ++ w ∷ [])) f no_change)
     ∙ ap (Rattle.world_law.specs.device.Told.change_in device) (one_earlier (now + 1) old w so.before)
     ∙ changed_by device (earlier (now + 1) old) w changes ∙ at in
-    let reads : moment.reading.0 ≡ pos (s.reading device now) = so.reads ∙ ap (λ (n : ℕ). pos (s.reading device n)) at in
+    let reads = so.reads ∙ ap (λ n. pos (s.reading device n)) at in
     record {
       left = left_called moment
           (left_alike whole borne_so
           (joiner_corrects s old device (now + 1) node f cause heard so joining later e lt base));
-      done = subst (λ n. HasDoneFrom s.network (s.reading device) device after n (now + 1) (now + 1)) (sym changed)
-          (corrects_it s.network (s.reading device) device node now moment heard by reads);
+      done = rw changed (corrects_it s.network (s.reading device) device node now moment heard by reads);
       sent = corrected_sent s device node moment heard by work.sent quiet;
     }
 
@@ -248,13 +244,13 @@ module _ (s : Scenario) (hs front back : List Happening) (now : ℕ) (device : D
       → changed_at (hs ++ (front ++ w ∷ back)) device (now + 1) ≡ changed_at (hs ++ (front ++ back)) device now
   clique_change work off p none e =
       let old = hs ++ (front ++ back) in
-      let five : 5 ≤ rank w.note.body = subst (λ b. 5 ≤ rank b) (sym e) (omega arith) in
+      let five : 5 ≤ rank w.note.body = rw e (omega arith) in
       let bears = none_bear front back w work off p.at five none in
-      let lt : time_of w < now + 1 = let at = p.at in omega (arith, at) in
+      let lt : time_of w < now + 1 = let at = p.at in omega arith in
       sym (tell_alike s (old ++ w ∷ []) (hs ++ (front ++ w ∷ back)) device (now + 1)
       (borne_in hs front back device w bears)).change
       ∙ ap (Rattle.world_law.specs.device.Told.change_in device) (one_earlier (now + 1) old w lt)
-      ∙ ap (λ (l : List Happening). Rattle.std.specs.Option.option_map_or time_of
+      ∙ ap (λ l. Rattle.std.specs.Option.option_map_or time_of
       (Rattle.std.specs.List.last_or None l) 0)
       (Rattle.world_law.proofs.lists.Lists.filter_no
       (λ g. Rattle.run_law.specs.device.LocalClocks.changes_adjustment device g.note.body)
@@ -273,9 +269,9 @@ module _ (s : Scenario) (hs front back : List Happening) (now : ℕ) (device : D
       let after = called moment acting (with_clique node heard verdict) in
       let old = hs ++ (front ++ back) in
       let base = base_then work off same in
-      let five : 5 ≤ rank w.note.body = subst (λ b. 5 ≤ rank b) (sym e) (omega arith) in
+      let five : 5 ≤ rank w.note.body = rw e (omega arith) in
       let bears = none_bear front back w work off p.at five none in
-      let lt : time_of w < now + 1 = let at = p.at in omega (arith, at) in
+      let lt : time_of w < now + 1 = let at = p.at in omega arith in
       let change = clique_change work off p none e in
       record {
         left = left_called moment
@@ -286,9 +282,9 @@ module _ (s : Scenario) (hs front back : List Happening) (now : ℕ) (device : D
           done = λ deed there.
               let x = work.done.done deed there in (
                 x.0,
-                omega (arith, x.1, change),
+                omega (arith, x.1),
                 x.2,
-                subst (λ (a : Units). (value_of s.network deed -ℤ a.0) ≤ℤ pos (s.reading device x.0)) (sym kept) x.3,
+                rw kept x.3,
               );
         };
         sent = record {

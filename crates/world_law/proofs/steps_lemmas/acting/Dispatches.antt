@@ -1,13 +1,12 @@
 -- A device dispatches one row from one place of its order at an instant: so all that is due from there is the record that tells
 -- of it.
 use Rattle.schedule_tables.specs.Dispatches.{dispatch_order}
-use Rattle.net_plan.specs.declared.tables.Row.{Row}
 use Rattle.world_law.proofs.{rows.Dispatching.{one_row, told_alike}, steps_lemmas.acting.Complete.same_told}
-use Rattle.{schedule_tables.specs.Entries.IsEntry, world_law.proofs.steps_lemmas.Words.{Entry, Network, Option, option_map_or}}
+use Rattle.{schedule_tables.specs.Entries.IsEntry, world_law.proofs.steps_lemmas.Words.{Entry, Network}}
 use Rattle.world_law.proofs.steps_lemmas.Words.{◌++◌, ◌∙◌, ◌∷◌, ◌≡◌, ◌≤◌, Bool, DeviceId, Dispatches, Happening, IsAllOfIt}
-use Rattle.world_law.proofs.steps_lemmas.Words.{IsCaused, IsIn, IsLawful, IsOwnSource, LinkId, List, NoteBody, RowId, Scenario, Units}
+use Rattle.world_law.proofs.steps_lemmas.Words.{IsCaused, IsIn, IsLawful, IsOwnSource, LinkId, List, NoteBody, Scenario, Units}
 use Rattle.world_law.proofs.steps_lemmas.Words.{VlId, [], amount, ap, arith, dispatch_body, dispatches_same, false, in_left}
-use Rattle.world_law.proofs.steps_lemmas.Words.{if◌then◌else◌, inl, inr, is_cut, members_in, place_of, refl, same_device, subst, sym, time_of, true}
+use Rattle.world_law.proofs.steps_lemmas.Words.{inl, inr, is_cut, members_in, place_of, refl, same_device, sym, time_of, true}
 use Rattle.world_law.proofs.steps_lemmas.Words.{length}
 use Rattle.world_law.proofs.steps_lemmas.{Words.{way_from, ℕ}, acting.Work.all_earlier}
 use Rattle.run_law.specs.declared.judgement.Why.TheVariants as whys
@@ -28,7 +27,7 @@ pub record TellsRow (s : Scenario) (js : List Happening) (now : ℕ) (device : D
 order_is : {network : Network} {place : ℕ} {entry : Entry} → IsEntry network place entry
     → dispatch_order network (record { 0 = place }) ≡ amount entry.row.offset ∷ entry.row.link.0 ∷ place ∷ []
 order_is {place} is =
-    ap (λ (o : Option Row). option_map_or (λ (r : Row). amount r.offset ∷ r.link.0 ∷ place ∷ []) o []) is.row
+    rw is.row
 
 -- a place in the order tells the link
 one_link : {s : Scenario} {js : List Happening} {device : DeviceId} {now : ℕ} {link : LinkId} (other : LinkId)
@@ -37,10 +36,10 @@ one_link : {s : Scenario} {js : List Happening} {device : DeviceId} {now : ℕ} 
     → dispatch_order s.network (record { 0 = d.place }) ≡ order
     → dispatch_order s.network (record { 0 = e.place }) ≡ order → link ≡ other
 one_link other from with number order d e one two =
-    let both : amount d.entry.row.offset ∷ d.entry.row.link.0 ∷ d.place ∷ [] ≡ amount e.entry.row.offset ∷ e.entry.row.link.0 ∷ e.place ∷ [] =
+    let both =
     sym (order_is d.row) ∙ one ∙ sym two ∙ order_is e.row in
     let links : d.entry.row.link.0 ≡ e.entry.row.link.0 = cc in
-    sym d.by ∙ ap (λ (n : ℕ). let l : LinkId = record { 0 = n } in l) links ∙ e.by
+    sym d.by ∙ ap (λ (n : ℕ). (record { 0 = n })) links ∙ e.by
 
 -- so what is dispatched from the same place by records of the instant is told by the same
 same_row : {s : Scenario} (hs new front : List Happening) {now : ℕ} {device : DeviceId} {order : List ℕ}
@@ -51,9 +50,7 @@ same_row : {s : Scenario} (hs new front : List Happening) {now : ℕ} {device : 
     → body ≡ dispatch_body s device now link cause vl cycle
 same_row {s} hs new front {now} {device} {order} {link} {cause} {vl} {cycle} law of_now also t d place =
     let x = dispatches_same s (hs ++ front) (hs ++ new) now device link cause vl cycle (all_earlier s hs front new now also of_now) d in
-    let at : dispatch_order s.network (record { 0 = x.0.place }) ≡ order =
-    ap (λ (n : ℕ). dispatch_order s.network (let row : RowId = record { 0 = n } in row)) x.1 ∙ place in
-    let links = one_link link cause vl cycle order t.dispatches x.0 t.at at in
+    let links = one_link link cause vl cycle order t.dispatches x.0 t.at (rw x.1 place) in
     let one = one_row link cause vl cycle law links t.dispatches x.0 in
     t.is ∙ told_alike link cause vl cycle law.rules t.dispatches x.0 one.0 one.1
 
@@ -80,7 +77,7 @@ at_row now t d e order other same = (cc, cc, cc)
 no_row : (now t d e : ℕ) (order : List ℕ) → 1 ≤ length order → now ∷ 6 ∷ d ∷ order ≡ t ∷ 6 ∷ e ∷ [] → ⊥
 no_row now t d e order long same =
     let none : 0 ≡ length order = ap length (at_row now t d e order [] same).2 in
-    omega (arith, none, long)
+    omega arith
 
 module _ (s : Scenario) (js : List Happening) (now : ℕ) (device : DeviceId) (order : List ℕ) (time : Units)
     (m : ℕ) where
@@ -93,9 +90,7 @@ module _ (s : Scenario) (js : List Happening) (now : ℕ) (device : DeviceId) (o
         e.0,
         (
           same,
-          subst (λ n. IsOfRow s js order link cause true device n) e.0
-              (subst (λ d. IsOfRow s js order link cause true d (amount time)) same
-              (own.0, own.1, own.2, own.3, e.2)),
+          rw (sym e.0) (rw (sym same) (own.0, own.1, own.2, own.3, e.2)),
         ),
       )
   row_cause (kinds.TtSent other link cause vl cycle) long own c =
@@ -104,13 +99,7 @@ module _ (s : Scenario) (js : List Happening) (now : ℕ) (device : DeviceId) (o
         e.0,
         (
           same,
-          subst (λ (n : ℕ). (d : Dispatches s js device n link cause vl cycle)
-              × (is_cut s link (way_from s.network device link) n ≡ false)
-              × (dispatch_order s.network (record { 0 = d.place }) ≡ order)) e.0
-              (subst (λ (a : DeviceId). (d : Dispatches s js a (amount time) link cause vl cycle)
-              × (is_cut s link (way_from s.network a link) (amount time) ≡ false)
-              × (dispatch_order s.network (record { 0 = d.place }) ≡ order)) same
-              (own.0, c.whole, e.2)),
+          rw (sym e.0) (rw (sym same) (own.0, c.whole, e.2)),
         ),
       )
   row_cause (kinds.Lost other link cause) long (inl own) c = absurd (grind arith)
@@ -134,13 +123,13 @@ row_found : {s : Scenario} (hs new front : List Happening) {now : ℕ} {device :
 row_found {s} hs new front {now} {device} w y law of_now also t at_w at (kinds.Lost other link cause) is c =
     let x = c.1 in
     same_told s now device link cause x.0 x.1 w y (same_row hs new front law of_now also t x.2 x.4)
-    (is ∙ ap (λ (d : DeviceId). kinds.Lost d link cause) c.0
-    ∙ sym (ap (λ (b : Bool). if b then kinds.Lost device link cause else kinds.TtSent device link cause x.0 x.1) x.3)) at_w at
+    (is ∙ (rw c.0
+    (sym (rw x.3)))) at_w at
 row_found {s} hs new front {now} {device} w y law of_now also t at_w at (kinds.TtSent other link cause vl cycle) is c =
     let x = c.1 in
     same_told s now device link cause vl cycle w y (same_row hs new front law of_now also t x.0 x.2)
-    (is ∙ ap (λ (d : DeviceId). kinds.TtSent d link cause vl cycle) c.0
-    ∙ sym (ap (λ (b : Bool). if b then kinds.Lost device link cause else kinds.TtSent device link cause vl cycle) x.1)) at_w at
+    (is ∙ (rw c.0
+    (sym (rw x.1)))) at_w at
 row_found hs new front w y law of_now also t at_w at rest is c = absurd c
 
 pub all_row : {s : Scenario} (hs new : List Happening) {now : ℕ} {device : DeviceId} {order : List ℕ} (w : Happening)
@@ -150,5 +139,5 @@ pub all_row : {s : Scenario} (hs new : List Happening) {now : ℕ} {device : Dev
 all_row {s} hs new {now} {device} {order} w law of_now t there long front back y e all none due own =
     let c = row_cause s (hs ++ front) now device order y.note.time (members_in y) y.note.body long own due.cause in
     let also : (z : Happening) → IsIn z front → time_of z ≡ now = λ z i.
-    of_now z (subst (λ l. IsIn z l) (sym e) (in_left z front back i)) in
+    of_now z (rw e (in_left z front back i)) in
     (w, there, row_found hs new front w y law of_now also t (of_now w there) c.0 y.note.body refl c.1)

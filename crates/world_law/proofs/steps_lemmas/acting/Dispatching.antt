@@ -1,11 +1,11 @@
 -- A device dispatches a row's frame: its record, and how the device stands then.
 use Rattle.net_plan.proofs.SameIds.{same_link, same_vl}
 use Rattle.run_law.proofs.{law.FirstPlaces.{in_filter, numbered_front}, timed.Rows.at_hand_by}
-use Rattle.schedule_tables.{proofs.EntryLemmas.one_entry, specs.Dispatches.dispatch_order, specs.Entries.{IsEntry, source_of}, specs.Windows.OccursIn}
+use Rattle.schedule_tables.{proofs.EntryLemmas.one_entry, specs.Dispatches.dispatch_order, specs.Entries.{IsEntry}}
 use Rattle.std.proofs.Common.{◌*◌}
-use Rattle.world_law.proofs.steps_lemmas.Words.{never_self, Dispatches, Entry, Happening, HasAtHand, HasCleared, Hearing, IsActOf, IsActing, IsDue}
+use Rattle.world_law.proofs.steps_lemmas.Words.{never_self, Dispatches, Entry, Happening, HasAtHand, HasCleared, IsActOf, IsActing, IsDue}
 use Rattle.world_law.proofs.steps_lemmas.Words.{IsFirstTask, IsFounded, IsIn, IsLawful, IsPending, IsReadyAt, IsSet, IsSource, LinkId, List, Moment}
-use Rattle.world_law.proofs.steps_lemmas.Words.{Network, Node, None, Note, NoteBody, Option, Reaches, RowId, Scenario, Stands, VlId, World, ℕ, [], acting}
+use Rattle.world_law.proofs.steps_lemmas.Words.{Network, Node, None, Note, NoteBody, Reaches, RowId, Scenario, Stands, VlId, World, ℕ, [], acting}
 use Rattle.world_law.proofs.steps_lemmas.Words.{amount, ap, append-nil, arith, by_number, called, cause_of, changed_before, correcting, dispatch_body}
 use Rattle.world_law.proofs.steps_lemmas.Words.{dispatch_late, dispatches_same, dispatching, doing, earlier, false, filter, happenings, hearing_by}
 use Rattle.world_law.proofs.steps_lemmas.Words.{if◌then◌else◌, in_left, in_right, inl, inr, is_accepted, is_cut, key, last_in, last_unfollowed, length}
@@ -14,7 +14,7 @@ use Rattle.world_law.proofs.steps_lemmas.Words.{reading_for, record_of, refl, sa
 use Rattle.world_law.proofs.steps_lemmas.Words.{◌++◌, ◌+◌, ◌∙◌, ◌∷◌, ◌≡◌, ◌≤ℤ◌, ◌≤◌, ArePutIn, Bool, Contains-push_cases, DeviceId}
 use Rattle.world_law.proofs.steps_lemmas.acting.{GoesOn.{IsPutAs, does, goes_on, left_on, put_now, sent_alike}, Kept.{may_act_now, ready_after}}
 use Rattle.world_law.proofs.steps_lemmas.acting.{OneAct.IsOneAct, Sending.{HasSentIt, as_put, did_deed, taken_then}, Stage.{IsActRecordAt, StageAt, IsActOn}}
-use Rattle.world_law.proofs.{Words.{AreComing, IsBefore, IsOwnSource, Some, append_assoc, chain, numbered, parted}, rows.Dispatching.one_row}
+use Rattle.world_law.proofs.{Words.{AreComing, IsBefore, IsOwnSource, append_assoc, chain, parted}, rows.Dispatching.one_row}
 use Rattle.world_law.proofs.{acts.Dispatched.{dispatch_told, send_apart}, steps_lemmas.Words.{way_from, with_done}, steps_lemmas.acting.Dispatches.TellsRow}
 use Rattle.world_law.proofs.steps_lemmas.acting.Work.{IsAtWork, all_earlier, reaches}
 use Rattle.run_law.specs.declared.note.NoteBody.TheVariants as kinds
@@ -25,7 +25,7 @@ use Rattle.run_law.specs.declared.steps.Act.TheVariants as acts
 -- its cause is one of the records
 pub hand_within : (s : Scenario) {hs : List Happening} {device : DeviceId} (entry : Entry) {t cause cycle : ℕ}
     → IsFounded place_of (IsDue s) hs → HasAtHand s.network hs device entry t cause cycle → cause ≤ length hs
-hand_within s entry founded (inl sender) = let none = sender.1 in omega (arith, none)
+hand_within s entry founded (inl sender) = omega arith
 hand_within s {hs} {device} entry {t} founded (inr took) =
     elim (last_in None (filter (λ h. is_accepted device entry.row.vl h.note.body) (earlier t hs)) took.1.taken took.1.last) [
       | inl none ↦ absurd cc
@@ -34,14 +34,14 @@ hand_within s {hs} {device} entry {t} founded (inr took) =
           (in_filter (λ h. is_accepted device entry.row.vl h.note.body) (earlier t hs) took.1.taken i) in
           let within = numbered_within hs took.1.taken.note.number took.1.taken (by_number s hs took.1.taken founded there) in
           let number = took.1.number in
-          omega (arith, within, number)
+          omega arith
     ]
 
 -- what is shown of it has that cause
 pub dispatch_cause : (s : Scenario) (device : DeviceId) (now : ℕ) (link : LinkId) (cause : ℕ) (vl : VlId) (cycle : ℕ)
     → cause_of (dispatch_body s device now link cause vl cycle) ≡ cause
 dispatch_cause s device now link cause vl cycle =
-    elim (is_cut s link (way_from s.network device link) now) as (λ (b : Bool). cause_of (if b then kinds.Lost device link cause
+    elim (is_cut s link (way_from s.network device link) now) as (λ b. cause_of (if b then kinds.Lost device link cause
     else kinds.TtSent device link cause vl cycle) ≡ cause) [ true ↦ refl | false ↦ refl ]
 
 -- a device that has to dispatch a row, whose frame it has at hand by the records given, dispatches it by any records of the instant
@@ -54,21 +54,20 @@ pub dispatches_it : {s : Scenario} {hs coming : List Happening} (other : List Ha
     → (d : Dispatches s (hs ++ other) device now entry.row.link cause entry.row.vl cycle) × (d.place ≡ row.0)
 dispatches_it {s} {hs} {coming} other {now} {device} row {entry} {cause} {cycle} w also p due is hand =
     let same = all_earlier s hs coming other now (λ z i. (w.of_now z i).0) also in
-    let given : earlier now hs ≡ earlier now (hs ++ other) =
-    sym (Rattle.world_law.proofs.runs.Firsts.earlier_still now hs other (λ z i. let at = also z i in omega (arith, at))) in
+    let given =
+    sym (Rattle.world_law.proofs.runs.Firsts.earlier_still now hs other (λ z i. omega arith)) in
     let frame = p.1.own.1 in
-    let one : frame.entry ≡ entry = one_entry s.network row.0 frame.entry entry frame.is is in
+    let one = one_entry s.network row.0 frame.entry entry frame.is is in
     let reached : Reaches s (hs ++ coming) device (pos (cycle * amount s.network.cycle + amount entry.row.offset)) now =
-    subst (λ z. Reaches s (hs ++ coming) device z now) (value_is row cycle is)
-    (reaches w p.1 due) in (
+    rw (value_is row cycle is) at (reaches w p.1 due) in (
       record {
         place = row.0;
         entry = entry;
         row = is;
         by = refl;
         of_vl = refl;
-        leaves = subst (λ x. source_of x ≡ device) one frame.leaves;
-        occurs = subst (λ (x : Entry). OccursIn x.vl cycle) one frame.occurs;
+        leaves = rw one at frame.leaves;
+        occurs = rw one at frame.occurs;
         up = up_back s (hs ++ coming) (hs ++ other) now device same (record { synchronised = sym w.left.state ∙ p.1.own.0; correct = w.sound });
         reached = reaches_back s (hs ++ coming) (hs ++ other) now device same reached;
         at_hand = at_hand_by s.network (hs ++ other) entry given hand;
@@ -87,14 +86,14 @@ lost_at : (t u m d l c : ℕ) (body : NoteBody) → t ∷ 9 ∷ d ∷ l ∷ c �
     × (link.0 ≡ l) × (body ≡ kinds.Lost other link c)
 unfolding second
 lost_at t u m d l c (kinds.Lost other link from) e = grind arith
-lost_at t u m d l c other e = absurd (let bad = ap second e in omega (arith, bad))
+lost_at t u m d l c other e = absurd (let bad = ap second e in omega arith)
 
 -- and where that of a dispatch does
 tt_at : (t u m d l c v n : ℕ) (body : NoteBody) → t ∷ 10 ∷ d ∷ l ∷ c ∷ v ∷ n ∷ [] ≡ u ∷ rank body ∷ key m body → (other : DeviceId) × (link : LinkId)
     × (vl : VlId) × (other.0 ≡ d) × (link.0 ≡ l) × (vl.0 ≡ v) × (body ≡ kinds.TtSent other link c vl n)
 unfolding second
 tt_at t u m d l c v n (kinds.TtSent other link from vl number) e = grind arith
-tt_at t u m d l c v n other e = absurd (let bad = ap second e in omega (arith, bad))
+tt_at t u m d l c v n other e = absurd (let bad = ap second e in omega arith)
 
 -- the body of a dispatch on a way that is cut, or not
 abbrev body_by : Bool → DeviceId → LinkId → ℕ → VlId → ℕ → NoteBody
@@ -106,7 +105,7 @@ body_at : (cut : Bool) (device : DeviceId) (link : LinkId) (cause : ℕ) (vl : V
     → body ≡ body_by cut device link cause vl cycle
 body_at true device link cause vl cycle t u m body e =
     let x = lost_at t u m device.0 link.0 cause body e in
-    x.4 ∙ ap (λ (d : DeviceId). kinds.Lost d x.1 cause) (same_device x.0 device x.2) ∙ ap (λ (l : LinkId). kinds.Lost device l cause) (same_link x.1 link x.3)
+    x.4 ∙ (rw (same_device x.0 device x.2) ((rw (same_link x.1 link x.3))))
 body_at false device link cause vl cycle t u m body e = grind (arith, tt_at, same_device, same_link, same_vl)
 
 -- what is asked of the record but for its body
@@ -123,22 +122,22 @@ row_record : {s : Scenario} {hs front back : List Happening} {now : ℕ} {device
     → IsActRecordAt s hs front back now device (body_by cut device link cause vl cycle)
     (task_place s.network now device (doing (dispatching row cycle)))
 row_record {s} {hs} {front} {now} {device} {link} {cause} {vl} {cycle} true is r =
-    let at = λ (n : ℕ). let place : RowId = record { 0 = n } in task_place s.network now device (doing (dispatching place cycle)) in
+    let at = λ (n : ℕ). task_place s.network now device (doing (dispatching (record { 0 = n }) cycle)) in
     record {
       own = λ m. inr (inl (vl, cycle, r.dispatches, is, ap at (sym r.place)));
-      here = subst (λ (n : ℕ). IsSource s (hs ++ front) (at n)) r.place
-          (IsSource.acting now device (doing (dispatching (record { 0 = r.dispatches.place }) cycle)) (IsActing.dispatches link cause vl cycle r.dispatches));
+      here = rw r.place at (IsSource.acting now device (doing (dispatching (record { 0 = r.dispatches.place }) cycle))
+          (IsActing.dispatches link cause vl cycle r.dispatches));
       caused = inr (inl (vl, cycle, r.dispatches, is));
       fresh = λ y i e. r.new y i (body_at true device link cause vl cycle now (time_of y) (members_in y) y.note.body e);
       apart = λ other not. (refl, λ at. refl);
       lone = last_unfollowed s hs now (kinds.Lost device link cause) refl;
     }
 row_record {s} {hs} {front} {now} {device} {link} {cause} {vl} {cycle} false is r =
-    let at = λ (n : ℕ). let place : RowId = record { 0 = n } in task_place s.network now device (doing (dispatching place cycle)) in
+    let at = λ (n : ℕ). task_place s.network now device (doing (dispatching (record { 0 = n }) cycle)) in
     record {
       own = λ m. (r.dispatches, ap at (sym r.place));
-      here = subst (λ (n : ℕ). IsSource s (hs ++ front) (at n)) r.place
-          (IsSource.acting now device (doing (dispatching (record { 0 = r.dispatches.place }) cycle)) (IsActing.dispatches link cause vl cycle r.dispatches));
+      here = rw r.place at (IsSource.acting now device (doing (dispatching (record { 0 = r.dispatches.place }) cycle))
+          (IsActing.dispatches link cause vl cycle r.dispatches));
       caused = record { dispatches = r.dispatches; whole = is };
       fresh = λ y i e. r.new y i (body_at false device link cause vl cycle now (time_of y) (members_in y) y.note.body e);
       apart = λ other not. (refl, λ at. refl);
@@ -155,19 +154,18 @@ no_row_told : {s : Scenario} {hs coming : List Happening} {frontier : List ℕ} 
 no_row_told {s} {hs} {coming} {frontier} {now} {device} are founded law z i {link} {cause} {vl} {cycle} d waits e =
     let split = parted z coming i in
     let by = are.by split.0 split.1 z split.2 in
-    let inside : (h : Happening) → IsIn h split.0 → IsIn h coming = λ h j. subst (λ l. IsIn h l) (sym split.2)
-    (in_left h split.0 (z ∷ split.1) j) in
-    let same : earlier now (hs ++ split.0) ≡ earlier now (hs ++ coming) = all_earlier s hs split.0 coming now (λ h j. are.of_now h (inside h j)) are.of_now in
+    let inside : (h : Happening) → IsIn h split.0 → IsIn h coming =
+    λ h j. rw split.2 (in_left h split.0 (z ∷ split.1) j) in
+    let same = all_earlier s hs split.0 coming now (λ h j. are.of_now h (inside h j)) are.of_now in
     let whole : hs ++ coming ≡ (hs ++ split.0) ++ z ∷ split.1 =
-    ap (λ (l : List Happening). hs ++ l) split.2 ∙ sym (append_assoc hs split.0 (z ∷ split.1)) in
-    let place = λ (n : ℕ). now ∷ 6 ∷ device.0 ∷ dispatch_order s.network (let row : RowId = record { 0 = n } in row) in
-    let own : IsOwnSource s (hs ++ split.0) now (members_in z) z.note.body by.0 = subst
-    (λ t. IsOwnSource s (hs ++ split.0) t (members_in z) z.note.body by.0) (are.of_now z i) by.1 in
+    ap (λ l. hs ++ l) split.2 ∙ sym (append_assoc hs split.0 (z ∷ split.1)) in
+    let place = λ (n : ℕ). now ∷ 6 ∷ device.0 ∷ dispatch_order s.network ((record { 0 = n })) in
+    let own : IsOwnSource s (hs ++ split.0) now (members_in z) z.note.body by.0 = rw (are.of_now z i) at by.1 in
     let none : (other : VlId) (number : ℕ) (x : Dispatches s (hs ++ split.0) device now link cause other number) → by.0 ≡ place x.place → ⊥ =
     λ other number x is.
     (let y = dispatches_same s (hs ++ split.0) (hs ++ coming) now device link cause other number same x in
     let one = one_row link cause vl cycle law refl y.0 d in
-    waits (subst (λ q. IsBefore q frontier) (is ∙ ap place (sym y.1 ∙ one.0)) by.3)) in
+    waits (rw (is ∙ ap place (sym y.1 ∙ one.0)) at by.3)) in
     elim (dispatch_told s device now link cause vl cycle z.note.body e) [
       | inr sent ↦
           let it = subst (λ b. IsOwnSource s (hs ++ split.0) now (members_in z) b by.0) sent own in none vl cycle it.0 it.1
@@ -175,13 +173,12 @@ no_row_told {s} {hs} {coming} {frontier} {now} {device} are founded law z i {lin
           elim (subst (λ b. IsOwnSource s (hs ++ split.0) now (members_in z) b by.0) lost own) [
             | inl leaves ↦
                 waits (chain (place d.place) (now ∷ 8 ∷ device.0 ∷ link.0 ∷ cause ∷ []) frontier (inr (refl, inl (omega arith)))
-                (subst (λ q. IsBefore q frontier) leaves.0 by.3))
+                (rw leaves.0 at by.3))
             | inr other ↦ elim other [
               | inl mine ↦ none mine.0 mine.1 mine.2 mine.4
               | inr sends ↦
                   send_apart hs coming founded are.of_now
-                  (λ h there. subst (λ l. numbered l cause ≡ Some h) (sym whole)
-                  (numbered_front (hs ++ split.0) (z ∷ split.1) cause h there)) sends.1 d
+                  (λ h there. rw whole (numbered_front (hs ++ split.0) (z ∷ split.1) cause h there)) sends.1 d
             ]
           ]
     ]
@@ -197,18 +194,16 @@ pub dispatching_record : {M : Type 0} {stands : M → Network → DeviceId → N
     (task_place s.network now device (doing (dispatching row cycle)))
 dispatching_record {s} {hs} front back {now} {device} row {entry} {cause} {cycle} st pending due is hand =
     let link = entry.row.link in
-    let vl = entry.row.vl in
     let at = task_place s.network now device (doing (dispatching row cycle)) in
     let here = dispatches_it front row st.work (λ z i. (st.work.of_now z (in_left z front back i)).0)
     pending due is hand in
     let whole = dispatches_it (front ++ back) row st.work (λ z i. (st.work.of_now z i).0) pending due is hand in
-    row_record {s = s} {hs = hs} {front = front} {back = back} {now = now} {device = device} {row = row} {link = link} {cause = cause} {vl = vl} {cycle = cycle} (is_cut s link (way_from s.network device link) now) refl (record {
+    row_record (is_cut s link (way_from s.network device link) now) refl (record {
       dispatches = here.0;
       place = here.1;
       new = λ y i e.
           no_row_told st.moving.are st.given st.lawful y (in_right y front back i) whole.0
-          (λ b. never_self at (subst (λ (n : ℕ). IsBefore (now ∷ 6 ∷ device.0 ∷ dispatch_order s.network (let r : RowId = record { 0 = n } in r)) at)
-          whole.1 b)) e;
+          (λ b. never_self at (rw whole.1 at b)) e;
     })
 
 -- ---- how it stands then
@@ -216,13 +211,13 @@ dispatching_record {s} {hs} front back {now} {device} row {entry} {cause} {cycle
 module _ (s : Scenario) (device of : DeviceId) (now : ℕ) (link : LinkId) (cause : ℕ) (vl : VlId) (cycle : ℕ) where
   none_heard_by : (h : Happening) → hearing_by s.network device h (dispatch_body s of now link cause vl cycle) ≡ None
   none_heard_by h =
-      elim (is_cut s link (way_from s.network of link) now) as (λ (b : Bool). hearing_by s.network device h
+      elim (is_cut s link (way_from s.network of link) now) as (λ b. hearing_by s.network device h
       (if b then kinds.Lost of link cause
       else kinds.TtSent of link cause vl cycle) ≡ None) [ true ↦ refl | false ↦ refl ]
 
   none_moved : moves device (dispatch_body s of now link cause vl cycle) ≡ false
   none_moved =
-      elim (is_cut s link (way_from s.network of link) now) as (λ (b : Bool). moves device
+      elim (is_cut s link (way_from s.network of link) now) as (λ b. moves device
       (if b then kinds.Lost of link cause
       else kinds.TtSent of link cause vl cycle) ≡ false) [ true ↦ refl | false ↦ refl ]
 
@@ -240,9 +235,9 @@ dispatches_on : {s : Scenario} {hs : List Happening} (front back : List Happenin
 dispatches_on {s} {hs} front back {now} {device} {node} row cycle moment work p none still due ready =
     let after = called moment acting (with_done node (dispatching row cycle)) in
     goes_on s hs front back now device node work p
-    (left_on s hs front back now device node {after = after} work p
+    (left_on s hs front back now device node work p
     (record { standing = refl; broken = refl; changed = refl; points = refl }) still
-    (sym (append-nil node.heard) ∙ ap (λ (o : Option Hearing). node.heard ++ option_to_list o) (sym none)) (inl none))
+    (sym (append-nil node.heard) ∙ ap (λ o. node.heard ++ option_to_list o) (sym none)) (inl none))
     still
     (does moment (dispatching row cycle) work.done
     (changed_before (hs ++ (front ++ back)) device now) due) (sent_alike after refl refl work.sent) ready
@@ -264,16 +259,15 @@ module _ {M : Type 0} (stands : M → Network → DeviceId → Node → Type 0) 
       let w = record_of s.network hs front now (dispatch_body s device now entry.row.link cause entry.row.vl cycle) in
       let high = dispatch_late s device now entry.row.link cause entry.row.vl cycle in
       let x = dispatches_it (front ++ w ∷ back) row st.work
-      (λ z i. (put_now s hs front back now device node st.work (as_put now w refl (omega (arith, high))) z i).0)
+      (λ z i. (put_now s hs front back now device node st.work (as_put now w refl (omega arith)) z i).0)
       pending due is hand in
-      let rest : dispatch_order s.network row ≡ order = cc in
       record {
         link = entry.row.link;
         cause = cause;
         vl = entry.row.vl;
         cycle = cycle;
         dispatches = x.0;
-        at = ap (λ (n : ℕ). dispatch_order s.network (let r : RowId = record { 0 = n } in r)) x.1 ∙ rest;
+        at = rw x.1 cc;
         is = refl;
       }
 
@@ -291,21 +285,19 @@ module _ {M : Type 0} (stands : M → Network → DeviceId → Node → Type 0) 
   has_dispatched_it then_ {node} after row {entry} {cause} {cycle} st first act is stood entered hand =
       let link = entry.row.link in
       let vl = entry.row.vl in
-      let body = dispatch_body s device now link cause vl cycle in
-      let w = record_of s.network hs front now body in
-      let new = front ++ w ∷ back in
+      let w = record_of s.network hs front now (dispatch_body s device now link cause vl cycle) in
       let moment = moment_of s device now in
       let high = dispatch_late s device now link cause vl cycle in
-      let p = as_put now w refl (omega (arith, high)) in
+      let p = as_put now w refl (omega arith) in
       let may = may_act_now s device node now st.work.ready st.steady st.limit in
       let ready = ready_after s after (acts.Dispatch row cycle) st.work.ready st.steady st.precise st.wide may act
-      (ap (λ (n : Node). n.last) is)
+      (rw is)
       in
       let there = called moment acting (with_done node (dispatching row cycle)) in
-      let work : IsAtWork s hs new now device there = dispatches_on front back row cycle moment st.work p
+      let work = dispatches_on front back row cycle moment st.work p
       (none_heard_by s device device now link cause vl cycle w) (none_moved s device device now link cause vl cycle)
       first.due
-      (subst (λ n. IsReadyAt (s.reading device) s.network device n now) is ready) in
+      (rw is at ready) in
       let cleared : HasCleared there =
       λ n has. elim (Contains-push_cases node.done (dispatching row cycle) (correcting n) has) [
         | inl old ↦ st.cleared n old
@@ -313,12 +305,12 @@ module _ {M : Type 0} (stands : M → Network → DeviceId → Node → Type 0) 
       ] in
       record {
         is = stood;
-        work = subst (λ n. IsAtWork s hs new now device n) (sym is) work;
+        work = rw is work;
         cleared = subst HasCleared (sym is) cleared;
-        taken = ap (λ (n : Node). n.taken) is
-            ∙ taken_then stands s hs front back now device machine node w
-            st refl (none_taken s device device now link cause vl cycle);
-        phase = ap (λ (n : Node). n.phase) is;
+        taken = rw is
+            (taken_then stands s hs front back now device machine node w
+            st refl (none_taken s device device now link cause vl cycle));
+        phase = rw is;
       }
 
 -- The step by which a device dispatches a row's frame.
@@ -348,12 +340,12 @@ dispatches_one {reading} {stands} {s} {world} {notes} {old} {device} {machine} {
     record {
       on = on;
       apart = λ x. x;
-      adjustment = ap (λ (n : Node). n.standing.adjustment) act.1.1;
+      adjustment = rw act.1.1;
       did = λ task has. did_deed s now device node act.0 (moment_of s device now) (dispatching row cycle) task act.1.1 has;
       body = dispatch_body s device now entry.row.link cause entry.row.vl cycle;
-      at_place = λ low front. absurd (omega (arith, low));
-      late = omega (arith, high);
-      causes = omega (arith, of_cause, within);
+      at_place = λ low front. absurd (omega arith);
+      late = omega arith;
+      causes = omega arith;
       set = set;
       put = put;
       makes = λ front back parts st2 none.

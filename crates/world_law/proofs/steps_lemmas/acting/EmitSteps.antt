@@ -1,14 +1,13 @@
 -- The steps by which a compression master emits the frame of a collection, and does not join by it.
 use Rattle.world_law.proofs.steps_lemmas.Words.{second}
-use Rattle.{run_law.specs.{machines.Answers.after_emission, records.Ranks.sign}, std.proofs.Common.Contains, world_law.specs.world.Outcomes.judged_as}
+use Rattle.{run_law.specs.{records.Ranks.sign}, world_law.specs.world.Outcomes.judged_as}
 use Rattle.world_law.{proofs.steps_lemmas.acting.OneAct.IsOneAct, specs.steps.Acting.{joining_bodies}}
-use Rattle.sync_state.specs.Standing.{Standing}
-use Rattle.world_law.proofs.steps_lemmas.Words.{◌⊎◌, ClockTask, Contains-push_cases, HasDoneTask, Task, doing, task_place}
+use Rattle.world_law.proofs.steps_lemmas.Words.{◌⊎◌, Contains-push_cases, HasDoneTask, Task, doing, task_place}
 use Rattle.world_law.proofs.steps_lemmas.Words.{IsSource}
 use Rattle.world_law.proofs.steps_lemmas.Words.{◌++◌, ◌+◌, ◌<◌, ◌∙◌, ◌∷◌, ◌≡◌, ◌≤ℤ◌, ArePutIn, Compressed, DeviceId, Happening}
 use Rattle.world_law.proofs.steps_lemmas.Words.{IsActOf, IsActing, IsFirstTask, IsPending, IsSet, Judgement, List, Network}
 use Rattle.world_law.proofs.steps_lemmas.Words.{Node, None, Note, NoteBody, Ripe, Scenario, Stands, World, [], acting}
-use Rattle.world_law.proofs.steps_lemmas.Words.{amount, ap, arith, called, correcting, emitting, happenings, hearing_by}
+use Rattle.world_law.proofs.steps_lemmas.Words.{amount, ap, arith, emitting, happenings, hearing_by}
 use Rattle.world_law.proofs.steps_lemmas.Words.{in_right, inl, inr, is_last, last_unfollowed, length, moment_of, ne_eqb, pos}
 use Rattle.world_law.proofs.steps_lemmas.{Words.{rank, record_of, refl, ripe_as, subst, sym, true, ℕ}, acting.Work.{emits, own_judgement}}
 use Rattle.world_law.proofs.steps_lemmas.acting.GoesOn.{IsEmitted, StaysBy, emits_on, is_emitted, node_emitted}
@@ -79,8 +78,8 @@ emission_record {stands} {s} {hs} front back {now} {device} {machine} {node} sen
 
 -- what stands behind it is no frame that is heard
 hears_none : (s : Scenario) (device : DeviceId) (y : Happening) (body : NoteBody) → 4 < rank body → hearing_by s.network device y body ≡ None
-hears_none s device y (kinds.Permanent other link cause point verdict) late = absurd (omega (arith, late))
-hears_none s device y (kinds.Compressed other opened at cycle members verdict) late = absurd (omega (arith, late))
+hears_none s device y (kinds.Permanent other link cause point verdict) late = absurd (omega arith)
+hears_none s device y (kinds.Compressed other opened at cycle members verdict) late = absurd (omega arith)
 hears_none s device y other late = refl
 
 has_emitted_it : {M : Type 0} {stands : M → Network → DeviceId → Node → Type 0} {s : Scenario} {hs : List Happening}
@@ -99,21 +98,19 @@ has_emitted_it {stands} {s} {hs} front back {now} {device} {machine} then_ {node
     first act is stays stood =
     let v = own_judgement s.network device node sent in
     let w = record_of s.network hs front now (emission_body device sent v) in
-    let new = front ++ w ∷ back in
     let moment = moment_of s device now in
-    let p = as_put now w refl (omega arith) in
-    let x : IsEmitted s.network device node after w sent = subst (λ n. IsEmitted s.network device node n w sent) (sym is)
+    let x : IsEmitted s.network device node after w sent = rw is
     (is_emitted s.network device node moment w sent v stays refl refl) in
     let may = may_act_now s device node now st.work.ready st.steady st.limit in
-    let last : after.last ≡ moment = ap (λ (n : Node). n.last) is ∙ called_last s.network device node moment sent v in
+    let last : after.last ≡ moment = rw is (called_last s.network device node moment sent v) in
     let ready = ready_after s after (acts.Emit sent heard) st.work.ready st.steady st.precise st.wide may act last in
     record {
       is = stood;
-      work = emits_on front back st.work p x
+      work = emits_on front back st.work (as_put now w refl (omega arith)) x
           (λ z i. hears_none s device z z.note.body (st.above z (in_right z front back i))) first.due ready;
-      cleared = λ n has. subst (λ st2. n < st2.number) (sym x.but.standing) (st.cleared n (subst (λ l. Contains l (correcting n)) x.done has));
+      cleared = λ n has. rw x.but.standing (st.cleared n (rw x.done at has));
       taken = x.taken ∙ taken_then stands s hs front back now device machine node w st refl (λ at. refl);
-      phase = ap (λ (n : Node). n.phase) is ∙ called_phase s.network device node moment sent v;
+      phase = rw is (called_phase s.network device node moment sent v);
     }
   where
     called_last : (network : Network) (device : DeviceId) (node : Node) (moment : _) (sent : Compressed) (v : Judgement)
@@ -128,11 +125,11 @@ has_emitted_it {stands} {s} {hs} front back {now} {device} {machine} then_ {node
 did_emission : (s : Scenario) (now : ℕ) {device : DeviceId} {node after : Node} {w : Happening} {sent : Compressed}
     (task : Task) → IsEmitted s.network device node after w sent → HasDoneTask after task
     → HasDoneTask node task ⊎ (task_place s.network now device task ≡ now ∷ 4 ∷ emission_rest device sent)
-did_emission s now (doing deed) x has = inl (subst (λ (l : List ClockTask). Contains l deed) x.done has)
+did_emission s now (doing deed) x has = inl (rw x.done at has)
 did_emission s now {device} {node} {sent} (emitting c) x has =
-    elim (Contains-push_cases node.emitted sent c (subst (λ (l : List Compressed). Contains l c) x.emitted has)) [
+    elim (Contains-push_cases node.emitted sent c (rw x.emitted at has)) [
       | inl old ↦ inl old
-      | inr e ↦ inr (ap (λ (d : Compressed). task_place s.network now device (emitting d)) (sym e))
+      | inr e ↦ inr (rw (sym e))
     ]
 
 -- ---- the step
@@ -150,21 +147,20 @@ emits_one {reading} {stands} {s} {world} {notes} {old} {device} {machine} {after
     let hs = happenings s.network notes in
     let now = world.now in
     let node = on.node in
-    let st = on.st in
     let act = on.did in
     let first = act.1.0 in
     let v = own_judgement s.network device node sent in
-    let is : act.0 ≡ node_emitted s.network device node (moment_of s device now) sent v = act.1.2
-    ∙ ap (λ r. called (moment_of s device now) acting (after_emission s.network device node (moment_of s device now) sent r)) act.1.1 in
+    let is = act.1.2
+    ∙ (rw act.1.1) in
     let stays = stays_of v (subst KeepsBy act.1.1 keeps) in
     let body = emission_body device sent v in
     let w0 = record_of s.network hs [] now body in
-    let emitted : IsEmitted s.network device node act.0 w0 sent = subst (λ n. IsEmitted s.network device node n w0 sent) (sym is)
-    (is_emitted s.network device node (moment_of s device now) w0 sent v stays refl refl) in
+    let emitted : IsEmitted s.network device node act.0 w0 sent =
+    rw is (is_emitted s.network device node (moment_of s device now) w0 sent v stays refl refl) in
     record {
       on = on;
       apart = λ x. x;
-      adjustment = ap (λ (st : Standing). st.adjustment) emitted.but.standing;
+      adjustment = rw emitted.but.standing;
       did = λ task has. did_emission s now task emitted has;
       body = body;
       at_place = λ low front. refl;
@@ -172,14 +168,10 @@ emits_one {reading} {stands} {s} {world} {notes} {old} {device} {machine} {after
       causes = omega arith;
       set = set;
       put =
-          subst (λ (j : Judgement). ArePutIn s.network hs now (kinds.Compressed device sent.opened sent.at sent.cycle sent.members j
-          ∷ []) world.settled settled)
-          (ap judged_as act.1.1 ∙ judged_back v)
-          (subst (λ (l : List NoteBody). ArePutIn s.network hs now (kinds.Compressed device sent.opened sent.at sent.cycle sent.members (judged_as heard) ∷ l)
-          world.settled settled) (none_joined_by (length hs + 1) device heard keeps) put);
+          rw (ap judged_as act.1.1 ∙ judged_back v) at (rw (none_joined_by (length hs + 1) device heard keeps) at put);
       makes = λ front back parts st2 none. record {
         so = emission_record front back sent st2 first.pending first.due stays;
-        told = λ order e. (let four : 4 ≡ 6 = ap second e in absurd (omega (arith, four)));
+        told = λ order e. (let four : 4 ≡ 6 = ap second e in absurd (omega arith));
         it = has_emitted_it front back after act.0 sent heard st2 first act.1 is stays act.2;
       };
     }

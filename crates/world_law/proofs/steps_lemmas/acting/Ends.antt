@@ -3,7 +3,7 @@ use Rattle.{run_law.specs.machines.Tasks.IsWaiting, world_law.specs.steps.Ending
 use Rattle.world_law.proofs.steps_lemmas.Words.{◌++◌, ◌+◌, ◌≡◌, ◌≤◌, AsyncClique, Cleared, Compressed, Corrected, DeviceId}
 use Rattle.world_law.proofs.steps_lemmas.Words.{HasDoneFrom, HasSentFrom, HasTaskBy, Integrating, IsDueNow, List, Network, Node, Note}
 use Rattle.world_law.proofs.steps_lemmas.Words.{Scenario, Stands, SyncClique, Verdict, World, arith, correcting, doing, emitting, happenings, moment_of, never_both}
-use Rattle.world_law.proofs.steps_lemmas.Words.{no_cluster, observation_window, point_number, refl, subst, ℕ}
+use Rattle.world_law.proofs.steps_lemmas.Words.{no_cluster, observation_window, point_number, refl, ℕ}
 use Rattle.world_law.proofs.steps_lemmas.acting.{Clearing.cleared_over, Correcting.{corrected_sent, corrects_it, no_deed}}
 use Rattle.world_law.proofs.steps_lemmas.acting.{Points.{at_point, no_frames, not_on}, Stage.{IsActOn, acts_on_it}, Starts.changed_soon, Work.not_over}
 use Rattle.run_law.specs.declared.steps.Act.TheVariants as acts
@@ -27,30 +27,24 @@ point_ends : {C M : Type 0} {reading : C → ℕ → ℕ} {stands : M → Networ
     → IsDueNow stands s.network device (moment_of s device world.now) after → ⊥
 point_ends {s} {world} {device} cycle (Corrected by) on due =
     let node = on.node in
-    let st = on.st in
     let now = world.now in
     let x = on.did in
     let heard = x.1.1.0 in
     let is = x.1.1.2 in
     let point = at_point s device now node cycle heard (Corrected by) x.1.0 x.1.1.1 in
-    let task = subst (λ n. HasTaskBy s device n now) is (due x.0 x.2) in
     none_due now (corrects_it s.network (s.reading device) device node now (moment_of s device now) heard by refl)
-    (corrected_sent s device node (moment_of s device now) heard by st.work.sent
+    (corrected_sent s device node (moment_of s device now) heard by on.st.work.sent
     (no_frames s device now node cycle heard (Corrected by) x.1.0.pending.0 point))
-    (omega arith) task
+    (omega arith) (rw is at (due x.0 x.2))
 point_ends {s} {world} {device} cycle SyncClique on due =
-    let node = on.node in
-    let st = on.st in
     let now = world.now in
     let x = on.did in
-    let task = subst (λ n. HasTaskBy s device n now) x.1.1.2 (due x.0 x.2) in
+    let task = rw x.1.1.2 at (due x.0 x.2) in
     lost s now device _ refl (λ c w. no_cluster (observation_window s.network) w.clusters w.cluster w.are w.there) task
 point_ends {s} {world} {device} cycle AsyncClique on due =
-    let node = on.node in
-    let st = on.st in
     let now = world.now in
     let x = on.did in
-    let task = subst (λ n. HasTaskBy s device n now) x.1.1.2 (due x.0 x.2) in
+    let task = rw x.1.1.2 at (due x.0 x.2) in
     lost s now device _ refl (λ c w. no_cluster (observation_window s.network) w.clusters w.cluster w.are w.there) task
 point_ends {s} {world} {notes} {device} cycle Cleared on due =
     let hs = happenings s.network notes in
@@ -68,8 +62,8 @@ point_ends {s} {world} {notes} {device} cycle Cleared on due =
     to.verdict_is task.pending.1 task.due (st.work.ready.in_time (doing (correcting cycle)) task.pending) st.wide
     (no_frames s device now node cycle heard Cleared task.pending.0 point) in
     not_over (hs ++ world.settled) now over.done over.sent (changed_soon (hs ++ world.settled) device now)
-    (subst (λ n. HasTaskBy s device n now) x.1.1.2 (due x.0 x.2))
+    (rw x.1.1.2 at (due x.0 x.2))
 
 pub correction_ends : {C M : Type 0} (reading : C → ℕ → ℕ) (stands : M → Network → DeviceId → Node → Type 0) → CorrectionEnds reading stands
 correction_ends reading stands s world notes device after bodies cycle verdict old a is =
-    point_ends cycle verdict (subst (λ act. IsActOn reading stands s world notes old device a.machine after act) is (acts_on_it a))
+    point_ends cycle verdict (rw is at (acts_on_it a))

@@ -4,11 +4,11 @@ use Rattle.world_law.proofs.growing.Growing.{place_first}
 use Rattle.world_law.proofs.acts.{Dues.{act_due, came_not, done_or}, NoActs.present}
 use Rattle.world_law.proofs.devices.Working.{came_sooner}
 use Rattle.world_law.specs.{device.Growing.IsFromZero, steps.Acting.{place_of_act, rank_of_act, task_of}}
-use Rattle.world_law.proofs.steps_lemmas.Words.{◌++◌, ◌<◌, ◌∙◌, ◌∷◌, ◌≡◌, ◌≤◌, Act, ComesFirst, DeviceId, HadComeTo, Happening, IsActOf}
+use Rattle.world_law.proofs.steps_lemmas.Words.{◌++◌, ◌<◌, ◌∷◌, ◌≡◌, ◌≤◌, Act, ComesFirst, DeviceId, Happening, IsActOf}
 use Rattle.world_law.proofs.steps_lemmas.Words.{IsActing, IsBefore, IsFirstTask, IsIn, IsKept, IsLawful, IsSource, List, Moment, Network, Node, Note}
-use Rattle.world_law.proofs.steps_lemmas.Words.{Pcf, Scenario, Stands, Task, World, [], amount, ap, arith, changed_at, doing, earlier, earlier_still, happenings}
-use Rattle.world_law.proofs.steps_lemmas.Words.{in_right, inl, inr, placed_so, points_of, points_same, pos, quiet_rest, rank, refl}
-use Rattle.world_law.proofs.steps_lemmas.Words.{same_device, sending, subst, sym, task_place, time_of, ℕ}
+use Rattle.world_law.proofs.steps_lemmas.Words.{Pcf, Scenario, Stands, Task, World, [], amount, ap, arith, earlier_still, happenings}
+use Rattle.world_law.proofs.steps_lemmas.Words.{in_right, inl, inr, placed_so, points_same, pos, quiet_rest, rank, refl}
+use Rattle.world_law.proofs.steps_lemmas.Words.{same_device, subst, sym, task_place, time_of, ℕ}
 use Rattle.world_law.proofs.putting.StandsOn.{IsNext}
 use Rattle.{run_law.specs.records.Ranks.sign, schedule_tables.specs.Dispatches.dispatch_order}
 use Rattle.run_law.specs.declared.steps.Act.TheVariants as acts
@@ -43,7 +43,7 @@ low_rank act = omega arith
 pub first_of : (network : Network) (device : DeviceId) (node : Node) (moment : Moment) (act : Act) (new : Node) → IsActOf network device node moment act new
     → IsFirstTask network device node moment.reading.0 (task_of act)
 first_of network device node moment (acts.Send frame) new is =
-    subst (λ (n : ℕ). IsFirstTask network device node moment.reading.0 (doing (sending n))) (sym (ap (λ (f : Pcf). f.cycle) is.2)) is.1
+    rw (ap (λ (f : Pcf). f.cycle) is.2) is.1
 first_of network device node moment (acts.Emit sent heard) new is = is.0
 first_of network device node moment (acts.Correct cycle verdict) new is = is.0
 first_of network device node moment (acts.Dispatch row cycle) new is = is.0
@@ -53,7 +53,7 @@ first_of network device node moment (acts.Dispatch row cycle) new is = is.0
 between : (t now k r d : ℕ) (ws more v : List ℕ) → v ≡ t ∷ k ∷ ws → IsBefore v (now ∷ r ∷ d ∷ more) → (IsBefore v (now ∷ r ∷ d ∷ []) → ⊥)
     → (t ≡ now) × (k ≡ r) × ((rest : List ℕ) × (ws ≡ d ∷ rest))
 between t now k r d ws more v is b not =
-    at ws (subst (λ q. IsBefore q (now ∷ r ∷ d ∷ more)) is b) (λ x. not (subst (λ q. IsBefore q (now ∷ r ∷ d ∷ [])) (sym is) x))
+    at ws (rw is at b) (λ x. not (rw is x))
   where
     at : (ws : List ℕ) → IsBefore (t ∷ k ∷ ws) (now ∷ r ∷ d ∷ more) → (IsBefore (t ∷ k ∷ ws) (now ∷ r ∷ d ∷ []) → ⊥)
         → (t ≡ now) × (k ≡ r) × ((rest : List ℕ) × (ws ≡ d ∷ rest))
@@ -61,7 +61,7 @@ between t now k r d ws more v is b not =
     at ws (inr (e, inl lt)) not = absurd (not (inr (e, inl lt)))
     at [] (inr (e, inr (f, b))) not = absurd (not (inr (e, inr (f, tt))))
     at (w ∷ ws) (inr (e, inr (f, inl lt))) not = absurd (not (inr (e, inr (f, inl lt))))
-    at (w ∷ ws) (inr (e, inr (f, inr (same, b)))) not = (e, f, (ws, ap (λ (n : ℕ). n ∷ ws) same))
+    at (w ∷ ws) (inr (e, inr (f, inr (same, b)))) not = (e, f, (ws, rw same))
 
 -- what a step starts from by which a device that is kept does its first task
 pub record IsActFirst {M : Type 0} (stands : M → Network → DeviceId → Node → Type 0) (s : Scenario) (hs coming : List Happening)
@@ -82,11 +82,10 @@ module _ {M : Type 0} (stands : M → Network → DeviceId → Node → Type 0) 
       → IsActing s hs now device other → IsBefore (task_place s.network now device other)
       (task_place s.network now device task) → (IsBefore (task_place s.network now device other) frontier → ⊥) → ⊥
   act_none {other} x a b not =
-      let js = hs ++ coming in
       let k = x.kept in
-      let same : earlier now hs ≡ earlier now js =
-      sym (earlier_still now hs coming (λ z i. let at = x.of_now z i in omega (arith, at))) in
-      let points : points_of hs device ≡ points_of js device = sym (points_same coming hs device
+      let same =
+      sym (earlier_still now hs coming (λ z i. omega arith)) in
+      let points = sym (points_same coming hs device
       (λ z i. (quiet_rest s device now z.note.body (k.still x.up z (in_right z hs coming i) (x.of_now z i)), x.late z i))) in
       let w = present k x.up in
       elim (done_or k.node other) [
@@ -95,8 +94,7 @@ module _ {M : Type 0} (stands : M → Network → DeviceId → Node → Type 0) 
             place_first s.network now device other x.zero x.first due.0 due.1 b
         | inl did ↦
             came_not w same a
-            (subst (λ n. HadComeTo s device k.node (changed_at js device n) now other) x.up
-            (came_sooner now k.worked other did not))
+            (rw x.up at (came_sooner now k.worked other did not))
       ]
 
   -- no source is between, that is not worked off
@@ -105,31 +103,29 @@ module _ {M : Type 0} (stands : M → Network → DeviceId → Node → Type 0) 
       → IsSource s hs v → (IsBefore v frontier → ⊥) → IsBefore v (now ∷ r ∷ device.0 ∷ more)
       → (IsBefore v (now ∷ r ∷ device.0 ∷ []) → ⊥) → ⊥
   act_sources r more x place late low {v} (IsSource.arriving t d link cause a) not b from =
-      let at = between t now 2 r device.0 _ more v refl b from in let two = at.1 in omega (arith, two, late)
+      let at = between t now 2 r device.0 _ more v refl b from in let two = at.1 in omega arith
   act_sources r more x place late low {v} (IsSource.ripening t d link cause point a) not b from =
-      let at = between t now 3 r device.0 _ more v refl b from in let three = at.1 in omega (arith, three, late)
+      let at = between t now 3 r device.0 _ more v refl b from in omega arith
   act_sources r more x place late low {v} (IsSource.departing t d link cause a) not b from =
-      let at = between t now 8 r device.0 _ more v refl b from in let eight = at.1 in omega (arith, eight, low)
+      let at = between t now 8 r device.0 _ more v refl b from in omega arith
   act_sources r more x place late low {v} (IsSource.following t cause h it) not b from =
-      let at = between t now 2 r device.0 [] more v refl b from in let two = at.1 in omega (arith, two, late)
+      let at = between t now 2 r device.0 [] more v refl b from in omega arith
   act_sources r more x place late low {v} (IsSource.befalling time line what it) not b from =
-      let at = between _ now 1 r device.0 [] more v refl b from in let one = at.1 in omega (arith, one, late)
+      let at = between _ now 1 r device.0 [] more v refl b from in omega arith
   act_sources r more x place late low {v} (IsSource.ending time d is there it) not b from =
-      let at = between _ now 14 r device.0 _ more v refl b from in let high = at.1 in omega (arith, high, low)
+      let at = between _ now 14 r device.0 _ more v refl b from in omega arith
   act_sources r more x place late low {v} (IsSource.acting t d other a) not b from =
       let p = placed_so s.network t d other in
       let at = between t now p.rank r device.0 (d.0 ∷ p.rest) more v p.is b from in
       let its : d.0 ≡ device.0 = let e = at.2.1 in cc in
-      let own : d ≡ device = same_device d device its in
-      let here : IsActing s hs now device other = subst (λ e. IsActing s hs now e other) own
-      (subst (λ n. IsActing s hs n d other) at.0 a) in
+      let own = same_device d device its in
       let there : task_place s.network t d other ≡ task_place s.network now device other =
-      ap (λ n. task_place s.network n d other) at.0
-      ∙ ap (λ e. task_place s.network now e other) own in
-      act_none x here
+      rw at.0
+      (rw own) in
+      act_none x (rw own at (rw at.0 at a))
       (subst (λ q. IsBefore (task_place s.network now device other) q) (sym place)
       (subst (λ q. IsBefore q (now ∷ r ∷ device.0 ∷ more)) there b))
-      (subst (λ q. IsBefore q frontier → ⊥) there not)
+      (rw there at not)
 
 -- so it comes first
 pub act_next : {C M : Type 0} {reading : C → ℕ → ℕ} {stands : M → Network → DeviceId → Node → Type 0}
@@ -143,7 +139,7 @@ pub act_next : {C M : Type 0} {reading : C → ℕ → ℕ} {stands : M → Netw
 act_next {stands} {s} {world} {notes} {old} {device} {machine} act first apart x waits =
     let high = late_rank act in
     record {
-      later = inr (refl, inl (omega (arith, high)));
+      later = inr (refl, inl (omega arith));
       waits = waits;
       first = λ v source not b.
           elim (Rattle.run_law.proofs.runs.Places.before_or_not v (place_of_act world.now device act)) [
@@ -155,10 +151,8 @@ act_next {stands} {s} {world} {notes} {old} {device} {machine} act first apart x
                 b from
           ];
       after = λ z i b.
-          let more = apart z i in
-          let at = old.are.of_now z i in
           elim b [
-            | inl lt ↦ omega (arith, lt, at)
-            | inr c ↦ elim c.1 [ inl less ↦ omega (arith, less, more) | inr d ↦ let same = d.0 in omega (arith, same, more) ]
+            | inl lt ↦ omega arith
+            | inr c ↦ elim c.1 [ inl less ↦ omega arith | inr d ↦ omega arith ]
           ];
     }

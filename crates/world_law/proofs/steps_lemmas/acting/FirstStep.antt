@@ -3,21 +3,21 @@ use Rattle.world_law.proofs.putting.{Bearing.frames_aside, PutShown.{IsShownPair
 use Rattle.world_law.proofs.{putting.Placing.causes_given, steps_lemmas.acting.Work.{all_earlier, at_correction}}
 use Rattle.world_law.proofs.{putting.PutTwo.{IsPair, two_by}, steps_lemmas.acting.{CorrectSteps.{IsCorrecting, corrected_worked}, Correcting.joiner_over, Moves.IsCorrectedSo, Over.IsOver}}
 use Rattle.world_law.proofs.steps_lemmas.Words.{StandsHere, IsSource}
-use Rattle.world_law.proofs.steps_lemmas.Words.{◌++◌, ◌+ℤ◌, ◌+◌, ◌<◌, ◌∙◌, ◌∷◌, ◌≡◌, ◌≤◌, ◌⊎◌, AreOfNetwork, ChangesState, Corrected, DeviceId, Happening}
-use Rattle.world_law.proofs.steps_lemmas.Words.{HasCleared, Integrating, IsActing, IsAllOfIt, IsCaused, IsHeld, IsIn, IsKept, IsNoTaking}
-use Rattle.world_law.proofs.steps_lemmas.Words.{IsOfThisTime, IsOwnSource, IsSet, Joining, List, Network, Node, NoneBefore, Note, NoteBody, Scenario, Some}
+use Rattle.world_law.proofs.steps_lemmas.Words.{◌++◌, ◌+ℤ◌, ◌+◌, ◌<◌, ◌∙◌, ◌∷◌, ◌≡◌, ◌≤◌, ◌⊎◌, ChangesState, Corrected, DeviceId, Happening}
+use Rattle.world_law.proofs.steps_lemmas.Words.{HasCleared, IsActing, IsAllOfIt, IsCaused, IsIn, IsKept, IsNoTaking}
+use Rattle.world_law.proofs.steps_lemmas.Words.{IsOfThisTime, IsOwnSource, IsSet, Joining, List, Network, Node, Note, NoteBody, Scenario, Some}
 use Rattle.world_law.proofs.steps_lemmas.Words.{Stands, StandsBehind, State, Synchronised, Units, World, [], ap}
 use Rattle.world_law.proofs.steps_lemmas.Words.{arith, bears_on, behind, both_ways, correcting, doing, false, frames_taken}
-use Rattle.world_law.proofs.steps_lemmas.Words.{happenings, held_aside, if◌then◌else◌, in_left, in_parts, in_right, inl, inr}
+use Rattle.world_law.proofs.steps_lemmas.Words.{happenings, held_aside, in_left, in_parts, inl, inr}
 use Rattle.world_law.proofs.steps_lemmas.Words.{is_turned_on_at, known_aside, length}
-use Rattle.world_law.proofs.steps_lemmas.Words.{moment_of, moves, moves_no_other, ne_eqb, none_in, numbers_end, place_of}
+use Rattle.world_law.proofs.steps_lemmas.Words.{moment_of, moves_no_other, ne_eqb, none_in, numbers_end, place_of}
 use Rattle.world_law.proofs.steps_lemmas.Words.{point_number, rank, record_of, refl}
-use Rattle.world_law.proofs.steps_lemmas.Words.{Why, put_length, state_after, subst, sym, time_of, true, two_shown, units_of}
+use Rattle.world_law.proofs.steps_lemmas.Words.{Why, put_length, subst, sym, time_of, two_shown, units_of}
 use Rattle.world_law.proofs.steps_lemmas.Words.{ℕ, acts_on, devices_then}
 use Rattle.world_law.proofs.steps_lemmas.acting.Points.{IsGrown, all_point, grown_more, grown_one}
 use Rattle.world_law.proofs.steps_lemmas.acting.Stage.{StageAt, fresh_above, no_row_of, one_caused}
 use Rattle.world_law.proofs.steps_lemmas.acting.{Kept.{bare_act, frames_put, kept_over, out_by_acts, ready_after}, Sending.{as_put, taken_then}}
-use Rattle.world_law.proofs.steps_lemmas.acting.Points.{at_point, corrected_cause, no_frames, none_at_point, not_moved, not_on}
+use Rattle.world_law.proofs.steps_lemmas.acting.Points.{at_point, corrected_cause, no_frames, none_at_point, not_on}
 use Rattle.run_law.specs.records.Causes.{device_of}
 use Rattle.world_law.proofs.steps_lemmas.Words.{changed_at, rows_place, second}
 use Rattle.run_law.specs.declared.judgement.Why.TheVariants as whys
@@ -72,8 +72,8 @@ two_go_by {C} {M} {reading} {stands} {s} {world} {notes} {device} {machine} {aft
     let pair : IsPair s r more q = record {
       one = one_caused stands s hs [] coming now device machine node st
           (λ z i. absurd i) q.first a.caused a.own a.here
-          (fresh_above stands s hs [] coming now device machine node st w (omega (arith, ranks)));
-      no_event = λ one. omega (arith, one, ranks, high);
+          (fresh_above stands s hs [] coming now device machine node st w (omega arith));
+      no_event = λ one. omega arith;
       low = low;
       acts = a.acts;
       is_of = a.of_it;
@@ -84,21 +84,17 @@ two_go_by {C} {M} {reading} {stands} {s} {world} {notes} {device} {machine} {aft
     let between : length coming ≡ length (q.mid ++ q.back) = ap length q.parts in
     let one_more : length ((w ∷ q.mid) ++ q.back) ≡ length (q.mid ++ q.back) + 1 = omega arith in
     let apart_v : (other : DeviceId) → (other.0 ≡ device.0 → ⊥) → bears_on other v.note.body ≡ false = λ other not. ne_eqb other.0 device.0 not in
-    subst (λ (l : List Happening). StandsBehind reading stands s
-    (record world { early = false; machines = machines; settled = l }) notes here)
-    (sym q.shows)
-    (acts_on c high low (omega (arith, long, between, one_more, room)) (two_by pair all)
+    rw q.shows (acts_on c high low (omega arith) (two_by pair all)
     (known_aside hs (w ∷ q.mid) q.back v (λ other le. moves_no_other other v.note.body
-    (apart_v other (λ e. let lt = st.of_it in omega (arith, e, lt, le))))
-    (subst (λ (l : List Happening). AreOfNetwork s (hs ++ w ∷ l)) q.parts
-    (known_aside hs [] coming w (λ other le. no_row_of s device other body st.of_it a.apart le) c.old.known)))
+    (apart_v other (λ e. let lt = st.of_it in omega arith)))
+    (rw q.parts at (known_aside hs [] coming w (λ other le. no_row_of s device other body st.of_it a.apart le)
+    c.old.known)))
     (devices_then c device (λ other not task same. not (st.own other task same)) set (inl kept)
     (λ other m not held.
     let y = a.apart other not in
     held_aside s hs (w ∷ q.mid) q.back v other (apart_v other not) refl
     (frames_aside s hs (w ∷ q.mid) q.back v other (apart_v other not) (λ at. refl))
-    (subst (λ l. IsHeld stands s hs (w ∷ l) (behind here) now other m) q.parts
-    (held_aside s hs [] coming w other y.0 refl (frames_aside s hs [] coming w other y.0 y.1) held)))))
+    (rw q.parts at (held_aside s hs [] coming w other y.0 refl (frames_aside s hs [] coming w other y.0 y.1) held)))))
 
 -- ---- a joiner's first correction
 
@@ -118,30 +114,25 @@ first_goes_by {reading} {stands} {s} {world} {notes} {old} {device} {machine} {a
     let act = on.did in
     let first = act.1.0 in
     let heard = act.1.1.0 in
-    let to = act.1.1.1 in
     let is = act.1.1.2 in
     let point_is = point_number node.standing.state node.standing.number cycle first.pending.1.own in
     let joining : node.standing.state ≡ Joining = sym (x.stood node st.is).0 in
     let sum : adjustment ≡ act.0.standing.adjustment = (x.stands_then act.0 act.2).1 in
-    let sum_is : adjustment.0 ≡ (node.standing.adjustment.0 +ℤ by.0) = ap (λ (u : Units). u.0) sum ∙ ap (λ (n : Node). n.standing.adjustment.0) is in
+    let sum_is : adjustment.0 ≡ (node.standing.adjustment.0 +ℤ by.0) = rw sum (rw is) in
     let off = not_on s hs world.settled now device node st.work point_is.0 in
-    let point = at_point s device now node cycle heard (Corrected by) first to in
+    let point = at_point s device now node cycle heard (Corrected by) first act.1.1.1 in
     let ready = ready_after s act.0 (acts.Correct cycle (Corrected by)) st.work.ready st.steady st.precise st.wide
     on.may act.1
-    (ap (λ (n : Node). n.last) is) in
+    (rw is) in
     let body = kinds.Corrected device cycle by adjustment in
-    let rests : (h : Happening) → IsIn h world.settled → moves device h.note.body ≡ true → ⊥ = λ h i e.
-    not_moved s device now h.note.body off (st.work.still h (in_right h hs world.settled i) (st.work.of_now h i).0) e in
-    let q : IsShownPair s.network hs now body device Synchronised whys.Correction world.settled settled = subst
-    (λ l. IsShownPair s.network hs now body device Synchronised whys.Correction world.settled l) (sym x.put.2.2)
-    (two_shown s.network hs now body device Synchronised whys.Correction (omega arith) (omega arith)
+    let q : IsShownPair s.network hs now body device Synchronised whys.Correction world.settled settled =
+    rw x.put.2.2 (two_shown s.network hs now body device Synchronised whys.Correction (omega arith) (omega arith)
     st.moving.are.after (causes_given st.moving (omega arith)) x.put.1 x.put.2.1) in
     let w = record_of s.network hs [] now body in
     let v = change_of s.network hs now body q.mid device Synchronised whys.Correction in
-    let new1 = w ∷ world.settled in
     let new = pair_put s.network hs now body q.mid device Synchronised whys.Correction q.back in
     let st3 : StageAt stands s hs (q.mid ++ q.back) now device machine node 6 (device.0 ∷ []) =
-    subst (λ l. StageAt stands s hs l now device machine node 6 (device.0 ∷ [])) q.parts st in
+    rw q.parts at st in
     let so : IsCorrectedSo s device (now + 1) node w cycle by adjustment (moment_of s device now) = record {
       body = refl;
       before = omega arith;
@@ -151,19 +142,19 @@ first_goes_by {reading} {stands} {s} {world} {notes} {old} {device} {machine} {a
       reads = refl;
     } in
     let quiet = no_frames s device now node cycle heard (Corrected by) first.pending.0 point in
-    let over : IsOver s (hs ++ new) now device act.0 = subst (λ m. IsOver s (hs ++ new) now device m) (sym is)
+    let over : IsOver s (hs ++ new) now device act.0 = rw is
     (joiner_over [] q.mid q.back v (length hs + 1) heard st3.work off st.calm.off
-    st.calm.broken refl (subst (λ l. NoneBefore place_of l (place_of w)) q.parts q.first) so joining refl
+    st.calm.broken refl (rw q.parts at q.first) so joining refl
     (omega arith) quiet) in
     let cleared : HasCleared act.0 = subst HasCleared (sym is) (λ m there. absurd (none_in (correcting m) there)) in
     let six : 5 ≤ rank w.note.body = omega arith in
-    let g1 : IsGrown s hs world.settled new1 now device =
+    let g1 : IsGrown s hs world.settled (w ∷ world.settled) now device =
     grown_one [] world.settled st.work (as_put now w refl (omega arith)) six in
     let g2 : IsGrown s hs world.settled new now device = grown_more (w ∷ q.mid) q.back
-    (subst (λ l. IsGrown s hs world.settled (w ∷ l) now device) q.parts g1)
+    (rw (sym q.parts) g1)
     (as_put now v refl (omega arith)) (omega arith) in
     let mid_now : (z : Happening) → IsIn z (w ∷ q.mid) → time_of z ≡ now = λ z i.
-    g1.of_now z (subst (λ l. IsIn z (w ∷ l)) (sym q.parts) (in_left z (w ∷ q.mid) q.back i)) in
+    g1.of_now z (rw q.parts (in_left z (w ∷ q.mid) q.back i)) in
     let due = corrected_cause stands s hs [] world.settled now device machine node cycle by
     adjustment st point sum_is q.first in
     two_go_by on.here st q on.room
@@ -180,23 +171,23 @@ first_goes_by {reading} {stands} {s} {world} {notes} {old} {device} {machine} {a
       changes = λ there.
           let same = all_earlier s hs (w ∷ q.mid) world.settled now mid_now (λ z i. (st.work.of_now z i).0) in (
             refl,
-            ap (λ l. if is_turned_on_at s device now then Integrating else state_after s l device) same ∙ sym st.work.left.state ∙ joining,
+            rw same (sym st.work.left.state ∙ joining),
             (cycle, by, adjustment, w, there, refl),
           );
     })
     (all_point st.work point g2 (w, inl refl, refl))
     (kept_over stands {hs = hs} {new = new} {frontier = behind (rows_place now device)} after act.2 st.work.sound over
     ready cleared
-    (ap (λ (m : Node). m.taken) is ∙ taken_then stands s hs [] world.settled now device machine
+    (rw is (taken_then stands s hs [] world.settled now device machine
     node w st refl
     (λ at. refl) ∙ ap (λ (l : List Happening). frames_taken s (hs ++ w ∷ l) device) q.parts
     ∙ frames_put s hs (w ∷ q.mid) q.back now v device
     (λ h i. elim (in_parts h hs (w ∷ (q.mid ++ q.back)) i) [
       | inl given ↦ st.work.past h (in_left h hs world.settled given)
-      | inr come ↦ let at = g1.of_now h (subst (λ l. IsIn h (w ∷ l)) (sym q.parts) come) in omega (arith, at)
-    ]) refl (λ at. refl))
+      | inr come ↦ let at = g1.of_now h (rw q.parts come) in omega arith
+    ]) refl (λ at. refl)))
     (bare_act s.network device node (moment_of s device now) (acts.Correct cycle (Corrected by)) act.0 act.1 st.bare)
-    (λ on. absurd (both_ways (is_turned_on_at s device now) off on)) (ap (λ (m : Node). m.phase) is)
+    (λ on. absurd (both_ways (is_turned_on_at s device now) off on)) (rw is)
     st.calm.falls (corrected_worked act.0 heard by (changed_at (hs ++ new) device (now + 1)) st is) st.reach
     (inl (out_by_acts s hs now device
     (none_at_point s hs world.settled now device node cycle old.range old.rules st.steady st.work point.pending point.due)))) x.set

@@ -1,14 +1,13 @@
 -- A device that has acted, and has more to do at the instant, is at work still.
 use Rattle.run_law.specs.{machines.Answers.{after_emission, hearings}, records.Frames.integration_frame, scenario.Devices.channel_of}
-use Rattle.std.proofs.Common.{Contains}
 use Rattle.world_law.proofs.steps_lemmas.Words.{Contains-append_left, Contains-push_cases, DeviceId, Happening, HasDoneFrom, HasSentFrom, Hearing, IsAlike}
 use Rattle.world_law.proofs.steps_lemmas.Words.{IsIn, IsLeft, IsReadyAt, Judgement, List, Moment, Network, Node, None, Option, Pcf, Scenario, Some, Units}
-use Rattle.world_law.proofs.steps_lemmas.Words.{false, heard_since, hearing_by, if◌then◌else◌, in_right, inl, inr, moves, option_map, option_map_or}
-use Rattle.world_law.proofs.steps_lemmas.Words.{option_to_list, pos, rank, reading_for, refl, ripe_as, self, sending, subst, sym, time_of, true}
-use Rattle.world_law.proofs.steps_lemmas.Words.{ℕ, [], acting, ap, append-nil, arith, called, changed_at, changed_before, cons_option, doing, earlier}
-use Rattle.world_law.proofs.steps_lemmas.Words.{◌++◌, ◌+◌, ◌-ℤ◌, ◌<ℤ◌, ◌∙◌, ◌∷◌, ◌≡◌, ◌≤ℤ◌, ◌≤◌, ◌⊎◌, Bool, Channel, ClockTask, Compressed}
+use Rattle.world_law.proofs.steps_lemmas.Words.{false, hearing_by, in_right, inl, inr, moves, option_map, option_map_or}
+use Rattle.world_law.proofs.steps_lemmas.Words.{option_to_list, pos, rank, reading_for, refl, ripe_as, self, sending, sym, time_of, true}
+use Rattle.world_law.proofs.steps_lemmas.Words.{ℕ, [], acting, ap, append-nil, arith, called, changed_at, changed_before, doing, earlier}
+use Rattle.world_law.proofs.steps_lemmas.Words.{◌++◌, ◌+◌, ◌∙◌, ◌∷◌, ◌≡◌, ◌≤ℤ◌, ◌≤◌, ◌⊎◌, Bool, Channel, ClockTask, Compressed}
 use Rattle.world_law.proofs.steps_lemmas.acting.Work.{IsAtWork, IsSameBut, all_earlier, heard_by_these, heard_put, left_now, points_put}
-use Rattle.world_law.proofs.{acts.Acted.done_more, putting.Bearing.placed_back, steps_lemmas.Words.{undone_alike, value_of, waiting_alike, with_done}}
+use Rattle.world_law.proofs.{acts.Acted.done_more, putting.Bearing.placed_back, steps_lemmas.Words.{undone_alike, waiting_alike, with_done}}
 use Rattle.run_law.specs.declared.judgement.Judgement.TheVariants as judgements
 use Rattle.run_law.specs.declared.note.NoteBody.TheVariants as kinds
 
@@ -23,7 +22,7 @@ module _ (s : Scenario) (hs front back : List Happening) (now : ℕ) (device : D
   pub put_now : {w : Happening} → IsAtWork s hs (front ++ back) now device node → IsPutAs now w → (z : Happening)
       → IsIn z (front ++ w ∷ back) → (time_of z ≡ now) × (4 ≤ rank z.note.body)
   put_now {w} work p z i = elim (placed_back [] front back w z i) [
-    | inl e ↦ subst (λ (h : Happening). (time_of h ≡ now) × (4 ≤ rank h.note.body)) (sym e) (p.at, p.late)
+    | inl e ↦ rw e (p.at, p.late)
     | inr was ↦ work.of_now z was
   ]
 
@@ -39,15 +38,11 @@ module _ (s : Scenario) (hs front back : List Happening) (now : ℕ) (device : D
       → (hearing_by s.network device w w.note.body ≡ None) ⊎ (heard_by_these s device back ≡ [])
       → IsLeft s (hs ++ (front ++ w ∷ back)) device now after
   left_on {w} work p but still heard either =
-      let old = hs ++ (front ++ back) in
-      let mid = hs ++ (front ++ w ∷ back) in
       let same = earlier_put work p in
-      let put : heard_since s mid device now ≡ heard_since s old device now ++ option_to_list
-      (hearing_by s.network device w w.note.body) =
+      let put =
       heard_put s hs front back device now w (λ z i. (work.of_now z i).0) p.at either in
-      left_now mid same but
-      (λ timed. heard ∙ ap (λ (l : List Hearing). l ++ option_to_list (hearing_by s.network device w w.note.body))
-      (work.left.counted.heard timed) ∙ sym put)
+      left_now (hs ++ (front ++ w ∷ back)) same but
+      (λ timed. heard ∙ (rw (work.left.counted.heard timed) (sym put)))
       (points_put s hs front back now device w (λ z i. let x = work.of_now z i in
       (work.still z (in_right z hs (front ++ back) i) x.0, x.1)) (inl still) p.late)
       work.left
@@ -59,19 +54,17 @@ module _ (s : Scenario) (hs front back : List Happening) (now : ℕ) (device : D
       (now + 1) → HasSentFrom s device after now (now + 1) → IsReadyAt (s.reading device) s.network device after now
       → IsAtWork s hs (front ++ w ∷ back) now device after
   goes_on {after} {w} work p left still done sent ready =
-      let same = earlier_put work p in
       record {
         left = left;
-        done = subst (λ (l : List Happening). HasDoneFrom s.network (s.reading device) device after
-            (Rattle.world_law.specs.device.Told.change_in device l) now (now + 1)) same done;
+        done = rw (earlier_put work p) at done;
         sent = sent;
         ready = ready;
         still = λ h i at. elim (placed_back hs front back w h i) [
-          | inl e ↦ inl (ap (λ (x : Happening). moves device x.note.body) e ∙ still)
+          | inl e ↦ inl (rw e still)
           | inr was ↦ work.still h was at
         ];
         past = λ h i. elim (placed_back hs front back w h i) [
-          | inl e ↦ let here : time_of h ≡ time_of w = ap time_of e in let at = p.at in omega (arith, here, at)
+          | inl e ↦ let here : time_of h ≡ time_of w = ap time_of e in let at = p.at in omega arith
           | inr was ↦ work.past h was
         ];
         of_now = put_now work p;
@@ -91,7 +84,7 @@ does {network} {reading} {device} {node} {t} moment deed has le due = record {
   done = λ other there.
       elim (Contains-push_cases node.done deed other there) [
         | inl old ↦ has.done other old
-        | inr e ↦ (t, le, omega arith, subst (λ d. (value_of network d -ℤ node.standing.adjustment.0) ≤ℤ pos (reading t)) e due)
+        | inr e ↦ (t, le, omega arith, rw e at due)
       ];
 }
 
@@ -100,8 +93,8 @@ pub sent_alike : {s : Scenario} {device : DeviceId} {node : Node} (after : Node)
     → HasSentFrom s device after low high
 sent_alike {s} {device} {node} after points emitted has = record {
   unsent = λ c u x lt. has.unsent c (waiting_alike s.network device node after points
-      (λ d there. subst (λ l. Contains l d) (sym emitted) there) u) x lt;
-  sent = λ c there. has.sent c (subst (λ l. Contains l c) emitted there);
+      (λ d there. rw emitted there) u) x lt;
+  sent = λ c there. has.sent c (rw emitted at there);
 }
 
 -- it sends: how it stands
@@ -116,9 +109,9 @@ sends_on {s} {hs} front back {now} {device} {node} {w} cycle moment work p e due
     let none : hearing_by s.network device w w.note.body ≡ None = ap (hearing_by s.network device w) e in
     let still : moves device w.note.body ≡ false = ap (moves device) e in
     goes_on s hs front back now device node work p
-    (left_on s hs front back now device node {after = after} work p
+    (left_on s hs front back now device node work p
     (record { standing = refl; broken = refl; changed = refl; points = refl }) still
-    (sym (append-nil node.heard) ∙ ap (λ (o : Option Hearing). node.heard ++ option_to_list o) (sym none)) (inl none))
+    (sym (append-nil node.heard) ∙ ap (λ o. node.heard ++ option_to_list o) (sym none)) (inl none))
     still
     (does moment (sending cycle) work.done
     (changed_before (hs ++ (front ++ back)) device now) due) (sent_alike after refl refl work.sent) ready
@@ -130,7 +123,7 @@ sends_on {s} {hs} front back {now} {device} {node} {w} cycle moment work p e due
 -- the hearing of a frame, if it is one, by a channel, if there is one
 abbrev heard_of : Option Channel → Units → Bool → Option Pcf → Option Hearing
 heard_of channel point within frame =
-    option_map (λ (c : Channel). let h : Hearing = record {
+    option_map (λ c. let h : Hearing = record {
       channel = c;
       frame = record {
         cycle = option_map_or (λ f. f.cycle) frame 0;
@@ -146,23 +139,21 @@ module _ (network : Network) (device : DeviceId) (w : Happening) (sent : Compres
       (hearing_by network device w (kinds.Compressed device sent.opened sent.at sent.cycle sent.members
       judgements.Within)) ≡ hearings (channel_of network device) sent.cycle sent.members sent.at true
   heard_within =
-      ap (λ (b : Bool). option_to_list (if b then heard_of (channel_of network device) sent.at true
-      w.frame else None)) (self device)
-      ∙ ap (λ o. option_to_list (heard_of (channel_of network device) sent.at true o)) of_frame
+      rw (self device)
+      (rw of_frame)
 
   heard_outside : option_to_list
       (hearing_by network device w (kinds.Compressed device sent.opened sent.at sent.cycle sent.members
       judgements.Outside)) ≡ hearings (channel_of network device) sent.cycle sent.members sent.at false
   heard_outside =
-      ap (λ (b : Bool). option_to_list (if b then heard_of (channel_of network device) sent.at false
-      w.frame else None)) (self device)
-      ∙ ap (λ o. option_to_list (heard_of (channel_of network device) sent.at false o)) of_frame
+      rw (self device)
+      (rw of_frame)
 
 pub none_heard : (s : Scenario) (device : DeviceId) (zs : List Happening) → ((z : Happening) → IsIn z zs → hearing_by s.network device z z.note.body ≡ None)
     → heard_by_these s device zs ≡ []
 none_heard s device [] all = refl
 none_heard s device (z ∷ zs) all =
-    ap (λ (o : Option Hearing). cons_option o (heard_by_these s device zs)) (all z (inl refl)) ∙ none_heard s device zs (λ y i. all y (inr i))
+    rw (all z (inl refl)) (none_heard s device zs (λ y i. all y (inr i)))
 
 -- ---- an emission, by which it does not join
 
@@ -208,14 +199,13 @@ done_alike : {network : Network} {reading : ℕ → ℕ} {device : DeviceId} {no
     → HasDoneFrom network reading device after changed low high
 done_alike {network} {reading} {device} {node} {after} a done has = record {
   undone = λ deed u x from lt.
-      subst (λ st. pos (reading x) <ℤ (Rattle.std.proofs.Common.◌-ℤ◌ (value_of network deed) st.adjustment.0)) (sym a.standing)
-      (has.undone deed (undone_alike network device node after a u) x from lt);
+      rw a.standing (has.undone deed (undone_alike network device node after a u) x from lt);
   done = λ deed there.
-      let x = has.done deed (subst (λ l. Contains l deed) done there) in (
+      let x = has.done deed (rw done at there) in (
         x.0,
         x.1,
         x.2,
-        subst (λ st. Rattle.std.proofs.Common.◌-ℤ◌ (value_of network deed) st.adjustment.0 ≤ℤ pos (reading x.0)) (sym a.standing) x.3,
+        rw a.standing x.3,
       );
 }
 
@@ -233,10 +223,10 @@ emits_on {s} {hs} front back {now} {device} {node} {after} {sent} work p x none 
     (alike_by s.network device node x) x.done work.done)
     (record {
       unsent = λ c u y lt. work.sent.unsent c
-          (waiting_alike s.network device node after x.but.points (λ d there. subst (λ l. Contains l d) (sym x.emitted)
-          (Contains-append_left node.emitted (sent ∷ []) d there)) u) y lt;
-      sent = λ c there. elim (Contains-push_cases node.emitted sent c (subst (λ l. Contains l c) x.emitted there)) [
+          (waiting_alike s.network device node after x.but.points
+          (λ d there. rw x.emitted (Contains-append_left node.emitted (sent ∷ []) d there)) u) y lt;
+      sent = λ c there. elim (Contains-push_cases node.emitted sent c (rw x.emitted at there)) [
         | inl old ↦ work.sent.sent c old
-        | inr e ↦ (now, omega arith, subst (λ (d : Compressed). d.at.0 ≤ℤ pos (s.reading device now)) e due)
+        | inr e ↦ (now, omega arith, rw e at due)
       ];
     }) ready

@@ -3,9 +3,9 @@ use Rattle.run_law.proofs.control.Verdicts.{heard_integrates}
 use Rattle.world_law.proofs.steps_lemmas.Words.{turned_by, HasCleared, HasDoneTask, HasTurnedOn, Integrating, IsActing, IsAtRest, IsBefore, IsIn}
 use Rattle.world_law.proofs.steps_lemmas.Words.{IsSet, IsSource, Joining, Judgement, List, Moment, Network, Node, Note, NoteBody, Scenario, Stands}
 use Rattle.world_law.proofs.steps_lemmas.Words.{StandsBehind, Task, World, ℕ, [], ap, append-nil, arith, bears_on, behind, both_ways, cases_Bool}
-use Rattle.world_law.proofs.steps_lemmas.Words.{correcting, doing, earlier, emitting, eq-eqb, eqb-true, false, frames_taken, happenings, if◌then◌else◌}
-use Rattle.world_law.proofs.steps_lemmas.Words.{in_left, in_parts, in_right, inl, inr, is_turned_on_at, key, length, members_in, moment_of, ne_eqb, none_in}
-use Rattle.world_law.proofs.steps_lemmas.Words.{observation_window, place_of, plan_of, rank, record_of, refl, ripe_as, state_after, state_before}
+use Rattle.world_law.proofs.steps_lemmas.Words.{correcting, doing, emitting, eq-eqb, eqb-true, false, frames_taken, happenings}
+use Rattle.world_law.proofs.steps_lemmas.Words.{in_left, in_parts, in_right, inl, inr, is_turned_on_at, length, moment_of, ne_eqb, none_in}
+use Rattle.world_law.proofs.steps_lemmas.Words.{observation_window, place_of, plan_of, rank, record_of, refl, ripe_as, state_before}
 use Rattle.world_law.proofs.steps_lemmas.Words.{◌++◌, ◌+◌, ◌<◌, ◌∙◌, ◌∷◌, ◌≡◌, ◌≤◌, ArePutIn, AsState, Compressed, DeviceId, Emits, Happening}
 use Rattle.world_law.proofs.steps_lemmas.acting.{EmitSteps.{emission_body, emission_rest}, GoesOn.{earlier_put, node_emitted, put_now}, OneAct.all_one}
 use Rattle.world_law.proofs.steps_lemmas.acting.{Kept.{bare_act, frames_put, kept_over, ready_after}, Over.IsOver, Sending.{as_put, taken_then}}
@@ -36,24 +36,24 @@ bears_so s device now y late at rest not bears = by_body y.note.body refl (subst
   where
     by_body : (body : NoteBody) → y.note.body ≡ body → IsAtRest s device now body → bears_on device body ≡ true → ChangesIt device (now + 1) y
         × AsState y.note.body
-    by_body (kinds.Permanent other link cause point verdict) e r b = absurd (let k : rank y.note.body ≡ 3 = ap rank e in omega (arith, k, late))
+    by_body (kinds.Permanent other link cause point verdict) e r b =
+        absurd (let k : rank y.note.body ≡ 3 = ap rank e in omega arith)
     by_body (kinds.Compressed other opened out cycle members u) e r b =
         absurd (not (record { opened = opened; at = out; cycle = cycle; members = members }) u
-        (e ∙ ap (λ (n : ℕ). kinds.Compressed (let d : DeviceId = record { 0 = n } in d) opened out cycle members u) (sym (eqb-true device.0 other.0 b))))
+        (e ∙ (rw (sym (eqb-true device.0 other.0 b)))))
     by_body (kinds.Corrected other cycle by adjustment) e (inl still) b = absurd (both_ways _ still b)
-    by_body (kinds.Corrected other cycle by adjustment) e (inr on) b = absurd (let bad : false ≡ true = on.0 in cc)
+    by_body (kinds.Corrected other cycle by adjustment) e (inr on) b = absurd (cc)
     by_body (kinds.State other state cause why) e r b = (
       record {
         state = state;
         cause = cause;
         why = why;
-        is = e ∙ ap (λ (n : ℕ). kinds.State (let d : DeviceId = record { 0 = n } in d) state cause why)
-            (sym (eqb-true device.0 other.0 b));
-        before = omega (arith, at);
+        is = e ∙ (rw (sym (eqb-true device.0 other.0 b)));
+        before = omega arith;
       },
       record { device = other; state = state; cause = cause; why = why; is = e },
     )
-    by_body other e r b = absurd (let bad : false ≡ true = b in cc)
+    by_body other e r b = absurd (cc)
 
 -- ---- it looks for the time until then
 
@@ -62,8 +62,7 @@ pub still_looking : {s : Scenario} {hs coming : List Happening} (front : List Ha
     {device : DeviceId} {node : Node} → IsAtWork s hs coming now device node → node.standing.state ≡ Integrating
     → ((z : Happening) → IsIn z front → time_of z ≡ now) → state_before s (hs ++ front) device now ≡ Integrating
 still_looking {s} {hs} {coming} front {now} {device} w looking also =
-    ap (λ l. if is_turned_on_at s device now then Integrating else state_after s l device)
-    (all_earlier s hs front coming now also (λ z i. (w.of_now z i).0)) ∙ sym w.left.state ∙ looking
+    rw (all_earlier s hs front coming now also (λ z i. (w.of_now z i).0)) (sym w.left.state ∙ looking)
 
 -- what a step starts from by which the master joins
 pub record IsJoining {C M : Type 0} (reading : C → ℕ → ℕ) (stands : M → Network → DeviceId → Node → Type 0) (s : Scenario) (world : World C M)
@@ -79,9 +78,9 @@ early_change : (n now : ℕ) {device : DeviceId} {z : Happening} (v : Happening)
     → time_of z ≡ now → c.cause ≤ n → place_of v ≡ now ∷ 7 ∷ device.0 ∷ (n + 1) ∷ []
     → IsBefore (place_of z) (place_of v)
 early_change n now {device} {z} v c at le place =
-    let here : place_of z ≡ now ∷ 7 ∷ device.0 ∷ c.cause ∷ [] = ap (λ b. time_of z ∷ rank b ∷ key (members_in z) b) c.is
-    ∙ ap (λ (k : ℕ). k ∷ 7 ∷ device.0 ∷ c.cause ∷ []) at in
-    let lt : c.cause < n + 1 = omega (arith, le) in
+    let here : place_of z ≡ now ∷ 7 ∷ device.0 ∷ c.cause ∷ [] = rw c.is
+    (rw at) in
+    let lt : c.cause < n + 1 = omega arith in
     subst (λ p. IsBefore p (place_of v)) (sym here)
     (subst (λ p. IsBefore (now ∷ 7 ∷ device.0 ∷ c.cause ∷ []) p) (sym place) (inr (refl, inr (refl, inr (refl, inl lt)))))
 
@@ -106,20 +105,19 @@ join_goes_by {reading} {stands} {s} {world} {notes} {old} {device} {machine} {af
     let moment = moment_of s device now in
     let act = on.did in
     let first = act.1.0 in
-    let v_is : own_judgement s.network device node sent ≡ judgements.Integrates = joins_so (own_judgement s.network device node sent) (sym act.1.1) in
-    let looking : node.standing.state ≡ Integrating =
+    let v_is = joins_so (own_judgement s.network device node sent) (sym act.1.1) in
+    let looking =
     heard_integrates (plan_of s.network device) (observation_window s.network) node.standing.state node.standing.adjustment.0 sent.at.0 sent.cycle sent.members
     v_is in
-    let is : act.0 ≡ node_emitted s.network device node moment sent judgements.Integrates = act.1.2 in
+    let is = act.1.2 in
     let more = emission_rest device sent in
     let at = now ∷ 4 ∷ more in
     let body = emission_body device sent judgements.Integrates in
     let resting : (h : Happening) → IsIn h world.settled → IsAtRest s device now h.note.body = λ h i.
     st.work.still h (in_right h hs world.settled i) (st.work.of_now h i).0 in
     let sole = causes_given st.moving (omega arith) in
-    let q : IsShownPair s.network hs now body device Joining whys.Frame world.settled settled = subst
-    (λ l. IsShownPair s.network hs now body device Joining whys.Frame world.settled l) (sym x.put.2.2)
-    (two_shown s.network hs now body device Joining whys.Frame (omega arith) (omega arith)
+    let q : IsShownPair s.network hs now body device Joining whys.Frame world.settled settled =
+    rw x.put.2.2 (two_shown s.network hs now body device Joining whys.Frame (omega arith) (omega arith)
     st.moving.are.after sole x.put.1 x.put.2.1) in
     let n = length hs in
     let w = record_of s.network hs [] now body in
@@ -128,20 +126,19 @@ join_goes_by {reading} {stands} {s} {world} {notes} {old} {device} {machine} {af
     let put1 = as_put now w refl (omega arith) in
     let new1_now : (z : Happening) → IsIn z (w ∷ (q.mid ++ q.back)) → time_of z ≡ now = λ z i.
     (put_now s hs [] world.settled now device node st.work put1 z
-    (subst (λ l. IsIn z (w ∷ l)) (sym q.parts) i)).0 in
-    let e : Emits s (hs ++ []) device now sent judgements.Integrates = subst (λ j. Emits s (hs ++ []) device now sent j) v_is
-    (emits [] world.settled sent st.work refl first.pending first.due) in
+    (rw q.parts i)).0 in
+    let e : Emits s (hs ++ []) device now sent judgements.Integrates =
+    rw v_is at (emits [] world.settled sent st.work refl first.pending first.due) in
     let lone_frame : (y : Happening) → IsIn y world.settled → (c : Compressed) (u : Judgement) → y.note.body ≡ emission_body device c u → ⊥ = λ y i c u same.
     let high = st.above y i in
     let four : rank y.note.body ≡ 4 = ap rank same in
-    omega (arith, high, four) in
-    let in_mid : (z : Happening) → IsIn z q.mid → IsIn z world.settled = λ z i. subst (λ l. IsIn z l) (sym q.parts)
-    (in_left z q.mid q.back i) in
-    let in_rest : (z : Happening) → IsIn z q.back → IsIn z world.settled = λ z i. subst (λ l. IsIn z l) (sym q.parts)
-    (in_right z q.mid q.back i) in
+    omega arith in
+    let in_mid : (z : Happening) → IsIn z q.mid → IsIn z world.settled = λ z i. rw q.parts (in_left z q.mid q.back i) in
+    let in_rest : (z : Happening) → IsIn z q.back → IsIn z world.settled =
+    λ z i. rw q.parts (in_right z q.mid q.back i) in
     let changes_it : (z : Happening) → IsIn z world.settled → bears_on device z.note.body ≡ true → ChangesIt device (now + 1) z = λ z i b.
     (bears_so s device now z (st.work.of_now z i).1 (st.work.of_now z i).0 (resting z i) (lone_frame z i) b).0 in
-    let over : IsOver s (hs ++ new) now device act.0 = subst (λ m. IsOver s (hs ++ new) now device m) (sym is)
+    let over : IsOver s (hs ++ new) now device act.0 = rw is
     (joined_over s hs [] q.mid q.back now device node w v sent (n + 1) moment st.work.left.counted.plan
     (st.work.left.counted.broken ∙ sym st.calm.broken) st.calm.off st.calm.falls refl refl refl refl refl refl
     (λ z i b. changes_it z (in_mid z i) b)
@@ -155,55 +152,53 @@ join_goes_by {reading} {stands} {s} {world} {notes} {old} {device} {machine} {af
     ])) in
     let ready = ready_after s act.0 (acts.Emit sent ripe.Integrates) st.work.ready st.steady st.precise st.wide on.may
     act.1
-    (ap (λ (m : Node). m.last) is) in
+    (rw is) in
     let cleared : HasCleared act.0 = subst HasCleared (sym is) (λ m there. absurd (none_in (correcting m) there)) in
     let new_now : (z : Happening) → IsIn z new → time_of z ≡ now = λ z i. elim (in_parts z (w ∷ q.mid) (v ∷ q.back) i) [
       | inl f ↦ new1_now z (in_left z (w ∷ q.mid) q.back f)
       | inr (inl same) ↦ ap time_of same
       | inr (inr b) ↦ new1_now z (in_right z (w ∷ q.mid) q.back b)
     ] in
-    let there : IsIn w new = inl refl in
+    let there = inl refl in
     let here = behind at in
     let none_w : (at : _) → Rattle.world_law.specs.device.Takings.taken_in device at w.note.body ≡ [] = λ at. refl in
-    let earlier2 : earlier now (hs ++ w ∷ (q.mid ++ q.back)) ≡ earlier now (hs ++ new) =
+    let earlier2 =
     all_earlier s hs (w ∷ (q.mid ++ q.back)) new now new1_now new_now in
     let turned : is_turned_on_at s device now ≡ true → HasTurnedOn s hs new here device now = λ on.
     turned_aside s hs (w ∷ q.mid) q.back v device
-    (subst (λ l. HasTurnedOn s hs (w ∷ l) here device now) q.parts
-    (turned_aside s hs [] world.settled w device
+    (rw q.parts at (turned_aside s hs [] world.settled w device
     (turned_by st.moving (st.turned on))
-    (ap (λ l. state_after s l device)
-    (earlier_put s hs [] world.settled now device node st.work put1))))
-    (ap (λ l. state_after s l device) earlier2) in
+    (rw (earlier_put s hs [] world.settled now device node st.work put1))))
+    (rw earlier2) in
     two_go_by on.here st q on.room
     (record {
       own = λ m. refl;
       here = IsSource.acting now device (emitting sent) (IsActing.emits sent judgements.Integrates e);
       caused = e;
       stands = refl;
-      acts = λ six. absurd (omega (arith, six));
+      acts = λ six. absurd (omega arith);
       apart = λ other not. (ne_eqb other.0 device.0 not, λ at. refl);
       of_it = refl;
       follows = inl refl;
       changes = λ there. (refl, (w, there, eq-eqb device.0 device.0 refl));
     })
     (all_one s hs new now 4 more w (omega arith) (omega arith) there refl)
-    (kept_over stands {hs = hs} {new = new} {frontier = here} after act.2 st.work.sound over ready cleared
-    (ap (λ (m : Node). m.taken) is ∙ taken_then stands s hs [] world.settled now device machine
+    (kept_over stands after act.2 st.work.sound over ready cleared
+    (rw is (taken_then stands s hs [] world.settled now device machine
     node w st refl none_w
-    ∙ ap (λ (l : List Happening). frames_taken s (hs ++ w ∷ l) device) q.parts
+    ∙ ap (λ l. frames_taken s (hs ++ w ∷ l) device) q.parts
     ∙ frames_put s hs (w ∷ q.mid) q.back now v device
     (λ h i. elim (in_parts h hs (w ∷ (q.mid ++ q.back)) i) [
       | inl given_one ↦ st.work.past h (in_left h hs world.settled given_one)
-      | inr later_one ↦ let at = new1_now h later_one in omega (arith, at)
-    ]) refl (λ at. refl))
+      | inr later_one ↦ let at = new1_now h later_one in omega arith
+    ]) refl (λ at. refl)))
     (bare_act s.network device node moment (acts.Emit sent ripe.Integrates) act.0 act.1 st.bare)
-    turned (ap (λ (m : Node). m.phase) is) st.calm.falls
-    (λ task has. absurd (none_done s.network device node moment sent task (subst (λ m. HasDoneTask m task) is has)))
+    turned (rw is) st.calm.falls
+    (λ task has. absurd (none_done s.network device node moment sent task (rw is at has)))
     st.reach
     (inr (record {
-      looking = ap (λ l. state_before s l device now) (sym (append-nil hs))
-          ∙ still_looking [] st.work looking (λ z i. absurd i);
+      looking = rw (sym (append-nil hs))
+          (still_looking [] st.work looking (λ z i. absurd i));
       by = w;
       there = there;
       sent = refl;

@@ -25,12 +25,13 @@ counts_on : {s : Scenario} {js : List Happening} {device : DeviceId} {u : ℕ} {
     → ((k : Happening) → IsIn k ks → ChangesIt device u k) → IsCounted s js device u node
     → IsCounted s (js ++ ks) device u node
 counts_on {s} {js} {device} {u} {node} ks =
-    by_last (λ (l : List Happening). ((k : Happening) → IsIn k l → ChangesIt device u k) → IsCounted s js device u node → IsCounted s (js ++ l) device u node)
-    (λ all c. subst (λ l. IsCounted s l device u node) (sym (append-nil js)) c)
+    by_last (λ l. ((k : Happening) → IsIn k l → ChangesIt device u k) → IsCounted s js device u node → IsCounted s
+    (js ++ l) device u node)
+    (λ all c. rw (append-nil js) c)
     (λ l k same all c.
     let it = all k (Rattle.run_law.proofs.runs.Places.in_right k l (k ∷ []) (inl refl)) in
-    subst (λ m. IsCounted s m device u node) (append_assoc js l (k ∷ []))
-    (change_counts s (js ++ l) device u node k it.state it.cause it.why it.is it.before
+    rw (append_assoc js l (k ∷ [])) at (change_counts s (js ++ l) device u node k it.state it.cause it.why it.is
+    it.before
     (same (λ y i. all y (Rattle.run_law.proofs.runs.Places.in_left y l (k ∷ []) i)) c))) ks
 
 twice : {X : Type 0} (q : X → Bool) (xs : List X) → filter q (filter q xs) ≡ filter q xs
@@ -50,16 +51,16 @@ borne_joined hs front mid rest device w f none =
     let c = filter q (w ∷ []) in
     let d = filter q (f ∷ []) in
     filter-append q (((hs ++ front) ++ w ∷ []) ++ m) (f ∷ [])
-    ∙ ap (λ (l : List Happening). l ++ d) (filter-append q ((hs ++ front) ++ w ∷ []) m
-    ∙ ap (λ (l : List Happening). l ++ filter q m) (filter-append q (hs ++ front) (w ∷ []) ∙ ap (λ (l : List Happening). l ++ c) (filter-append q hs front))
-    ∙ ap (λ (l : List Happening). ((a ++ b) ++ c) ++ l) (twice q mid))
+    ∙ ap (λ l. l ++ d) (filter-append q ((hs ++ front) ++ w ∷ []) m
+    ∙ ap (λ l. l ++ filter q m) (filter-append q (hs ++ front) (w ∷ []) ∙ ap (λ l. l ++ c) (filter-append q hs front))
+    ∙ ap (λ l. ((a ++ b) ++ c) ++ l) (twice q mid))
     ∙ append_assoc ((a ++ b) ++ c) m d
     ∙ append_assoc (a ++ b) c (m ++ d)
     ∙ append_assoc a b (c ++ (m ++ d))
     ∙ sym (filter-append q hs (front ++ w ∷ (mid ++ f ∷ rest))
-    ∙ ap (λ (l : List Happening). a ++ l) (filter-append q front (w ∷ (mid ++ f ∷ rest))
-    ∙ ap (λ (l : List Happening). b ++ l) (filter-append q (w ∷ []) (mid ++ f ∷ rest)
-    ∙ ap (λ (l : List Happening). c ++ l) (filter-append q mid (f ∷ rest) ∙ ap (λ (l : List Happening). m ++ l) (one_in q f rest left)))))
+    ∙ ap (λ l. a ++ l) (filter-append q front (w ∷ (mid ++ f ∷ rest))
+    ∙ ap (λ l. b ++ l) (filter-append q (w ∷ []) (mid ++ f ∷ rest)
+    ∙ ap (λ l. c ++ l) (filter-append q mid (f ∷ rest) ∙ ap (λ l. m ++ l) (one_in q f rest left)))))
 
 -- what is behind the frame bears on the device only as a change of its state, and nothing does behind the new state
 pub joined_over : (s : Scenario) (hs front mid rest : List Happening) (now : ℕ) (device : DeviceId) (node : Node) (w f : Happening) (sent : Compressed)
@@ -82,14 +83,14 @@ joined_over s hs front mid rest now device node w f sent cause moment plan sound
       body = e;
       same_cycle = refl;
       of_frame = of_frame;
-      before = ap (λ n. n + 1) (sym at);
-      reads = reads ∙ ap (λ (n : ℕ). pos (s.reading device n)) (sym at);
+      before = rw (sym at);
+      reads = reads ∙ (rw (sym at));
     }) later plan sound in
     let ks = borne device mid in
     let changes : (k : Happening) → IsIn k ks → ChangesIt device u k = λ k i.
     between k (in_filter (λ h. bears_on device h.note.body) mid k i) (kept mid k i) in
     let counted = counts_on ks changes first.counted in
-    let lt : time_of f < u = omega (arith, f_at) in
+    let lt : time_of f < u = omega arith in
     let whole : IsLeft s ((((hs ++ front) ++ w ∷ []) ++ ks) ++ f ∷ []) device u lone =
     change_leaves s (((hs ++ front) ++ w ∷ []) ++ ks) device u lone f Joining cause whys.Frame fe (self device) lt later refl (λ cm. refl)
     (change_counts s (((hs ++ front) ++ w ∷ []) ++ ks) device u lone f Joining cause whys.Frame fe lt counted) in
@@ -99,12 +100,10 @@ joined_over s hs front mid rest now device node w f sent cause moment plan sound
           (borne_joined hs front mid rest device w f none) whole));
       done = record {
         undone = λ deed un x from lt_x.
-            let here = beyond_it _ _ _ _ refl un.ahead in
             let now_too = subst
             (λ z. z <ℤ (value_of s.network deed -ℤ (node_emitted s.network device node moment sent judgements.Integrates).standing.adjustment.0))
-            reads here in
-            let fell = falls x now (omega (arith, lt_x)) in
-            later_below _ (s.reading device now) (s.reading device x) now_too fell;
+            reads (beyond_it _ _ _ _ refl un.ahead) in
+            later_below _ (s.reading device now) (s.reading device x) now_too (falls x now (omega arith));
         done = λ deed there. absurd (none_in deed there);
       };
       sent = record {
@@ -114,16 +113,16 @@ joined_over s hs front mid rest now device node w f sent cause moment plan sound
     }
   where
     later_below : (z : ℤ) (m r : ℕ) → pos m <ℤ z → r ≤ m → pos r <ℤ z
-    later_below z m r lt le = omega (arith, ints, lt, le)
+    later_below z m r lt le = omega (arith, ints)
 
     kept : (xs : List Happening) (k : Happening) → IsIn k (borne device xs) → bears_on device k.note.body ≡ true
     kept [] k i = absurd i
     kept (x ∷ xs) k i = elim (cases_Bool (bears_on device x.note.body)) [
-      | inl yes_it ↦ elim (subst (λ l. IsIn k l) (ap (λ (b : Bool). if b then x ∷ borne device xs else borne device xs) yes_it) i) [
-        | inl same ↦ ap (λ (h : Happening). bears_on device h.note.body) same ∙ yes_it
+      | inl yes_it ↦ elim (rw (ap (λ (b : Bool). if b then x ∷ borne device xs else borne device xs) yes_it) at i) [
+        | inl same ↦ rw same yes_it
         | inr more ↦ kept xs k more
       ]
-      | inr not ↦ kept xs k (subst (λ l. IsIn k l) (ap (λ (b : Bool). if b then x ∷ borne device xs else borne device xs) not) i)
+      | inr not ↦ kept xs k (rw (ap (λ (b : Bool). if b then x ∷ borne device xs else borne device xs) not) at i)
     ]
 
     emitted_left : IsLeft s (hs ++ (front ++ w ∷ (mid ++ f ∷ rest))) device (now + 1)

@@ -2,13 +2,13 @@
 use Rattle.world_law.proofs.acts.Acted.{acted}
 use Rattle.world_law.{proofs.{acts.Ready.acting_last, putting.Idle.drop_one, steps_lemmas.acting.{Over.IsOver, Work.IsAtWork}}, specs.device.Takings.taken_by}
 use Rattle.world_law.proofs.{rows.AtHand.{taken_parts, taken_same}, steps_lemmas.Words.{ℕ, time_of, true, unsigned_abs, whole}}
-use Rattle.world_law.proofs.steps_lemmas.Words.{◌++◌, ◌+ℤ◌, ◌+◌, ◌<ℤ◌, ◌^◌, ◌∙◌, ◌∷◌, ◌≡◌, ◌≤ℤ◌, ◌≤◌, Act, AsyncClique, Bool, Cleared, Corrected}
+use Rattle.world_law.proofs.steps_lemmas.Words.{◌++◌, ◌+◌, ◌^◌, ◌∙◌, ◌∷◌, ◌≡◌, ◌≤ℤ◌, ◌≤◌, Act, AsyncClique, Bool, Cleared, Corrected}
 use Rattle.world_law.proofs.steps_lemmas.Words.{DeviceId, Happening, HasCleared, HasTurnedOn, IsActOf, IsBefore, IsIn, IsKept, IsNoTaking, IsReadyAt}
-use Rattle.world_law.proofs.steps_lemmas.Words.{IsSteady, List, MayCall, Moment, Network, Node, Scenario, SyncClique, TakenFrame, [], act_place, acting}
+use Rattle.world_law.proofs.steps_lemmas.Words.{IsSteady, List, MayCall, Moment, Network, Node, Scenario, SyncClique, [], act_place, acting}
 use Rattle.world_law.proofs.steps_lemmas.Words.{◌<◌, ◌⊎◌, Dispatches, HadComeTo, HasDoneFrom, HasDoneTask, HasSentFrom, HasWorkedTo, IsActedOut, IsActing}
 use Rattle.world_law.proofs.steps_lemmas.Words.{IsJoiningNow, Task, append-nil, changed_at, changed_before, doing, emitting, rows_place, task_place}
 use Rattle.world_law.proofs.steps_lemmas.acting.Starts.{changed_soon}
-use Rattle.world_law.proofs.steps_lemmas.Words.{adjustment_after, amount, ap, append_assoc, arith, before_behind, behind, both_ways}
+use Rattle.world_law.proofs.steps_lemmas.Words.{amount, ap, append_assoc, arith, before_behind, behind, both_ways}
 use Rattle.world_law.proofs.steps_lemmas.Words.{chain, earlier, false, frames_taken, if◌then◌else◌, inl, inr, ints, is_broken, is_cm, is_synchronised}
 use Rattle.world_law.proofs.steps_lemmas.Words.{is_turned_on_at, le-ltb, local_before, moment_of, nat_lt, pos, reading_for}
 use Rattle.world_law.proofs.steps_lemmas.Words.{refl, subst, sym}
@@ -29,20 +29,20 @@ pub ready_after : (s : Scenario) {device : DeviceId} {node : Node} (new : Node) 
     → IsReadyAt (s.reading device) s.network device new now
 ready_after s {device} {node} new {now} act ready steady precise wide may is last =
     let carried = acted s.network device node (moment_of s device now) act new may wide is in
-    let time : new.last.time.0 ≡ pos now = ap (λ (m : Moment). m.time.0) last in
+    let time : new.last.time.0 ≡ pos now = rw last in
     record {
-      time = omega (arith, ints, time);
-      begun = omega (arith, ints, time);
-      last = ap (λ (m : Moment). m.reading.0) last ∙ ap (λ (n : ℕ). pos (s.reading device n)) (sym (ap unsigned_abs time));
+      time = omega (arith, ints);
+      begun = omega (arith, ints);
+      last = rw last ((rw (sym (ap unsigned_abs time))));
       undone = λ task p x lt.
           elim (carried task p) [
-            | inl old ↦ subst (λ z. pos (s.reading device x) <ℤ z) (sym old.1) (ready.undone task old.0 x lt)
-            | inr far ↦ let fell = steady.never_falls x now (omega (arith, lt)) in omega (arith, ints, far, fell)
+            | inl old ↦ rw old.1 (ready.undone task old.0 x lt)
+            | inr far ↦ let fell = steady.never_falls x now (omega arith) in omega (arith, ints)
           ];
       in_time = λ task p.
           elim (carried task p) [
-            | inl old ↦ subst (λ z. pos (s.reading device now) <ℤ (z +ℤ s.network.precision.0)) (sym old.1) (ready.in_time task old.0)
-            | inr far ↦ omega (arith, ints, far, precise)
+            | inl old ↦ rw old.1 (ready.in_time task old.0)
+            | inr far ↦ omega (arith, ints)
           ];
     }
 
@@ -58,16 +58,16 @@ pub frames_put : (s : Scenario) (hs front back : List Happening) (now : ℕ) (w 
 frames_put s hs front back now w device past at takes =
     let old = (hs ++ front) ++ back in
     let mid = (hs ++ front) ++ w ∷ back in
-    ap (λ l. frames_taken s l device) (sym (append_assoc hs front back))
-    ∙ taken_same device (local_before s old device) (local_before s mid device) old
-    (λ h i. let early = past h (subst (λ l. IsIn h l) (append_assoc hs front back) i) in
-    ap (λ l. pos (s.reading device (time_of h)) +ℤ (adjustment_after s l device).0)
-    (sym (earlier_same (time_of h) (hs ++ front) back w (omega (arith, early, at)))))
+    rw (sym (append_assoc hs front back))
+    (taken_same device (local_before s old device) (local_before s mid device) old
+    (λ h i. let early = past h (rw (append_assoc hs front back) at i) in
+    rw (sym (earlier_same (time_of h) (hs ++ front) back w (omega arith))))
     ∙ taken_parts device (local_before s mid device) (hs ++ front) back
-    ∙ ap (λ (l : List TakenFrame). taken_by device (local_before s mid device) (hs ++ front) ++ (l ++ taken_by device (local_before s mid device) back))
+    ∙ ap (λ l. taken_by device (local_before s mid device) (hs ++ front) ++ (l ++ taken_by device
+    (local_before s mid device) back))
     (sym (takes (local_before s mid device (time_of w))))
     ∙ sym (taken_parts device (local_before s mid device) (hs ++ front) (w ∷ back))
-    ∙ ap (λ l. frames_taken s l device) (append_assoc hs front (w ∷ back))
+    ∙ (rw (append_assoc hs front (w ∷ back))))
 
 -- ---- where it is no compression master
 
@@ -93,7 +93,7 @@ bare_act network device node moment (acts.Dispatch row cycle) new is bare = subs
 -- ---- it is kept
 
 no_step : (now : ℕ) → now ≡ now + 1 → ⊥
-no_step now e = omega (arith, e)
+no_step now e = omega arith
 
 -- where it has done so by the times, and what it has done at the instant is before the frontier
 pub to_worked : {s : Scenario} {device : DeviceId} {node : Node} {changed up : ℕ} (now : ℕ) (frontier : List ℕ)
@@ -112,7 +112,7 @@ to_worked {s} {device} now frontier done sent worked le falls past =
         | inr gone ↦
             let x = done.done deed there in
             let fell = falls x.0 now (omega (arith, x.2)) in
-            (now, le, gone, omega (arith, ints, x.3, fell))
+            (now, le, gone, omega (arith, ints, x.3))
       ];
       unsent = sent.unsent;
       sent = λ c there. elim (worked (emitting c) there) [
@@ -120,7 +120,7 @@ to_worked {s} {device} now frontier done sent worked le falls past =
         | inr gone ↦
             let x = sent.sent c there in
             let fell = falls x.0 now (omega (arith, x.1)) in
-            (now, gone, omega (arith, ints, x.2, fell))
+            (now, gone, omega (arith, ints, x.2))
       ];
     }
 
@@ -132,7 +132,7 @@ pub acted_phase : (node : Node) (device : DeviceId) (now : ℕ) (frontier : List
 acted_phase node device now frontier phase past p b =
     chain p (act_place now device) frontier
     (chain p (now ∷ 4 ∷ []) (act_place now device)
-    (subst (λ (f : _). IsBefore p (now ∷ Rattle.world_law.specs.world.World.rank_of_call f ∷ [])) phase b) (inr (refl, inr (refl, tt)))) past
+    (rw phase at b) (inr (refl, inr (refl, tt)))) past
 
 -- while the instant is not over for it
 pub kept_on : {M : Type 0} (stands : M → Network → DeviceId → Node → Type 0) {s : Scenario} {hs new : List Happening}
@@ -182,7 +182,7 @@ out_by_acts s hs now device none = record { past = inr (refl, inl (omega arith))
     all_of task (IsActing.corrects cycle c) = before_behind (rows_place now device)
     all_of task (IsActing.dispatches link cause vl cycle d) =
         absurd (none [] (λ z i. absurd i) link cause vl cycle
-        (subst (λ l. Dispatches s l device now link cause vl cycle) (sym (append-nil hs)) d))
+        (rw (append-nil hs) d))
 
 -- and where it is over: its acts are worked off, or its own frame tells it the time
 pub kept_over : {M : Type 0} (stands : M → Network → DeviceId → Node → Type 0) {s : Scenario}

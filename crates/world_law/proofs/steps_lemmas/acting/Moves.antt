@@ -2,15 +2,15 @@
 use Rattle.run_law.{proofs.runs.Determined.same_units, specs.{device.{LocalClocks.local_at_change, States.joined_adjustment}, machines.Answers.with_corrected}}
 use Rattle.{run_law.specs.declared.judgement.Judgement.TheVariants.Integrates, tte_units.proofs.general_lemmas.Lists.last_pushed}
 use Rattle.{sync_state.specs.Integration.joined_by, world_law.specs.device.{Left.IsCounted, Told.change_in}}
-use Rattle.world_law.proofs.{lists.Lists.map_none, steps_lemmas.{Words.{sym, time_of, true, with_clique, with_joined, ℕ, ℤ}, ripening.Judged.not_yet}}
+use Rattle.world_law.proofs.{lists.Lists.map_none, steps_lemmas.{Words.{sym, time_of, true, with_clique, with_joined, ℕ}, ripening.Judged.not_yet}}
 use Rattle.world_law.proofs.steps_lemmas.Words.{◌&&◌, ◌++◌, ◌+ℤ◌, ◌+◌, ◌-◌, ◌<◌, ◌==◌, ◌||◌, ◌∙◌, ◌∷◌, ◌≡◌, ◌≤◌, Bool, DeviceId, Happening, Hearing, IfSome}
 use Rattle.world_law.proofs.steps_lemmas.Words.{Integrating, IsLeft, Joining, List, Members, Moment, Node, None, Option, Pcf, Scenario, Some, State}
 use Rattle.world_law.proofs.steps_lemmas.Words.{Summary, Synchronised, Units, Verdict, Why, [], adjustment_after, adjustment_by, adjustment_with}
 use Rattle.world_law.proofs.steps_lemmas.Words.{after_last, and_right, ap, append-nil, arith, behind_no, behind_yes, both_ways, changes_adjustment, cleared_in}
 use Rattle.world_law.proofs.steps_lemmas.Words.{correction_value, cycle_after, cycle_in, earlier, ends_stretch, false, filter, filter-append, filter_map}
 use Rattle.world_law.proofs.steps_lemmas.Words.{filter_no, filter_yes, fold, fold-append, heard_since, hearing_by, if◌then◌else◌, int_le, int_lt}
-use Rattle.world_law.proofs.steps_lemmas.Words.{integration_cycle, is_broken, is_cm, is_integration_cycle, is_joined_by, is_synchronised, is_timed}
-use Rattle.world_law.proofs.steps_lemmas.Words.{is_turned_on_at, last_or, local_in, lt-ltb, nat_lt, ne_eqb, next_in, not, not_turned_on, option_map_or, plan_of}
+use Rattle.world_law.proofs.steps_lemmas.Words.{integration_cycle, is_broken, is_cm, is_integration_cycle, is_joined_by, is_timed}
+use Rattle.world_law.proofs.steps_lemmas.Words.{is_turned_on_at, local_in, lt-ltb, nat_lt, ne_eqb, next_in, not, not_turned_on, option_map_or, plan_of}
 use Rattle.world_law.proofs.steps_lemmas.Words.{point_by, points_of, pos, recorded_cycle, refl, same_kept, self, since_at, state_after, state_by, state_with}
 use Rattle.run_law.specs.declared.judgement.Why.TheVariants as whys
 use Rattle.run_law.specs.declared.note.NoteBody.TheVariants as notes
@@ -44,8 +44,8 @@ one_earlier u hs h lt = filter_yes (λ g. nat_lt (time_of g) u) hs h (lt-ltb (ti
 pub changed_by : (device : DeviceId) (w : List Happening) (h : Happening) → changes_adjustment device h.note.body ≡ true
     → change_in device (w ++ h ∷ []) ≡ time_of h
 changed_by device w h it =
-    ap (λ (l : List Happening). option_map_or time_of (last_or None l) 0) (filter_yes (λ g. changes_adjustment device g.note.body) w h it)
-    ∙ ap (λ (o : Option Happening). option_map_or time_of o 0) (last_pushed None (filter (λ g. changes_adjustment device g.note.body) w) h)
+    rw (filter_yes (λ g. changes_adjustment device g.note.body) w h it)
+    (ap (λ o. option_map_or time_of o 0) (last_pushed None (filter (λ g. changes_adjustment device g.note.body) w) h))
 
 -- and nothing has been heard since
 pub heard_anew : (s : Scenario) (hs : List Happening) (device : DeviceId) (u : ℕ) (h : Happening) → time_of h < u → changes_adjustment device h.note.body ≡ true
@@ -56,11 +56,11 @@ heard_anew s hs device u h lt it = grind (arith, nat_lt, time_of, changes_adjust
 
 beyond : (o : Option ℕ) (least cycle : ℕ) → least ≤ cycle → IfSome o (λ c. c ≤ least) → option_map_or (λ c. (cycle + 1) == c) o false ≡ false
 beyond None least cycle le h = refl
-beyond (Some c) least cycle le h = ne_eqb (cycle + 1) c (λ e. omega (arith, e, h, le))
+beyond (Some c) least cycle le h = ne_eqb (cycle + 1) c (λ e. omega arith)
 
 started_on : (o : Option ℕ) (least cycle : ℕ) → least ≤ cycle → IfSome o (λ c. c ≤ least) → IfSome o (λ c. c ≤ cycle + 1)
 started_on None least cycle le h = h
-started_on (Some c) least cycle le h = omega (arith, h, le)
+started_on (Some c) least cycle le h = omega arith
 
 module _ (s : Scenario) (device : DeviceId) (w : List Happening) (h : Happening) (cycle : ℕ) (by adjustment : Units)
     (e : h.note.body ≡ notes.Corrected device cycle by adjustment) where
@@ -110,27 +110,25 @@ module _ (s : Scenario) (hs : List Happening) (device : DeviceId) (u : ℕ) (nod
       let adjusted = adjustment_corrected s device w h cycle by adjustment e in
       let least : recorded_cycle w device ≤ cycle = omega (arith, left.least so.timed, so.number) in
       let other : is_integration_cycle (w ++ h ∷ []) device ≡ false =
-      grind (arith, option_map_or, recorded_cycle, w, integration, integration_cycle, recorded, beyond, least) in
+      grind (arith, option_map_or, recorded_cycle, integration_cycle, beyond) in
       let none : cleared_in s device (w ++ h ∷ []) u ≡ false =
-      grind (arith, int_lt, local_in, w, correction_value, recorded_cycle, int_le, adjustment_after, other) in
+      grind (arith, int_lt, local_in, correction_value, recorded_cycle, int_le, adjustment_after) in
       let next : next_in s device (w ++ h ∷ []) u ≡ cycle + 1 =
-      ap (λ (b : Bool). if b then recorded_cycle (w ++ h ∷ []) device + 1 else recorded_cycle (w ++ h ∷ []) device)
-      none ∙ recorded in
+      rw none recorded in
       let local : local_in s device (w ++ h ∷ []) ≡ (pos (s.reading device (time_of h)) +ℤ adjustment.0) =
-      ap (λ (n : ℕ). pos (s.reading device n) +ℤ (adjustment_after s (w ++ h ∷ []) device).0)
-      (changed_by device w h changes)
-      ∙ ap (λ (a : Units). pos (s.reading device (time_of h)) +ℤ a.0) adjusted in
+      rw (changed_by device w h changes)
+      (rw adjusted) in
       record {
         plan = left.plan;
         adjustment = same_units _ adjustment so.sum ∙ sym adjusted ∙ ap
             (λ l. adjustment_after s l device) (sym more);
         integrated =
             left.integrated ∙ sym integration ∙ ap (λ l. integration_cycle l device) (sym more);
-        number = λ timed. ap (λ n. n + 1) so.number ∙ sym next ∙ ap
-            (λ l. next_in s device l u) (sym more);
-        changed = grind (arith, time_of, local, local_in, more);
+        number = λ timed. rw so.number (sym next ∙ ap
+            (λ l. next_in s device l u) (sym more));
+        changed = grind (arith, time_of, local_in);
         heard = λ timed. sym (heard_anew s hs device u h so.before changes);
-        started = grind (arith, integration_cycle, recorded_cycle, more, w, recorded, integration, started_on, least);
+        started = grind (arith, integration_cycle, recorded_cycle, started_on);
         broken = left.broken;
       }
 
@@ -148,12 +146,12 @@ module _ (s : Scenario) (hs : List Happening) (device : DeviceId) (u : ℕ) (nod
             ∙ ap (λ l. state_after s l device) (sym (one_earlier u hs h so.before))
             ∙ sym (not_turned_on s (hs ++ h ∷ []) device u off);
         points = λ cm.
-            ap (λ x. if is_synchronised x then node.points else []) synchronised
-            ∙ left.points cm
+            rw synchronised
+            (left.points cm
             ∙ sym (map_none (λ g. point_by device g g.note.body)
             (after_last (λ g. ends_stretch device g.note.body) hs) h (ap (point_by device h) e))
             ∙ sym (ap (filter_map (λ g. point_by device g g.note.body))
-            (behind_no (λ g. ends_stretch device g.note.body) hs h (ap (ends_stretch device) e)));
+            (behind_no (λ g. ends_stretch device g.note.body) hs h (ap (ends_stretch device) e))));
       }
 
 -- ---- a change of state
@@ -192,22 +190,19 @@ module _ (s : Scenario) (hs : List Happening) (device : DeviceId) (u : ℕ) (nod
   change_counts lt left =
       let w = earlier u hs in
       let more = one_earlier u hs h lt in
-      let adjusted : adjustment_after s (w ++ h ∷ []) device ≡ adjustment_after s w device =
+      let adjusted =
       fold_more (λ old g. adjustment_with s device (cycle_in g) old g.note.body) _ w h ∙ ap
       (adjustment_with s device (cycle_in h) (adjustment_after s w device))
       e in
-      let integration : integration_cycle (w ++ h ∷ []) device ≡ integration_cycle w device =
+      let integration =
       fold_more (λ last g. if is_joined_by device g.note.body then Some (cycle_in g) else last) None w h
       ∙ ap (λ b. if is_joined_by device b then Some (cycle_in h) else integration_cycle w device) e in
-      let recorded : recorded_cycle (w ++ h ∷ []) device ≡ recorded_cycle w device =
+      let recorded =
       fold_more (λ next g. cycle_after device next g g.note.body) 1 w h ∙ ap
       (cycle_after device (recorded_cycle w device) h) e in
       let changed : change_in device (w ++ h ∷ []) ≡ change_in device w =
-      ap (λ (l : List Happening). option_map_or time_of (last_or None l) 0)
-      (filter_no (λ g. changes_adjustment device g.note.body) w h (ap (changes_adjustment device) e)) in
+      rw (filter_no (λ g. changes_adjustment device g.note.body) w h (ap (changes_adjustment device) e)) in
       let told = told_by s device w h integration recorded changed adjusted in
-      let late : (nat_lt (time_of h) u && changes_adjustment device h.note.body) ≡ false =
-      and_right _ _ (ap (changes_adjustment device) e) in
       record {
         plan = left.plan;
         adjustment =
@@ -220,13 +215,13 @@ module _ (s : Scenario) (hs : List Happening) (device : DeviceId) (u : ℕ) (nod
         heard = λ timed.
             left.heard timed
             ∙ sym (told.heard u (since_at device u hs))
-            ∙ ap (λ l. heard_in s device l u (since_at device u hs)) (sym more)
-            ∙ sym (heard_none s device (earlier u (hs ++ h ∷ [])) (since_at device u hs) u h
+            ∙ (rw (sym more)
+            (sym (heard_none s device (earlier u (hs ++ h ∷ [])) (since_at device u hs) u h
             (ap (hearing_by s.network device h) e))
             ∙ sym (ap (heard_in s device (earlier u (hs ++ h ∷ [])) u)
             (behind_no (λ g. nat_lt (time_of g) u && changes_adjustment device g.note.body) hs h
-            late));
-        started = grind (arith, integration_cycle, recorded_cycle, more, w, recorded, integration);
+            (and_right _ _ (ap (changes_adjustment device) e))))));
+        started = grind (arith, integration_cycle, recorded_cycle);
         broken = left.broken;
       }
 
@@ -248,7 +243,7 @@ module _ (s : Scenario) (hs : List Happening) (device : DeviceId) (u : ℕ) (nod
   joiner_corrects {h} g {cycle} cause {by} {adjustment} {moment} heard so joining off e lt left =
       change_leaves s (hs ++ h ∷ []) device u (with_corrected node moment heard by) g Synchronised cause
       whys.Correction e (self device) lt off refl
-      (λ cm. ap (λ x. if is_synchronised x then node.points else []) joining)
+      (λ cm. rw joining)
       (change_counts s (hs ++ h ∷ []) device u (with_corrected node moment heard by) g Synchronised cause
       whys.Correction e lt
       (corrected_counts s hs device u node h cycle by adjustment moment heard so left))
@@ -296,37 +291,39 @@ joins {s} hs {device} {u} node {h} {cycle} {point} {frame} so off plan sound =
     let e = so.body in
     let joined : is_joined_by device h.note.body ≡ true = ap (is_joined_by device) e ∙ self device in
     let changes : changes_adjustment device h.note.body ≡ true = ap (changes_adjustment device) e ∙ self device in
-    let of_cycle : cycle_in h ≡ frame.cycle = ap (λ (o : Option Pcf). option_map_or (λ f. f.cycle) o 0) so.of_frame in
+    let of_cycle : cycle_in h ≡ frame.cycle = rw so.of_frame in
     let adjusted : adjustment_after s (w ++ h ∷ []) device ≡ joined_adjustment s device cycle point =
-    grind (arith, fold_more, adjustment_with, cycle_in, w, adjustment_after, e, self) in
-    let integration : integration_cycle (w ++ h ∷ []) device ≡ Some (cycle_in h) =
+    grind (arith, fold_more, adjustment_with, cycle_in, adjustment_after, self) in
+    let integration =
     fold_more (λ last g. if is_joined_by device g.note.body then Some (cycle_in g) else last) None w h
-    ∙ ap (λ (b : Bool). if b then Some (cycle_in h) else integration_cycle w device) joined in
-    let recorded : recorded_cycle (w ++ h ∷ []) device ≡ cycle_in h = grind (arith, fold_more, cycle_after, w, recorded_cycle, e, cycle_in, self) in
+    ∙ ap (λ b. if b then Some (cycle_in h) else integration_cycle w device) joined in
+    let recorded : recorded_cycle (w ++ h ∷ []) device ≡ cycle_in h =
+    grind (arith, fold_more, cycle_after, recorded_cycle, cycle_in, self) in
     let at : u - 1 ≡ time_of h = omega (arith, so.before) in
     let local : local_in s device (w ++ h ∷ []) ≡ (pos (s.reading device (time_of h)) +ℤ (adjustment_after s (w ++ h ∷ []) device).0) =
-    ap (λ (n : ℕ). pos (s.reading device n) +ℤ (adjustment_after s (w ++ h ∷ []) device).0) (changed_by device w h changes) in
+    rw (changed_by device w h changes) in
     let v = correction_value s.network (recorded_cycle (w ++ h ∷ []) device) in
-    let none : cleared_in s device (w ++ h ∷ []) u ≡ false = and_right (is_integration_cycle (w ++ h ∷ []) device) _
-    (ap (λ (z : ℤ). int_lt z v && int_le v (pos (s.reading device (u - 1)) +ℤ (adjustment_after s (w ++ h ∷ []) device).0)) local
-    ∙ ap (λ (n : ℕ). int_lt (pos (s.reading device (time_of h)) +ℤ (adjustment_after s (w ++ h ∷ []) device).0) v
+    let none = and_right (is_integration_cycle (w ++ h ∷ []) device) _
+    (ap (λ z. int_lt z v && int_le v (pos (s.reading device (u - 1)) +ℤ (adjustment_after s (w ++ h ∷ []) device).0))
+    local
+    ∙ ap (λ n. int_lt (pos (s.reading device (time_of h)) +ℤ (adjustment_after s (w ++ h ∷ []) device).0) v
     && int_le v (pos (s.reading device n) +ℤ (adjustment_after s (w ++ h ∷ []) device).0)) at
     ∙ not_yet (pos (s.reading device (time_of h)) +ℤ (adjustment_after s (w ++ h ∷ []) device).0) v) in
     let own : joined_adjustment s device cycle point ≡ (joined_by node.standing.plan frame point).adjustment =
-    ap (λ n. joined_adjustment s device n point) (sym so.same_cycle)
-    ∙ ap (λ p. (joined_by p frame point).adjustment) (sym plan) in
+    rw (sym so.same_cycle)
+    (ap (λ p. (joined_by p frame point).adjustment) (sym plan)) in
     record {
       counted = record {
         plan = plan;
         adjustment = sym own ∙ sym adjusted ∙ ap (λ l. adjustment_after s l device) (sym more);
-        integrated = sym (ap (λ (n : ℕ). Some n) of_cycle) ∙ sym integration ∙ ap (λ l. integration_cycle l device) (sym more);
+        integrated = sym (rw of_cycle) ∙ sym integration ∙ ap (λ l. integration_cycle l device) (sym more);
         number = grind (arith, of_cycle, recorded, recorded_cycle, w, none, next_in, more);
-        changed = grind (arith, time_of, own, adjusted, local, local_in, more);
+        changed = grind (arith, time_of, local_in);
         heard = λ timed. sym (heard_anew s hs device u h lt changes);
-        started = grind (arith, integration_cycle, recorded_cycle, more, w, recorded, cycle_in, integration);
+        started = grind (arith, integration_cycle, recorded_cycle, cycle_in);
         broken = sound;
       };
-      state = grind (arith, fold_more, state_with, w, state_after, e, self, more, not_turned_on);
+      state = grind (arith, fold_more, state_with, state_after, self, not_turned_on);
       points =
           λ cm. sym (ap (filter_map (λ g. point_by device g g.note.body))
           (behind_yes (λ g. ends_stretch device g.note.body) hs h (ap (ends_stretch device) e ∙ self device)));

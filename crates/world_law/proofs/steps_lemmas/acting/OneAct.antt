@@ -3,18 +3,17 @@ use Rattle.world_law.proofs.acts.Dues.{IsDueTask, act_due, done_or}
 use Rattle.world_law.proofs.growing.Growing.{IsCorrection, what_is_left}
 use Rattle.world_law.proofs.{putting.Moving.stays, runs.Settled.own_here}
 use Rattle.{run_law.proofs.runs.Places.nothing_between, schedule_tables.specs.Dispatches.dispatch_order}
-use Rattle.world_law.proofs.steps_lemmas.Words.{◌++◌, ◌-ℤ◌, ◌∙◌, ◌∷◌, ◌≡◌, ◌≤ℤ◌, ◌≤◌, ◌⊎◌, Act, ArePutIn, DeviceId, HadComeTo, Happening}
-use Rattle.world_law.proofs.steps_lemmas.Words.{HasDoneTask, HasTurnedOn, IsActOf, IsActing, IsAllOfIt, IsBefore, IsIn, IsLawful, IsOwnSource}
-use Rattle.world_law.proofs.steps_lemmas.Words.{IsSet, IsShownPut, List, Network, Node, NoneBefore, Note, NoteBody, Scenario, Stands, StandsBehind, Task, Units}
-use Rattle.world_law.proofs.steps_lemmas.Words.{World, [], ap, arith, before_behind, behind, cause_of, changed_at, doing, earlier}
-use Rattle.world_law.proofs.steps_lemmas.Words.{earlier_still, emitting, happenings, in_right, inl, inr, is_at_source, is_turned_on_at, length}
-use Rattle.world_law.proofs.steps_lemmas.Words.{members_in, moment_of, one_shown, place_of, points_of, points_same, pos, quiet_rest, rank}
-use Rattle.world_law.proofs.steps_lemmas.Words.{record_of, refl, subst, sym, task_place, time_of, true, value_of, ℕ}
+use Rattle.world_law.proofs.steps_lemmas.Words.{◌++◌, ◌∙◌, ◌∷◌, ◌≡◌, ◌≤◌, ◌⊎◌, Act, ArePutIn, DeviceId, HadComeTo, Happening}
+use Rattle.world_law.proofs.steps_lemmas.Words.{HasDoneTask, IsActOf, IsActing, IsAllOfIt, IsBefore, IsIn, IsLawful, IsOwnSource}
+use Rattle.world_law.proofs.steps_lemmas.Words.{IsSet, IsShownPut, List, Network, Node, NoneBefore, Note, NoteBody, Scenario, Stands, StandsBehind, Task}
+use Rattle.world_law.proofs.steps_lemmas.Words.{World, [], ap, arith, before_behind, behind, cause_of, changed_at, doing}
+use Rattle.world_law.proofs.steps_lemmas.Words.{earlier_still, emitting, happenings, in_right, inl, inr, is_at_source, length}
+use Rattle.world_law.proofs.steps_lemmas.Words.{members_in, moment_of, one_shown, place_of, points_same, quiet_rest, rank}
+use Rattle.world_law.proofs.steps_lemmas.Words.{record_of, refl, subst, sym, task_place, time_of, true, ℕ}
 use Rattle.world_law.specs.{device.Told.change_in, steps.Acting.{rank_of_act, task_of}}
 use Rattle.world_law.proofs.steps_lemmas.acting.{Dispatches.{TellsRow, all_row}, First.{act_rest, act_stands}, GoesOn.earlier_put, Kept.{bare_act, kept_on}}
 use Rattle.world_law.proofs.steps_lemmas.acting.{Sending.{HasSentIt, as_put, turned_then}, Stage.{IsActOn, IsActRecordAt, StageOf, lawful_then, one_goes_by}}
-use Rattle.world_law.proofs.steps_lemmas.Words.{IsDeedOf, Option, RowId, amount, dispatching, false, option_map_or}
-use Rattle.net_plan.specs.declared.tables.Row.{Row}
+use Rattle.world_law.proofs.steps_lemmas.Words.{IsDeedOf, RowId, dispatching, false}
 use Rattle.run_law.specs.declared.judgement.Why.TheVariants as whys
 use Rattle.run_law.specs.declared.note.NoteBody.TheVariants as kinds
 use Rattle.run_law.specs.declared.steps.Act.TheVariants as acts
@@ -55,9 +54,7 @@ shown_act : {C M : Type 0} {reading : C → ℕ → ℕ} {stands : M → Network
     (x : IsOneAct reading stands s world notes old device machine after machines settled act)
     → IsShownPut s.network (happenings s.network notes) world.now x.body world.settled settled
 shown_act {s} {world} {notes} x =
-    let hs = happenings s.network notes in
-    subst (λ l. IsShownPut s.network hs world.now x.body world.settled l) (sym x.put.2)
-    (one_shown s.network hs world.now x.body x.causes x.put.1)
+    rw x.put.2 (one_shown s.network (happenings s.network notes) world.now x.body x.causes x.put.1)
 
 -- ---- all that is due at its place is to come
 
@@ -79,8 +76,8 @@ row_long : (network : Network) (device : DeviceId) (node : Node) (row : RowId) (
     → 1 ≤ length (dispatch_order network row)
 row_long network device node row cycle own =
     let three : length (dispatch_order network row) ≡ 3 =
-    ap (λ (o : Option Row). length (option_map_or (λ (r : Row). amount r.offset ∷ r.link.0 ∷ row.0 ∷ []) o [])) own.1.is.row in
-    omega (arith, three)
+    rw own.1.is.row in
+    omega arith
 
 all_of_act : {s : Scenario} (hs new : List Happening) (now : ℕ) {device : DeviceId} (node then_ : Node) (act : Act)
     (w : Happening) → IsActOf s.network device node (moment_of s device now) act then_
@@ -106,9 +103,9 @@ pub still_came : (s : Scenario) (device : DeviceId) (node then_ : Node) (changed
 still_came s device node then_ changed again now (emitting sent) adjustment same x = x
 still_came s device node then_ changed again now (doing deed) adjustment same x = (
   x.0,
-  subst (λ n. n ≤ x.0) same x.1,
+  rw same at x.1,
   x.2,
-  subst (λ (a : Units). (value_of s.network deed -ℤ a.0) ≤ℤ pos (s.reading device x.0)) (sym adjustment) x.3,
+  rw adjustment x.3,
 )
 
 -- ---- the steps
@@ -124,17 +121,14 @@ act_goes_by {C} {M} {stands} {s} {world} {notes} {old} {device} {machine} {after
     let hs = happenings s.network notes in
     let now = world.now in
     let on = x.on in
-    let room = on.room in
     let then_ = on.did.0 in
-    let r = rank_of_act act in
-    let more = act_rest s.network device act in
-    let at = now ∷ r ∷ more in
+    let at = now ∷ (rank_of_act act) ∷ (act_rest s.network device act) in
     let here = behind at in
     let p = shown_act x in
     let w = record_of s.network hs p.front now x.body in
     let new = p.front ++ w ∷ p.back in
     let st2 : StageOf stands s hs (p.front ++ p.back) now device machine on.node act =
-    subst (λ l. StageOf stands s hs l now device machine on.node act) p.parts on.st in
+    rw p.parts at on.st in
     let made = x.makes p.front p.back p.parts st2 p.none in
     let it = made.it in
     let put = as_put now w refl x.late in
@@ -147,13 +141,13 @@ act_goes_by {C} {M} {stands} {s} {world} {notes} {old} {device} {machine} {after
     in
     nothing_between at (task_place s.network now device task)
     (subst (λ q. IsBefore q (task_place s.network now device task)) (act_stands s.network now device act) far) b in
-    let turned : is_turned_on_at s device now ≡ true → HasTurnedOn s hs new here device now =
+    let turned =
     turned_then stands s hs p.front p.back now device machine on.node st2 put in
-    let same : earlier now hs ≡ earlier now (hs ++ new) = sym (earlier_still now hs new (λ z i. let t = (it.work.of_now z i).0 in omega (arith, t))) in
-    let points : points_of hs device ≡ points_of (hs ++ new) device = sym (points_same new hs device (λ z i. let t = it.work.of_now z i in
+    let same = sym (earlier_still now hs new (λ z i. let t = (it.work.of_now z i).0 in omega arith)) in
+    let points = sym (points_same new hs device (λ z i. let t = it.work.of_now z i in
     (quiet_rest s device now z.note.body (it.work.still z (in_right z hs new i) t.0), t.1))) in
     let due_of_act : (task : Task) → IsActing s hs now device task → (HasDoneTask then_ task → ⊥) → IsDueTask s device then_ now task = λ task a not.
-    act_due {js = hs ++ new} {node = then_} (record { left = it.work.left; sound = it.work.sound })
+    act_due (record { left = it.work.left; sound = it.work.sound })
     (record { taken = it.taken; past = it.work.past; lawful = law }) same points a not in
     let worked : (task : Task) → HasDoneTask then_ task
     → HadComeTo s device then_ (changed_at (hs ++ new) device now) now task ⊎ IsBefore (task_place s.network now device task) here = λ task has.
@@ -164,8 +158,8 @@ act_goes_by {C} {M} {stands} {s} {world} {notes} {old} {device} {machine} {after
         | inr gone ↦ inr (stays at (task_place s.network now device task) gone)
       ]
     ] in
-    let there : IsIn w new = in_right w p.front (w ∷ p.back) (inl refl) in
-    one_goes_by on.here on.st p (omega (arith, room)) made.so
+    let there = in_right w p.front (w ∷ p.back) (inl refl) in
+    one_goes_by on.here on.st p (omega arith) made.so
     (all_of_act hs new now on.node then_ act w on.did.1 law (λ z i. (it.work.of_now z i).0) made.told x.apart there
     (λ low. x.at_place low p.front))
     x.set

@@ -1,18 +1,18 @@
 -- A device comes to its correction point: what its record is.
 use Rattle.run_law.specs.runs.DueRecords.{IsCorrectedRecord}
-use Rattle.sync_state.{proofs.LawLemmas.one_verdict, proofs.membership_lemmas.OneSummary.one_summary, specs.Verdicts.HasVerdict}
-use Rattle.world_law.proofs.steps_lemmas.Words.{Corrected, DeviceId, Happening, Hearing, Integrating, IsActing, IsAllOfIt, IsAtRest, IsBefore, IsFirstTask}
+use Rattle.sync_state.{proofs.LawLemmas.one_verdict, proofs.membership_lemmas.OneSummary.one_summary}
+use Rattle.world_law.proofs.steps_lemmas.Words.{Corrected, DeviceId, Happening, Integrating, IsActing, IsAllOfIt, IsAtRest, IsBefore, IsFirstTask}
 use Rattle.world_law.proofs.steps_lemmas.Words.{IsIn, IsInRange, IsPending, IsSource, IsSteady, IsUnfollowed, IsWaiting, KeepsRules, List, Network, Node}
-use Rattle.world_law.proofs.steps_lemmas.Words.{None, NoneBefore, NoteBody, Option, Scenario, Summary, SyncClique, Units, Verdict, Why, ℕ, []}
-use Rattle.world_law.proofs.steps_lemmas.Words.{adjustment_after, adjustment_before, amount, ap, append-nil, arith, both_ways, cases_Bool, cases_int}
+use Rattle.world_law.proofs.steps_lemmas.Words.{None, NoneBefore, NoteBody, Scenario, Summary, SyncClique, Units, Verdict, Why, ℕ, []}
+use Rattle.world_law.proofs.steps_lemmas.Words.{amount, ap, append-nil, arith, both_ways, cases_Bool, cases_int}
 use Rattle.world_law.proofs.steps_lemmas.Words.{cases_lt, correcting, doing, earlier, emitting, eq-eqb, false, filter_map-append, heard_since, hearing_by}
 use Rattle.world_law.proofs.steps_lemmas.Words.{in_left, in_right, inl, inr, is_timed, is_turned_on_at, key, last_unfollowed, members_in, moves, ne_eqb}
-use Rattle.world_law.proofs.steps_lemmas.Words.{option_to_list, place_of, pos, rank, reading_for, record_of, refl, rows_place, standing_before, state_after}
+use Rattle.world_law.proofs.steps_lemmas.Words.{place_of, pos, rank, reading_for, record_of, refl, rows_place, standing_before, state_after}
 use Rattle.world_law.proofs.steps_lemmas.Words.{◌++◌, ◌+ℤ◌, ◌<ℤ◌, ◌∙◌, ◌∷◌, ◌≡◌, ◌≤ℤ◌, ◌≤◌, AsyncClique, Cleared, ComesTo, ComesToCorrection, Compressed}
 use Rattle.world_law.proofs.steps_lemmas.acting.Stage.{IsActRecordAt, StageAt, fresh_above}
 use Rattle.world_law.proofs.steps_lemmas.acting.Work.{IsAtWork, all_earlier, at_correction, comes, heard_by_these, heard_more, heard_put}
 use Rattle.world_law.proofs.steps_lemmas.acting.{Complete.{IsPointCause, point_cause_of}, GoesOn.{IsPutAs, none_heard}, Kept.NoneDispatched}
-use Rattle.world_law.proofs.{putting.Bearing.placed_back, rows.Dispatching.no_row_at_correction, steps_lemmas.Words.{subst, sym, time_of, true}}
+use Rattle.world_law.proofs.{putting.Bearing.placed_back, rows.Dispatching.no_row_at_correction, steps_lemmas.Words.{sym, time_of, true}}
 use Rattle.run_law.specs.declared.judgement.Why.TheVariants as whys
 use Rattle.run_law.specs.declared.note.NoteBody.TheVariants as kinds
 
@@ -35,8 +35,8 @@ HasOutcome new now device AsyncClique = (z : Happening) × IsIn z new × (place_
 HasOutcome new now device Cleared = Unit {0}
 
 pub late_none : (s : Scenario) (device : DeviceId) (h : Happening) (body : NoteBody) → 5 ≤ rank body → hearing_by s.network device h body ≡ None
-late_none s device h (kinds.Permanent other link cause point verdict) late = absurd (omega (arith, late))
-late_none s device h (kinds.Compressed other opened at cycle members verdict) late = absurd (omega (arith, late))
+late_none s device h (kinds.Permanent other link cause point verdict) late = absurd (omega arith)
+late_none s device h (kinds.Compressed other opened at cycle members verdict) late = absurd (omega arith)
 late_none s device h other late = refl
 
 -- a list of records by which the same is heard
@@ -50,9 +50,8 @@ one_point : {s : Scenario} {hs coming front : List Happening} {now : ℕ} {devic
     → ComesToCorrection s (hs ++ front) device now number other → verdict ≡ other
 one_point {s} {hs} {coming} {front} {now} {device} {node} {cycle} {verdict} {other} w p h k =
     let mine = comes s hs coming front now device node cycle w h.of_now h.heard p.pending p.due p.to in
-    let same = one_summary _ mine.summary k.summary mine.heard k.heard in
     one_verdict (standing_before s (hs ++ front) device now) mine.summary verdict other mine.comes
-    (subst (λ u. HasVerdict (standing_before s (hs ++ front) device now) u other) (sym same) k.comes)
+    (rw (one_summary _ mine.summary k.summary mine.heard k.heard) k.comes)
 
 module _ {s : Scenario} {hs coming : List Happening} (new front : List Happening) {now : ℕ} {device : DeviceId}
     {node : Node} (cycle : ℕ) (heard : Summary) (verdict : Verdict) (y : Happening)
@@ -63,32 +62,28 @@ module _ {s : Scenario} {hs coming : List Happening} (new front : List Happening
   point_cause p out hears at (kinds.Corrected other number by adjustment) is c =
       let same = one_point w p hears c.1.corrected in
       let found : HasOutcome new now device (Corrected by) =
-      subst (λ v. HasOutcome new now device v) same out in (
+      rw same at out in (
         found.0,
         found.1,
-        found.2 ∙ sym (ap (λ b. time_of y ∷ rank b ∷ key (members_in y) b) is ∙ ap
-            (λ (n : ℕ). n ∷ 6 ∷ other.0 ∷ []) at
-            ∙ ap (λ (d : DeviceId). now ∷ 6 ∷ d.0 ∷ []) c.0),
+        found.2 ∙ sym (rw is (rw at
+            ((rw c.0)))),
       )
   point_cause p out hears at (kinds.State other state cause whys.SyncClique) is c =
       let same = one_point w p hears c.3.1 in
       let found : HasOutcome new now device SyncClique =
-      subst (λ v. HasOutcome new now device v) same out in (
+      rw same at out in (
         found.0,
         found.1,
-        found.2 ∙ sym (ap (λ b. time_of y ∷ rank b ∷ key (members_in y) b) is ∙ ap
-            (λ (n : ℕ). n ∷ 7 ∷ other.0 ∷ cause ∷ []) at
-            ∙ ap (λ (d : DeviceId). now ∷ 7 ∷ d.0 ∷ cause ∷ []) c.0 ∙ ap (λ (n : ℕ). now ∷ 7 ∷ device.0 ∷ n ∷ []) c.2),
+        found.2 ∙ sym (rw is (rw at
+            ((rw c.0 ((rw c.2)))))),
       )
   point_cause p out hears at (kinds.State other state cause whys.AsyncClique) is c =
-      let same = one_point w p hears c.3.1 in
       let found : HasOutcome new now device AsyncClique =
-      subst (λ v. HasOutcome new now device v) same out in (
+      rw (one_point w p hears c.3.1) at out in (
         found.0,
         found.1,
-        found.2 ∙ sym (ap (λ b. time_of y ∷ rank b ∷ key (members_in y) b) is ∙ ap
-            (λ (n : ℕ). n ∷ 7 ∷ other.0 ∷ cause ∷ []) at
-            ∙ ap (λ (d : DeviceId). now ∷ 7 ∷ d.0 ∷ cause ∷ []) c.0 ∙ ap (λ (n : ℕ). now ∷ 7 ∷ device.0 ∷ n ∷ []) c.2),
+        found.2 ∙ sym (rw is (rw at
+            ((rw c.0 ((rw c.2)))))),
       )
   point_cause p out hears at other is c = absurd c
 
@@ -123,18 +118,18 @@ pub all_point : {s : Scenario} {hs coming new : List Happening} {now : ℕ} {dev
 all_point {s} {hs} {new} {now} {device} {cycle} {heard} {verdict} w p g out front back y e all none due own =
     let c = point_cause_of s (hs ++ front) now device y.note.time (members_in y) y.note.body own due.cause in
     let late = late_cause s (hs ++ front) now device y.note.body c.1 in
-    let inside : (z : Happening) → IsIn z front → IsIn z new = λ z i. subst (λ l. IsIn z l) (sym e) (in_left z front back i) in
-    let behind_it : (z : Happening) → IsIn z back → IsIn z new = λ z i. subst (λ l. IsIn z l) (sym e) (in_right z front back i) in
+    let inside : (z : Happening) → IsIn z front → IsIn z new = λ z i. rw e (in_left z front back i) in
+    let behind_it : (z : Happening) → IsIn z back → IsIn z new = λ z i. rw e (in_right z front back i) in
     let also : (z : Happening) → IsIn z front → time_of z ≡ now = λ z i. g.of_now z (inside z i) in
-    let nothing : heard_by_these s device back ≡ [] = none_heard s device back (λ z i.
+    let nothing = none_heard s device back (λ z i.
     let high = no_less (time_of z) (time_of y) (rank z.note.body) (rank y.note.body) (key (members_in z) z.note.body) (key (members_in y) y.note.body)
     (g.of_now z (behind_it z i) ∙ sym c.0) (none z i) in
-    late_none s device z z.note.body (omega (arith, high, late))) in
+    late_none s device z z.note.body (omega arith)) in
     let hears = g.heard
-    ∙ ap (λ (l : List Happening). heard_since s (hs ++ l) device now) e
-    ∙ heard_more s hs device now (front ++ back) (λ z i. g.of_now z (subst (λ l. IsIn z l) (sym e) i))
-    ∙ ap (λ (l : List Hearing). heard_since s hs device now ++ l)
-    (heard_parts s device front back ∙ ap (λ (l : List Hearing). heard_by_these s device front ++ l) nothing
+    ∙ ap (λ l. heard_since s (hs ++ l) device now) e
+    ∙ heard_more s hs device now (front ++ back) (λ z i. g.of_now z (rw e i))
+    ∙ ap (λ l. heard_since s hs device now ++ l)
+    (heard_parts s device front back ∙ ap (λ l. heard_by_these s device front ++ l) nothing
     ∙ Rattle.std.proofs.lemmas.List.append-nil (heard_by_these s device front))
     ∙ sym (heard_more s hs device now front also) in
     point_cause new front cycle heard verdict y w p out (record { of_now = also; heard = hears }) c.0
@@ -145,14 +140,14 @@ pub grown_more : {s : Scenario} {hs coming : List Happening} (front back : List 
     {device : DeviceId} {v : Happening} → IsGrown s hs coming (front ++ back) now device → IsPutAs now v
     → 5 ≤ rank v.note.body → IsGrown s hs coming (front ++ v ∷ back) now device
 grown_more {s} {hs} front back {now} {device} {v} g p late =
-    let none : hearing_by s.network device v v.note.body ≡ None = late_none s device v v.note.body late in
+    let none = late_none s device v v.note.body late in
     record {
       of_now = λ z i. elim (placed_back [] front back v z i) [ inl e ↦ ap time_of e ∙ p.at | inr was ↦ g.of_now z was ];
       heard =
           g.heard
           ∙ sym (heard_put s hs front back device now v (λ z i. g.of_now z i) p.at (inl none)
-          ∙ ap (λ (o : Option Hearing). heard_since s (hs ++ (front ++ back)) device now ++ option_to_list o) none
-          ∙ Rattle.std.proofs.lemmas.List.append-nil (heard_since s (hs ++ (front ++ back)) device now));
+          ∙ (rw none
+          (Rattle.std.proofs.lemmas.List.append-nil (heard_since s (hs ++ (front ++ back)) device now))));
     }
 
 -- while the device is at work
@@ -206,21 +201,21 @@ pub heard_before : {s : Scenario} {hs : List Happening} (front back : List Happe
     → 5 ≤ rank w.note.body → NoneBefore place_of back (place_of w)
     → heard_since s (hs ++ (front ++ back)) device now ≡ heard_since s (hs ++ front) device now
 heard_before {s} {hs} front back {now} {device} w work at late none =
-    let nothing : heard_by_these s device back ≡ [] = none_heard s device back (λ z i.
+    let nothing = none_heard s device back (λ z i.
     let high = no_less (time_of z) (time_of w) (rank z.note.body) (rank w.note.body) (key (members_in z) z.note.body) (key (members_in w) w.note.body)
     ((work.of_now z (in_right z front back i)).0 ∙ sym at) (none z i) in
-    late_none s device z z.note.body (omega (arith, high, late))) in
+    late_none s device z z.note.body (omega arith)) in
     heard_more s hs device now (front ++ back) (λ z i. (work.of_now z i).0)
-    ∙ ap (λ (l : List Hearing). heard_since s hs device now ++ l)
-    (Rattle.std.proofs.lemmas.List.Elements.filter_map-append (λ h. Rattle.run_law.specs.control.Corrections.hearing_by s.network device h h.note.body) front
+    ∙ (rw (Rattle.std.proofs.lemmas.List.Elements.filter_map-append
+    (λ h. Rattle.run_law.specs.control.Corrections.hearing_by s.network device h h.note.body) front
     back
-    ∙ ap (λ (l : List Hearing). heard_by_these s device front ++ l) nothing ∙ append-nil (heard_by_these s device front))
-    ∙ sym (heard_more s hs device now front (λ z i. (work.of_now z (in_left z front back i)).0))
+    ∙ ap (λ l. heard_by_these s device front ++ l) nothing ∙ append-nil (heard_by_these s device front))
+    (sym (heard_more s hs device now front (λ z i. (work.of_now z (in_left z front back i)).0))))
 
 -- ---- what stands where its record does, is one of it
 
 state_at : (t u m d c : ℕ) (body : NoteBody) → t ∷ 7 ∷ d ∷ c ∷ [] ≡ u ∷ rank body ∷ key m body → (device : DeviceId) → d ≡ device.0 → moves device body ≡ true
-state_at t u m d c (kinds.State other state cause why) e device is = let a : d ≡ other.0 = cc in eq-eqb device.0 other.0 (sym is ∙ a)
+state_at t u m d c (kinds.State other state cause why) e device is = eq-eqb device.0 other.0 (sym is ∙ cc)
 state_at t u m d c other e device is = absurd (grind arith)
 
 -- a device that was not turned on, and is at rest, is not moved
@@ -247,13 +242,13 @@ module _ {M : Type 0} (stands : M → Network → DeviceId → Node → Type 0) 
       λ z i. (st.work.of_now z (in_left z front back i)).0 in
       let same = all_earlier s hs (front ++ back) front now (λ z i. (st.work.of_now z i).0) also in
       let six : 5 ≤ rank w.note.body = omega arith in
-      let stood : node.standing.adjustment ≡ adjustment_before s (hs ++ front) device now =
+      let stood =
       st.work.left.counted.adjustment
-      ∙ ap (λ l. adjustment_after s l device) same in
+      ∙ (rw same) in
       record {
         corrected = comes s hs (front ++ back) front now device node cycle st.work also
             (heard_before front back w st.work refl six none) p.pending p.due p.to;
-        sum = sum ∙ ap (λ (a : Units). a.0 +ℤ by.0) stood;
+        sum = sum ∙ ap (λ a. a.0 +ℤ by.0) stood;
       }
 
   -- a correction
@@ -265,23 +260,21 @@ module _ {M : Type 0} (stands : M → Network → DeviceId → Node → Type 0) 
       → IsUnfollowed s hs now (kinds.Corrected device cycle by adjustment)
       → IsActRecordAt s hs front back now device (kinds.Corrected device cycle by adjustment) (rows_place now device)
   corrected_record by adjustment st off p sum none lone =
-      let body = kinds.Corrected device cycle by adjustment in
-      let w = record_of s.network hs front now body in
+      let w = record_of s.network hs front now (kinds.Corrected device cycle by adjustment) in
       let also : (z : Happening) → IsIn z front → time_of z ≡ now =
       λ z i. (st.work.of_now z (in_left z front back i)).0 in
       let same = all_earlier s hs (front ++ back) front now (λ z i. (st.work.of_now z i).0) also in
-      let six : 5 ≤ rank w.note.body = omega arith in
       let c = comes s hs (front ++ back) front now device node cycle st.work also
-      (heard_before front back w st.work refl six none) p.pending p.due p.to in
-      let stood : node.standing.adjustment ≡ adjustment_before s (hs ++ front) device now =
+      (heard_before front back w st.work refl (omega arith) none) p.pending p.due p.to in
+      let stood =
       st.work.left.counted.adjustment
-      ∙ ap (λ l. adjustment_after s l device) same in
+      ∙ (rw same) in
       record {
         own = λ m. refl;
         here = IsSource.acting now device (doing (correcting cycle))
             (IsActing.corrects cycle (at_correction s hs (front ++ back) front now device node cycle st.work also
             p.pending p.due));
-        caused = record { corrected = c; sum = sum ∙ ap (λ (a : Units). a.0 +ℤ by.0) stood };
+        caused = record { corrected = c; sum = sum ∙ ap (λ a. a.0 +ℤ by.0) stood };
         fresh = fresh_above stands s hs front back now device machine node st w (omega arith);
         apart = λ other not. (ne_eqb other.0 device.0 not, λ at. refl);
         lone = lone;
@@ -327,9 +320,8 @@ module _ {M : Type 0} (stands : M → Network → DeviceId → Node → Type 0) 
       let w = record_of s.network hs front now body in
       let also : (z : Happening) → IsIn z front → time_of z ≡ now =
       λ z i. (st.work.of_now z (in_left z front back i)).0 in
-      let six : 5 ≤ rank w.note.body = omega arith in
       let c = comes s hs (front ++ back) front now device node cycle st.work also
-      (heard_before front back w st.work refl six none) p.pending p.due p.to in
+      (heard_before front back w st.work refl (omega arith) none) p.pending p.due p.to in
       record {
         own = λ m. (cycle, refl);
         here = IsSource.acting now device (doing (correcting cycle))

@@ -3,8 +3,8 @@ use Rattle.world_law.proofs.steps_lemmas.Words.{second}
 use Rattle.world_law.proofs.steps_lemmas.Words.{◌∙◌, inl, inr, sym}
 use Rattle.world_law.proofs.steps_lemmas.Words.{◌++◌, ◌∷◌, ◌≡◌, ArePutIn, DeviceId, Happening, IsSet}
 use Rattle.world_law.proofs.steps_lemmas.Words.{List, Network, Node, Note, Pcf, Scenario, Stands, World, [], ap, arith}
-use Rattle.world_law.proofs.steps_lemmas.{Words.{happenings, moment_of, sending, subst, ℕ}, acting.Sending.{has_sent_it, sending_record}}
-use Rattle.world_law.proofs.steps_lemmas.acting.{OneAct.IsOneAct, Sending.did_deed, Stage.{IsActRecordAt, StageAt, IsActOn}}
+use Rattle.world_law.proofs.steps_lemmas.{Words.{happenings, moment_of, sending, ℕ}, acting.Sending.{has_sent_it, sending_record}}
+use Rattle.world_law.proofs.steps_lemmas.acting.{OneAct.IsOneAct, Sending.did_deed, Stage.{StageAt, IsActOn}}
 use Rattle.run_law.specs.declared.note.NoteBody.TheVariants as kinds
 use Rattle.run_law.specs.declared.steps.Act.TheVariants as acts
 
@@ -20,32 +20,31 @@ sends_one {reading} {stands} {s} {world} {notes} {old} {device} {machine} {after
     let hs = happenings s.network notes in
     let now = world.now in
     let node = on.node in
-    let st = on.st in
     let act = on.did in
     let cycle = act.1.0 in
     let first = act.1.1 in
-    let same_cycle : frame.cycle ≡ cycle = ap (λ (f : Pcf). f.cycle) act.1.2 in
+    let same_cycle : frame.cycle ≡ cycle = rw act.1.2 in
     record {
       on = on;
       apart = λ x. x;
-      adjustment = ap (λ (n : Node). n.standing.adjustment) act.1.3;
+      adjustment = rw act.1.3;
       did = λ task has. elim (did_deed s now device node act.0 (moment_of s device now) (sending cycle) task act.1.3 has) [
         | inl old ↦ inl old
-        | inr e ↦ inr (e ∙ ap (λ (n : ℕ). now ∷ 5 ∷ device.0 ∷ n ∷ []) (sym same_cycle))
+        | inr e ↦ inr (e ∙ (rw (sym same_cycle)))
       ];
-      at_place = λ low front. ap (λ (n : ℕ). now ∷ 5 ∷ device.0 ∷ n ∷ []) (sym same_cycle);
+      at_place = λ low front. rw (sym same_cycle);
       body = kinds.Sent device cycle;
       late = omega arith;
       causes = omega arith;
       set = set;
-      put = subst (λ (n : ℕ). ArePutIn s.network hs now (kinds.Sent device n ∷ []) world.settled settled) same_cycle put;
+      put = rw same_cycle at put;
       makes = λ front back parts st2 none.
           let st3 : StageAt stands s hs (front ++ back) now device machine node 5 (device.0 ∷ cycle ∷ []) =
-          subst (λ (n : ℕ). StageAt stands s hs (front ++ back) now device machine node 5 (device.0 ∷ n ∷ [])) same_cycle st2 in
+          rw same_cycle at st2 in
           record {
-            so = subst (λ (n : ℕ). IsActRecordAt s hs front back now device (kinds.Sent device cycle) (now ∷ 5 ∷ device.0 ∷ n ∷ [])) (sym same_cycle)
-                (sending_record stands s hs front back now device machine node cycle st3 first.pending first.due);
-            told = λ order e. (let five : 5 ≡ 6 = ap second e in absurd (omega (arith, five)));
+            so = rw same_cycle (sending_record stands s hs front back now device machine node cycle st3 first.pending
+                first.due);
+            told = λ order e. (let five : 5 ≡ 6 = ap second e in absurd (omega arith));
             it = has_sent_it front back after act.0 frame cycle st3 first act.1 act.1.3 act.2;
           };
     }

@@ -1,13 +1,12 @@
 -- A device sends the frame of a cycle.
-use Rattle.std.proofs.Common.{Contains}
 use Rattle.world_law.proofs.steps_lemmas.Words.{turned_by, behind, ◌⊎◌, ClockTask, HasDoneTask, Moment, Task, emitting, task_place}
 use Rattle.world_law.proofs.steps_lemmas.Words.{IsSource}
 use Rattle.world_law.proofs.steps_lemmas.Words.{◌++◌, ◌∙◌, ◌∷◌, ◌≡◌, ◌≤ℤ◌, ◌≤◌, Contains-push_cases, DeviceId, Happening}
 use Rattle.world_law.proofs.steps_lemmas.Words.{HasCleared, HasTurnedOn, IsActOf, IsActing, IsFirstTask, IsNoTaking, IsPending}
-use Rattle.world_law.proofs.steps_lemmas.Words.{IsReadyAt, List, Network, Node, Pcf, Scenario, [], acting, ap, arith}
+use Rattle.world_law.proofs.steps_lemmas.Words.{List, Network, Node, Pcf, Scenario, [], acting, arith}
 use Rattle.world_law.proofs.steps_lemmas.Words.{called, correcting, doing, frames_taken, in_left}
 use Rattle.world_law.proofs.steps_lemmas.Words.{inl, inr, is_turned_on_at, last_unfollowed, moment_of}
-use Rattle.world_law.proofs.steps_lemmas.Words.{pos, rank, reading_for, record_of, refl, sending, state_after, subst}
+use Rattle.world_law.proofs.steps_lemmas.Words.{pos, rank, reading_for, record_of, refl, sending, subst}
 use Rattle.world_law.proofs.steps_lemmas.{Words.{sym, time_of, true, turned_aside, with_done, ℕ}, acting.GoesOn.{IsPutAs, earlier_put, sends_on}}
 use Rattle.world_law.proofs.steps_lemmas.acting.{Kept.{frames_put, may_act_now, ready_after}, Stage.{IsActRecordAt, StageAt, fresh_above}, Work.{IsAtWork, sends}}
 use Rattle.run_law.specs.declared.note.NoteBody.TheVariants as kinds
@@ -33,7 +32,7 @@ module _ {M : Type 0} (stands : M → Network → DeviceId → Node → Type 0) 
       → is_turned_on_at s device now ≡ true → HasTurnedOn s hs (front ++ w ∷ back) (behind (now ∷ r ∷ more)) device now
   turned_then {w} st p on =
       turned_aside s hs front back w device (turned_by st.moving (st.turned on))
-      (ap (λ l. state_after s l device) (earlier_put s hs front back now device node st.work p))
+      (rw (earlier_put s hs front back now device node st.work p))
 
   -- ---- it sends
 
@@ -76,35 +75,33 @@ pub has_sent_it : {M : Type 0} {stands : M → Network → DeviceId → Node →
 has_sent_it {stands} {s} {hs} front back {now} {device} {machine} then_ {node} after frame cycle st
     first act is stood =
     let w = record_of s.network hs front now (kinds.Sent device cycle) in
-    let new = front ++ w ∷ back in
     let moment = moment_of s device now in
-    let p = as_put now w refl (omega arith) in
     let may = may_act_now s device node now st.work.ready st.steady st.limit in
     let ready = ready_after s after (acts.Send frame) st.work.ready st.steady st.precise st.wide may act
-    (ap (λ (n : Node). n.last) is) in
+    (rw is) in
     let there = called moment acting (with_done node (sending cycle)) in
-    let work : IsAtWork s hs new now device there = sends_on front back cycle moment st.work p refl first.due
-    (subst (λ n. IsReadyAt (s.reading device) s.network device n now) is ready) in
+    let work = sends_on front back cycle moment st.work (as_put now w refl (omega arith)) refl first.due
+    (rw is at ready) in
     let cleared : HasCleared there = λ n has. elim (Contains-push_cases node.done (sending cycle) (correcting n) has) [
       | inl old ↦ st.cleared n old
       | inr e ↦ absurd cc
     ] in
     record {
       is = stood;
-      work = subst (λ n. IsAtWork s hs new now device n) (sym is) work;
+      work = rw is work;
       cleared = subst HasCleared (sym is) cleared;
-      taken = ap (λ (n : Node). n.taken) is ∙ taken_then stands s hs front back now device machine node w
-          st refl (λ at. refl);
-      phase = ap (λ (n : Node). n.phase) is;
+      taken = rw is (taken_then stands s hs front back now device machine node w
+          st refl (λ at. refl));
+      phase = rw is;
     }
 
 -- it has done what it had done, and that deed
 pub did_deed : (s : Scenario) (now : ℕ) (device : DeviceId) (node new : Node) (moment : Moment) (deed : ClockTask) (task : Task)
     → new ≡ called moment acting (with_done node deed) → HasDoneTask new task
     → HasDoneTask node task ⊎ (task_place s.network now device task ≡ task_place s.network now device (doing deed))
-did_deed s now device node new moment deed (emitting sent) is has = inl (subst (λ (n : Node). Contains n.emitted sent) is has)
+did_deed s now device node new moment deed (emitting sent) is has = inl (rw is at has)
 did_deed s now device node new moment deed (doing other) is has =
-    elim (Contains-push_cases node.done deed other (subst (λ (n : Node). Contains n.done other) is has)) [
+    elim (Contains-push_cases node.done deed other (rw is at has)) [
       | inl old ↦ inl old
-      | inr e ↦ inr (ap (λ (d : ClockTask). task_place s.network now device (doing d)) (sym e))
+      | inr e ↦ inr (rw (sym e))
     ]

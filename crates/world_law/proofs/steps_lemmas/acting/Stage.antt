@@ -1,5 +1,5 @@
 -- A device acts at the source that comes first: how all stands then, and how the world stands with its record put in.
-use Rattle.world_law.proofs.steps_lemmas.Words.{◌++◌, ◌+◌, ◌<◌, ◌^◌, ◌∙◌, ◌∷◌, ◌≡◌, ◌≤ℤ◌, ◌≤◌, AllBefore, AreOfNetwork, ComesFirst, DeviceId}
+use Rattle.world_law.proofs.steps_lemmas.Words.{◌++◌, ◌+◌, ◌<◌, ◌^◌, ◌∙◌, ◌∷◌, ◌≡◌, ◌≤ℤ◌, ◌≤◌, AllBefore, ComesFirst, DeviceId}
 use Rattle.world_law.proofs.steps_lemmas.Words.{Happening, HasCleared, HasTaskBy, HasTurnedOn, IsAllOfIt, IsBefore, IsCaused, IsDue, IsDueNow}
 use Rattle.world_law.proofs.steps_lemmas.Words.{IsFounded, IsHeld, IsIn, IsKept, IsLawful, IsMoving, IsNoTaking, IsOne, IsOwnSource, IsSet, IsShownPut}
 use Rattle.world_law.proofs.steps_lemmas.Words.{IsSource, IsSteady, IsAtRest, Integrating, IsUnfollowed, List, Network, Node, NoneBefore, Note, NoteBody, Scenario, Some, Stands}
@@ -80,18 +80,18 @@ pub stage_of : {C M : Type 0} (reading : C → ℕ → ℕ) (stands : M → Netw
 stage_of {C} {M} reading stands s world notes old device machine after act lt first apart there due acted =
     let hs = happenings s.network notes in
     let m = old.devices device lt in
-    let same : m.0 ≡ machine = same_Some m.0 machine (sym m.1 ∙ there) in
-    held (subst (λ x. IsHeld stands s hs world.settled old.frontier world.now device x) same m.2)
+    let same = same_Some m.0 machine (sym m.1 ∙ there) in
+    held (rw same at m.2)
   where
     late : (z : Happening) → IsIn z world.settled → 4 ≤ rank z.note.body
-    late z i = let more = apart z i in let high = late_rank act in omega (arith, more, high)
+    late z i = let more = apart z i in let high = late_rank act in omega arith
 
     upto : (h : Happening) → IsIn h (happenings s.network notes ++ world.settled) → time_of h ≤ world.now
     upto h i =
         let past = are_past old in
         elim (in_parts h (happenings s.network notes) world.settled i) [
           | inl one ↦ past.past h one
-          | inr two ↦ let at = old.are.of_now h two in omega (arith, at)
+          | inr two ↦ let at = old.are.of_now h two in omega arith
         ]
 
     held : IsHeld stands s (happenings s.network notes) world.settled old.frontier world.now device machine
@@ -101,7 +101,7 @@ stage_of {C} {M} reading stands s world notes old device machine after act lt fi
     held (inl k) =
         let hs = happenings s.network notes in
         let now = world.now in
-        let task : HasTaskBy s device k.node now = due k.node k.is in
+        let task = due k.node k.is in
         let past = are_past old in
         let up = up_now stands s hs world.settled old.frontier now device machine k old.not_later task in
         let may = may_act_now s device k.node now k.ready (old.steady device) old.limit in
@@ -114,8 +114,8 @@ stage_of {C} {M} reading stands s world notes old device machine after act lt fi
         let zero = kept_from_zero stands s hs world.settled old.frontier now device machine k law in
         let waits : IsBefore at old.frontier → ⊥ = λ b.
         acts_wait k (task_of act) law old.not_later old.are.of_now upto late first_task.pending
-        first_task.due (subst (λ q. IsBefore q old.frontier) (sym place) b) in
-        let next = act_next {device = device} {machine = machine} act first apart (record {
+        first_task.due (rw place b) in
+        let next = act_next act first apart (record {
           kept = k;
           up = up.0;
           first = first_task;
@@ -159,8 +159,7 @@ stage_of {C} {M} reading stands s world notes old device machine after act lt fi
             worked = λ other has. elim (before_or_not (task_place s.network now device other) old.frontier) [
               | inl gone ↦ inr (up_on old (rank_of_act act) (act_rest s.network device act) next
                   (task_place s.network now device other) gone)
-              | inr not ↦ inl (subst (λ n. HadComeTo s device k.node (changed_at (hs ++ world.settled) device n) now other) up.0
-                  (came_sooner now k.worked other has not))
+              | inr not ↦ inl (rw up.0 at (came_sooner now k.worked other has not))
             ];
             zero = zero;
             calm = record {
@@ -172,7 +171,7 @@ stage_of {C} {M} reading stands s world notes old device machine after act lt fi
             steady = old.steady device;
             precise = old.precise;
             lawful = law;
-            wide = omega (arith, ints, whole, ends);
+            wide = omega (arith, ints);
             limit = old.limit;
           },
         )
@@ -227,7 +226,7 @@ module _ {M : Type 0} (stands : M → Network → DeviceId → Node → Type 0) 
   fresh_above st w le y i e =
       let high = st.above y (in_right y front back i) in
       let same : rank w.note.body ≡ rank y.note.body = ap second e in
-      omega (arith, high, same, le)
+      omega arith
 
   -- nothing to come rests on what the device hears
   pub nothing_heard : {r : ℕ} {more : List ℕ} → StageAt stands s hs
@@ -235,9 +234,7 @@ module _ {M : Type 0} (stands : M → Network → DeviceId → Node → Type 0) 
       → hears device y.note.body ≡ true → ⊥
   nothing_heard st y i e =
       let there = in_right y front back i in
-      let high = st.above y there in
-      let late = st.late in
-      nothing_aside s device now y.note.body (omega (arith, high, late))
+      nothing_aside s device now y.note.body (omega arith)
       (st.work.still y (in_right y hs (front ++ back) there) (st.work.of_now y there).0) e
 
   pub one_caused : {body : NoteBody} {r : ℕ} {more : List ℕ} → StageAt stands s hs
@@ -260,8 +257,8 @@ module _ {M : Type 0} (stands : M → Network → DeviceId → Node → Type 0) 
     mine = own (members_in (record_of s.network hs front now body));
     here = here;
     aside = λ x i other same yes_it.
-        let e : other ≡ device = same_device other device (st.own other (doing (correcting 0)) (sym same)) in
-        nothing_heard st x i (subst (λ d. hears d x.note.body ≡ true) e yes_it);
+        let e = same_device other device (st.own other (doing (correcting 0)) (sym same)) in
+        nothing_heard st x i (rw e at yes_it);
   }
 
   one_act : {body : NoteBody} {r : ℕ} {more : List ℕ} → StageAt stands s hs
@@ -281,8 +278,7 @@ module _ {M : Type 0} (stands : M → Network → DeviceId → Node → Type 0) 
       → IsLawful s (hs ++ (front ++ record_of s.network hs front now body ∷ back)) device
   lawful_then {body} {r} {more} st before none a =
       let at = now ∷ r ∷ more in
-      let one = one_act st before none a in
-      let well = one_well one a.lone in
+      let well = one_well (one_act st before none a) a.lone in
       record {
         range = st.lawful.range;
         rules = st.lawful.rules;
@@ -296,7 +292,7 @@ module _ {M : Type 0} (stands : M → Network → DeviceId → Node → Type 0) 
 pub no_row_of : (s : Scenario) (device other : DeviceId) (body : NoteBody) → device.0 < length s.network.device
     → ((e : DeviceId) → (e.0 ≡ device.0 → ⊥) → (bears_on e body ≡ false) × IsNoTaking e body)
     → length s.network.device ≤ other.0 → moves other body ≡ false
-no_row_of s device other body lt apart le = moves_no_other other body (apart other (λ e. omega (arith, e, lt, le))).0
+no_row_of s device other body lt apart le = moves_no_other other body (apart other (λ e. omega arith)).0
 
 pub one_goes_by : {C M : Type 0} {reading : C → ℕ → ℕ} {stands : M → Network → DeviceId → Node → Type 0}
     {s : Scenario} {world : World C M} {notes : List Note} {device : DeviceId} {machine after : M} {node : Node}
@@ -319,20 +315,14 @@ one_goes_by {C} {M} {reading} {stands} {s} {world} {notes} {device} {machine} {a
     let front = p.front in
     let back = p.back in
     let w = record_of s.network hs front now body in
-    let here = now ∷ r ∷ more in
-    let st2 : StageAt stands s hs (front ++ back) now device machine node r more =
-    subst (λ l. StageAt stands s hs l now device machine node r more) p.parts st in
-    let one = one_act stands s hs front back now device machine node st2 p.before p.none a in
+    let one = one_act stands s hs front back now device machine node (rw p.parts at st) p.before p.none a in
     let long = put_length front back w in
     let same_long : length world.settled ≡ length (front ++ back) = ap length p.parts in
-    subst (λ (l : List Happening). StandsBehind reading stands s
-    (record world { early = false; machines = machines; settled = l }) notes here)
-    (sym p.shows)
-    (acts_on c st.late st.low (omega (arith, long, same_long, room)) (one_by one a.lone all)
+    rw p.shows (acts_on c st.late st.low (omega arith) (one_by one a.lone all)
     (known_aside hs front back w (λ other le. no_row_of s device other body st.of_it a.apart le)
-    (subst (λ (l : List Happening). AreOfNetwork s (hs ++ l)) p.parts c.old.known))
+    (rw p.parts at c.old.known))
     (devices_then c device (λ other not task same. not (st.own other task same)) set (inl kept)
     (λ other m not held.
     let x = a.apart other not in
     held_aside s hs front back w other x.0 refl (frames_aside s hs front back w other x.0 x.1)
-    (subst (λ l. IsHeld stands s hs l (behind here) now other m) p.parts held))))
+    (rw p.parts at held))))

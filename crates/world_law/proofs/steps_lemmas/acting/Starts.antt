@@ -1,9 +1,9 @@
 -- A device that is kept and has something due at the present instant is at work.
 use Rattle.world_law.proofs.steps_lemmas.Words.{◌++◌, ◌+◌, ◌∙◌, ◌∷◌, ◌≡◌, ◌≤ℤ◌, ◌≤◌, DeviceId, Happening, HasDoneFrom}
-use Rattle.world_law.proofs.steps_lemmas.Words.{HasTaskBy, IsActing, IsBefore, IsIn, IsKept, IsLawful, IsLeft, IsPending, List, Network}
+use Rattle.world_law.proofs.steps_lemmas.Words.{HasTaskBy, IsActing, IsBefore, IsIn, IsKept, IsLawful, IsPending, List, Network}
 use Rattle.world_law.proofs.steps_lemmas.Words.{Node, None, RowId, Scenario, Task, [], ap, append-nil, arith, changed_at}
 use Rattle.world_law.proofs.steps_lemmas.Words.{changes_adjustment, correcting, dispatches_same, dispatching, doing, earlier, earlier_still, emitting, filter}
-use Rattle.world_law.proofs.steps_lemmas.Words.{frames_taken, inl, inr, pos, rank, reading_for, refl, sending, subst, sym}
+use Rattle.world_law.proofs.steps_lemmas.Words.{frames_taken, inl, inr, pos, rank, reading_for, refl, sending, sym}
 use Rattle.world_law.proofs.steps_lemmas.Words.{HasDoneTask, task_place, time_of, ℕ}
 use Rattle.{run_law.proofs.law.FirstPlaces.in_filter, world_law.proofs.runs.Agreement.{in_earlier, last_within}}
 use Rattle.world_law.proofs.devices.Working.{done_by, sent_by}
@@ -13,7 +13,7 @@ use Rattle.world_law.proofs.{rows.Dispatching.dispatches_so, steps_lemmas.acting
 pub changed_soon : (hs : List Happening) (device : DeviceId) (now : ℕ) → changed_at hs device (now + 1) ≤ now
 changed_soon hs device now =
     last_within None (filter (λ h. changes_adjustment device h.note.body) (earlier (now + 1) hs)) now tt
-    (λ h i. let lt = in_earlier (now + 1) hs h (in_filter _ (earlier (now + 1) hs) h i) in omega (arith, lt))
+    (λ h i. let lt = in_earlier (now + 1) hs h (in_filter _ (earlier (now + 1) hs) h i) in omega arith)
 
 module _ {M : Type 0} (stands : M → Network → DeviceId → Node → Type 0) (s : Scenario) (hs coming : List Happening)
     (frontier : List ℕ) (now : ℕ) (device : DeviceId) (machine : M) where
@@ -25,12 +25,9 @@ module _ {M : Type 0} (stands : M → Network → DeviceId → Node → Type 0) 
   up_now k later due = elim k.acted [
     | inl yet ↦ yet
     | inr over ↦
-        let changed = changed_at (hs ++ coming) device k.up in
         let le : now + 1 ≤ k.up = omega (arith, over.0) in
         absurd (not_over (hs ++ coming) now
-        (subst (λ n. HasDoneFrom s.network (s.reading device) device k.node
-        (changed_at (hs ++ coming) device n) (now + 1) (now + 1)) over.0
-        (done_by now k.worked later (now + 1) le)) (sent_by now k.worked later (now + 1) le)
+        (rw over.0 at (done_by now k.worked later (now + 1) le)) (sent_by now k.worked later (now + 1) le)
         (changed_soon (hs ++ coming) device now) due)
   ]
 
@@ -43,15 +40,12 @@ module _ {M : Type 0} (stands : M → Network → DeviceId → Node → Type 0) 
       → ((z : Happening) → IsIn z coming → 4 ≤ rank z.note.body) → k.up ≡ now → IsAtWork s hs coming now device k.node
   at_work k later of past late up =
       let js = hs ++ coming in
-      let changed = changed_at js device k.up in
-      let le : now ≤ k.up = omega (arith, up) in
+      let le : now ≤ k.up = omega arith in
       let done : HasDoneFrom s.network (s.reading device) device k.node (changed_at js device now) now (now + 1) =
-      subst (λ n. HasDoneFrom s.network (s.reading device) device k.node (changed_at js device n) now
-      (now + 1)) up
-      (done_by now k.worked later now le) in
+      rw up at (done_by now k.worked later now le) in
       let sent = sent_by now k.worked later now le in
       record {
-        left = subst (λ n. IsLeft s js device n k.node) up k.left;
+        left = rw up at k.left;
         done = done;
         sent = sent;
         ready = k.ready;
@@ -69,24 +63,20 @@ pub task_acts : {s : Scenario} {hs coming : List Happening} {now : ℕ} {device 
     → IsAtWork s hs coming now device node → IsPending s.network device node task
     → reading_for s.network node task ≤ℤ pos (s.reading device now) → IsActing s hs now device task
 task_acts {s} {hs} {coming} {now} {device} {node} (emitting c) law taken w p due =
-    subst (λ l. IsActing s l now device (emitting c)) (append-nil hs)
-    (IsActing.emits c (own_judgement s.network device node c) (emits [] coming c w refl p due))
+    rw (append-nil hs) at (IsActing.emits c (own_judgement s.network device node c) (emits [] coming c w refl p due))
 task_acts {s} {hs} {coming} {now} {device} {node} (doing (sending cycle)) law taken w p due =
-    subst (λ l. IsActing s l now device (doing (sending cycle))) (append-nil hs)
-    (IsActing.sends cycle (sends s hs coming [] now device node cycle w (λ z i. absurd i) p due))
+    rw (append-nil hs) at (IsActing.sends cycle (sends s hs coming [] now device node cycle w (λ z i. absurd i) p due))
 task_acts {s} {hs} {coming} {now} {device} {node} (doing (correcting cycle)) law taken w p due =
-    subst (λ l. IsActing s l now device (doing (correcting cycle))) (append-nil hs)
-    (IsActing.corrects cycle (at_correction s hs coming [] now device node cycle w (λ z i. absurd i) p due))
+    rw (append-nil hs) at (IsActing.corrects cycle (at_correction s hs coming [] now device node cycle w
+    (λ z i. absurd i) p due))
 task_acts {s} {hs} {coming} {now} {device} (doing (dispatching row cycle)) law taken w p due =
     let frame = p.1.own.1 in
     let d = dispatches_so law w.past taken (record { synchronised = sym w.left.state ∙ p.1.own.0; correct = w.sound })
     frame (reaches w p.1 due) in
     let e = dispatches_same s (hs ++ coming) hs now device frame.entry.row.link d.0 frame.entry.row.vl cycle
-    (earlier_still now hs coming (λ z i. let at = (w.of_now z i).0 in omega (arith, at))) d.2.0 in
-    let of_row : RowId = record { 0 = e.0.place } in
-    subst (λ (r : RowId). IsActing s hs now device (doing (dispatching r cycle)))
-    (ap (λ (n : ℕ). let r : RowId = record { 0 = n } in r) (e.1 ∙ d.2.1))
-    (IsActing.dispatches frame.entry.row.link d.0 frame.entry.row.vl cycle e.0)
+    (earlier_still now hs coming (λ z i. omega arith)) d.2.0 in
+    rw (ap (λ (n : ℕ). let r : RowId = record { 0 = n } in r) (e.1 ∙ d.2.1)) at (IsActing.dispatches
+    frame.entry.row.link d.0 frame.entry.row.vl cycle e.0)
 
 -- what is done is not to be done
 pub undone_task : (network : Network) (device : DeviceId) (node : Node) (task : Task) → IsPending network device node task → HasDoneTask node task → ⊥

@@ -1,10 +1,10 @@
 -- A device that has something due at the present instant: how it stands before it acts, and what is due then.
 use Rattle.run_law.specs.timed.Dispatching.{Sends}
-use Rattle.sync_state.specs.{Standing.next_point, Verdicts.HasVerdict, membership.Summary.Summarizes}
+use Rattle.sync_state.specs.{membership.Summary.Summarizes}
 use Rattle.tte_units.proofs.general_lemmas.Bools.{kept_flag}
 use Rattle.world_law.proofs.steps_lemmas.Words.{ComesToCorrection, Compressed, DeviceId, Emits, Happening, HasDoneFrom, HasSentFrom, HasTaskBy, Hearing}
-use Rattle.world_law.proofs.steps_lemmas.Words.{Integrating, IsAtRest, IsIn, IsLeft, IsPending, IsReadyAt, IsUndone, Joining, Judgement, List, Network}
-use Rattle.world_law.proofs.steps_lemmas.Words.{Node, None, Option, Reaches, Scenario, Some, Summary, Units, Verdict, ℕ, [], adjustment_after}
+use Rattle.world_law.proofs.steps_lemmas.Words.{Integrating, IsAtRest, IsIn, IsLeft, IsPending, IsReadyAt, IsUndone, Judgement, List, Network}
+use Rattle.world_law.proofs.steps_lemmas.Words.{Node, None, Option, Reaches, Scenario, Some, Summary, Verdict, ℕ, [], adjustment_after}
 use Rattle.world_law.proofs.steps_lemmas.Words.{adjustment_at_hearing, adjustment_before, and_right, ap, append-nil, append_assoc, arith, behind_no}
 use Rattle.world_law.proofs.steps_lemmas.Words.{by_last, cases_lt, changed_at, changed_before, changes_adjustment, cleared_in, cons_option, correcting}
 use Rattle.world_law.proofs.steps_lemmas.Words.{doing, earlier, earlier_still, emitting, false, filter, filter_map, filter_map-append, filter_yes}
@@ -13,8 +13,8 @@ use Rattle.world_law.proofs.steps_lemmas.Words.{integration_cycle, ints, is_brok
 use Rattle.world_law.proofs.steps_lemmas.Words.{lt-ltb, nat_lt, never_both, next_in, not, observation_window, option_to_list, or_left, or_none, plan_of}
 use Rattle.world_law.proofs.steps_lemmas.Words.{point_number, points_of, points_same, pos, quiet_rest, rank, reaches_back, reading_for, recorded_cycle}
 use Rattle.world_law.proofs.steps_lemmas.Words.{refl, same_before, same_kept, sending, since_at, state_after, state_at_hearing, state_before, subst, sym}
-use Rattle.world_law.proofs.steps_lemmas.Words.{◌&&◌, ◌++◌, ◌+◌, ◌-ℤ◌, ◌<ℤ◌, ◌||◌, ◌∙◌, ◌∷◌, ◌≡◌, ◌≤ℤ◌, ◌≤◌, ◌⊎◌, AreClusters, Bool, ClockTask, ComesTo}
-use Rattle.world_law.proofs.{acts.Dues.same_standing, devices.TurnedOn.{IsQuiet, quiet_joins}, runs.Firsts.standing_in}
+use Rattle.world_law.proofs.steps_lemmas.Words.{◌&&◌, ◌++◌, ◌+◌, ◌||◌, ◌∙◌, ◌∷◌, ◌≡◌, ◌≤ℤ◌, ◌≤◌, ◌⊎◌, Bool, ClockTask, ComesTo}
+use Rattle.world_law.proofs.{acts.Dues.same_standing, devices.TurnedOn.{IsQuiet, quiet_joins}}
 use Rattle.world_law.{proofs.steps_lemmas.Words.{time_of, true, up_back, value_of}, specs.source.Sources.IsAtCorrection}
 
 -- Records of the present instant that do not move a device leave it as it was before the instant, but for what it has heard.
@@ -31,20 +31,15 @@ maps_on f xs x = filter_map-append f xs (x ∷ [])
 one_heard : (s : Scenario) (hs : List Happening) (device : DeviceId) (t : ℕ) (h : Happening) → time_of h ≡ t
     → heard_since s (hs ++ h ∷ []) device t ≡ heard_since s hs device t ++ heard_by_these s device (h ∷ [])
 one_heard s hs device t h at =
-    let le : t ≤ time_of h = omega (arith, at) in
+    let le : t ≤ time_of h = omega arith in
     let w = earlier t hs in
-    let late : (nat_lt (time_of h) t && changes_adjustment device h.note.body) ≡ false = ap (λ (b : Bool). b && changes_adjustment device h.note.body)
-    (le-ltb (time_of h) t le) in
-    let kept : (not (cleared_in s device w t) || cleared_in s device w (time_of h)) ≡ true = ap (λ n. not (cleared_in s device w t)
-    || cleared_in s device w n) at ∙ kept_flag (cleared_in s device w t) in
+    let late : (nat_lt (time_of h) t && changes_adjustment device h.note.body) ≡ false = rw (le-ltb (time_of h) t le) in
     let k = λ (g : Happening). not (cleared_in s device w t) || cleared_in s device w (time_of g) in
     let f = λ (g : Happening). hearing_by s.network device g g.note.body in
-    ap (λ (v : List Happening). filter_map f
-    (filter (λ g. not (cleared_in s device v t) || cleared_in s device v (time_of g)) (since_at device t (hs ++ h ∷ []))))
-    (same_before t hs h le)
-    ∙ ap (λ l. filter_map f (filter k l)) (behind_no (λ g. nat_lt (time_of g) t && changes_adjustment device g.note.body) hs h late)
-    ∙ ap (filter_map f) (filter_yes k (since_at device t hs) h kept)
-    ∙ maps_on f (filter k (since_at device t hs)) h
+    rw (same_before t hs h le)
+    (rw (behind_no (λ g. nat_lt (time_of g) t && changes_adjustment device g.note.body) hs h late)
+    (ap (filter_map f) (filter_yes k (since_at device t hs) h (rw at (kept_flag (cleared_in s device w t))))
+    ∙ maps_on f (filter k (since_at device t hs)) h))
 
 append_all : (a b c : List Hearing) → (a ++ b) ++ c ≡ a ++ (b ++ c)
 append_all a b c = append_assoc a b c
@@ -53,22 +48,22 @@ append_all a b c = append_assoc a b c
 pub heard_more : (s : Scenario) (hs : List Happening) (device : DeviceId) (t : ℕ) (zs : List Happening) → ((z : Happening) → IsIn z zs → time_of z ≡ t)
     → heard_since s (hs ++ zs) device t ≡ heard_since s hs device t ++ heard_by_these s device zs
 heard_more s hs device t zs =
-    by_last (λ (l : List Happening). ((z : Happening) → IsIn z l → time_of z ≡ t)
+    by_last (λ l. ((z : Happening) → IsIn z l → time_of z ≡ t)
     → heard_since s (hs ++ l) device t ≡ heard_since s hs device t ++ heard_by_these s device l)
-    (λ of. ap (λ l. heard_since s l device t) (append-nil hs) ∙ sym (append-nil (heard_since s hs device t)))
+    (λ of. rw (append-nil hs) (sym (append-nil (heard_since s hs device t))))
     (λ l z same of.
-    ap (λ k. heard_since s k device t) (sym (append_assoc hs l (z ∷ [])))
-    ∙ one_heard s (hs ++ l) device t z (of z (in_right z l (z ∷ []) (inl refl)))
-    ∙ ap (λ (k : List Hearing). k ++ heard_by_these s device (z ∷ [])) (same (λ y i. of y (in_left y l (z ∷ []) i)))
-    ∙ append_all (heard_since s hs device t) (heard_by_these s device l) (heard_by_these s device (z ∷ []))
-    ∙ ap (λ (k : List Hearing). heard_since s hs device t ++ k) (sym (maps_on (λ h. hearing_by s.network device h h.note.body) l z)))
+    rw (sym (append_assoc hs l (z ∷ [])))
+    (one_heard s (hs ++ l) device t z (of z (in_right z l (z ∷ []) (inl refl)))
+    ∙ (rw (same (λ y i. of y (in_left y l (z ∷ []) i)))
+    (append_all (heard_since s hs device t) (heard_by_these s device l) (heard_by_these s device (z ∷ []))
+    ∙ (rw (sym (maps_on (λ h. hearing_by s.network device h h.note.body) l z)))))))
     zs
 
 by_option : (o : Option Hearing) (front back : List Hearing) → (o ≡ None) ⊎ (back ≡ []) → front ++ cons_option o back ≡ (front ++ back) ++ option_to_list o
 by_option None front back either = sym (append-nil (front ++ back))
 by_option (Some x) front back (inl e) = absurd cc
 by_option (Some x) front back (inr e) =
-    ap (λ (l : List Hearing). front ++ x ∷ l) e
+    ap (λ l. front ++ x ∷ l) e
     ∙ ap (λ (l : List Hearing). l ++ x ∷ []) (sym (append-nil front) ∙ ap (λ (l : List Hearing). front ++ l) (sym e))
 
 -- one more record between them, behind which none is heard, is heard behind all
@@ -85,11 +80,11 @@ heard_put s hs front back device t w of at either =
       | inr (inr one) ↦ of z (in_right z front back one)
     ] in
     heard_more s hs device t (front ++ w ∷ back) all
-    ∙ ap (λ (l : List Hearing). heard_since s hs device t ++ l) (filter_map-append f front (w ∷ back)
+    ∙ (rw (filter_map-append f front (w ∷ back)
     ∙ by_option (f w) (heard_by_these s device front) (heard_by_these s device back) either
-    ∙ ap (λ (l : List Hearing). l ++ option_to_list (f w)) (sym (filter_map-append f front back)))
-    ∙ sym (append_all (heard_since s hs device t) (heard_by_these s device (front ++ back)) (option_to_list (f w)))
-    ∙ ap (λ (l : List Hearing). l ++ option_to_list (f w)) (sym (heard_more s hs device t (front ++ back) of))
+    ∙ ap (λ l. l ++ option_to_list (f w)) (sym (filter_map-append f front back)))
+    (sym (append_all (heard_since s hs device t) (heard_by_these s device (front ++ back)) (option_to_list (f w)))
+    ∙ (rw (sym (heard_more s hs device t (front ++ back) of)))))
 
 -- ---- how the device stands
 
@@ -116,7 +111,7 @@ points_put s hs front back now device w rest quiet late =
     points_same (front ++ back) hs device (λ z i. let x = rest z i in (quiet_rest s device now z.note.body x.0, x.1))
     ∙ sym (points_same (front ++ w ∷ back) hs device (λ z i. elim (in_parts z front (w ∷ back) i) [
       | inl one ↦ let x = rest z (in_left z front back one) in (quiet_rest s device now z.note.body x.0, x.1)
-      | inr (inl e) ↦ subst (λ (h : Happening). IsQuiet device h.note.body × (4 ≤ rank h.note.body)) (sym e) (quiet, late)
+      | inr (inl e) ↦ rw e (quiet, late)
       | inr (inr one) ↦ let x = rest z (in_right z front back one) in (quiet_rest s device now z.note.body x.0, x.1)
     ]))
 
@@ -151,13 +146,12 @@ pub reaches : {s : Scenario} {hs coming : List Happening} {now : ℕ} {device : 
 reaches {s} {hs} {coming} {now} {device} {deed} w undone due =
     let le = changed_before (hs ++ coming) device now in
     record {
-      below = subst (λ z. z <ℤ value_of s.network deed) w.left.counted.changed undone.ahead;
+      below = rw w.left.counted.changed at undone.ahead;
       reach = record {
-        from_on = omega (arith, ints, le);
-        reached = subst (λ (a : Units). (value_of s.network deed -ℤ a.0) ≤ℤ pos (s.reading device now)) w.left.counted.adjustment due;
+        from_on = omega (arith, ints);
+        reached = rw w.left.counted.adjustment at due;
         not_before = λ x from lt.
-            subst (λ (a : Units). pos (s.reading device x) <ℤ (value_of s.network deed -ℤ a.0)) w.left.counted.adjustment
-            (w.done.undone deed undone x (omega (arith, ints, from)) (omega (arith, ints, lt)));
+            rw w.left.counted.adjustment at (w.done.undone deed undone x (omega (arith, ints)) (omega (arith, ints)));
       };
     }
 
@@ -165,7 +159,7 @@ reaches {s} {hs} {coming} {now} {device} {deed} w undone due =
 pub all_earlier : (s : Scenario) (hs coming other : List Happening) (now : ℕ) → ((z : Happening) → IsIn z coming → time_of z ≡ now)
     → ((z : Happening) → IsIn z other → time_of z ≡ now) → earlier now (hs ++ coming) ≡ earlier now (hs ++ other)
 all_earlier s hs coming other now of also =
-    earlier_still now hs coming (λ z i. let at = of z i in omega (arith, at)) ∙ sym (earlier_still now hs other (λ z i. let at = also z i in omega (arith, at)))
+    earlier_still now hs coming (λ z i. omega arith) ∙ sym (earlier_still now hs other (λ z i. omega arith))
 
 module _ (s : Scenario) (hs coming other : List Happening) (now : ℕ) (device : DeviceId) (node : Node)
     (cycle : ℕ) where
@@ -196,8 +190,7 @@ module _ (s : Scenario) (hs coming other : List Happening) (now : ℕ) (device :
       let timed = (point_number node.standing.state node.standing.number cycle pending.1.own).0 in
       let standing = same_standing w.left timed in
       record {
-        next = subst (λ l. next_point (standing_in s device now l) ≡ Some cycle) same
-            (subst (λ x. next_point x ≡ Some cycle) standing pending.1.own);
+        next = rw same at (rw standing at pending.1.own);
         reached = reaches_back s (hs ++ coming) (hs ++ other) now device same (reaches w pending.1 due);
         correct = w.sound;
       }
@@ -212,7 +205,6 @@ module _ (s : Scenario) (hs coming other : List Happening) (now : ℕ) (device :
   comes {heard} {verdict} w also hears pending due to =
       let same = all_earlier s hs coming other now (λ z i. (w.of_now z i).0) also in
       let timed = (point_number node.standing.state node.standing.number cycle pending.1.own).0 in
-      let standing = same_standing w.left timed in
       let at = at_correction w also pending due in
       record {
         next = at.next;
@@ -220,15 +212,14 @@ module _ (s : Scenario) (hs coming other : List Happening) (now : ℕ) (device :
         correct = at.correct;
         summary = heard;
         heard = subst (Summarizes heard) (w.left.counted.heard timed ∙ hears) to.summary;
-        comes = subst (λ l. HasVerdict (standing_in s device now l) heard verdict) same
-            (subst (λ x. HasVerdict x heard verdict) standing to.verdict_is);
+        comes = rw same at (rw (same_standing w.left timed) at to.verdict_is);
       }
 
 -- ---- emissions
 
 none_any : (p : Happening → Bool) (js : List Happening) → ((h : Happening) → IsIn h js → p h ≡ false) → list_any p js ≡ false
 none_any p [] all = refl
-none_any p (h ∷ js) all = ap (λ (b : Bool). b || list_any p js) (all h (inl refl)) ∙ none_any p js (λ g i. all g (inr i))
+none_any p (h ∷ js) all = rw (all h (inl refl)) (none_any p js (λ g i. all g (inr i)))
 
 -- no frame tells the device the time at the instant
 pub none_joined : (js : List Happening) (device : DeviceId) (now : ℕ)
@@ -239,7 +230,7 @@ none_joined js device now all = grind (arith, none_any, time_of, is_joined_by, c
 pub hears_state : (s : Scenario) (js : List Happening) (device : DeviceId) (now : ℕ)
     → ((h : Happening) → IsIn h js → time_of h ≡ now → is_joined_by device h.note.body ≡ false)
     → state_at_hearing s js device now ≡ state_before s js device now
-hears_state s js device now all = ap (λ (b : Bool). if b then Joining else state_before s js device now) (none_joined js device now all)
+hears_state s js device now all = rw (none_joined js device now all)
 
 pub hears_adjustment : (s : Scenario) (js : List Happening) (device : DeviceId) (now : ℕ) → ((h : Happening) → IsIn h js → time_of h ≤ now)
     → ((h : Happening) → IsIn h js → time_of h ≡ now → is_joined_by device h.note.body ≡ false)
@@ -258,28 +249,34 @@ pub emits : {s : Scenario} {hs coming : List Happening} (front back : List Happe
     → Emits s (hs ++ front) device now sent (own_judgement s.network device node sent)
 emits {s} {hs} {coming} front back {now} {device} {node} sent w e pending due =
     let inside : (h : Happening) → IsIn h (hs ++ front) → IsIn h (hs ++ coming) = λ h i.
-    subst (λ l. IsIn h l) (append_assoc hs front back ∙ ap (λ (l : List Happening). hs ++ l) (sym e)) (in_left h (hs ++ front) back i) in
-    let behind_of : (z : Happening) → IsIn z back → IsIn z coming = λ z i. subst (λ l. IsIn z l) (sym e) (in_right z front back i) in
+    rw (append_assoc hs front back ∙ ap (λ (l : List Happening). hs ++ l) (sym e)) at (in_left h (hs ++ front) back
+    i) in
+    let behind_of : (z : Happening) → IsIn z back → IsIn z coming = λ z i. rw e (in_right z front back i) in
     let points : points_of (hs ++ coming) device ≡ points_of (hs ++ front) device =
-    grind (arith, points_of, append_assoc, points_same, behind_of, quiet_rest, in_right) in
+    grind (arith, points_of, append_assoc, points_same, quiet_rest, in_right) in
     let same = all_earlier s hs coming front now (λ z i. (w.of_now z i).0)
-    (λ z i. (w.of_now z (subst (λ l. IsIn z l) (sym e) (in_left z front back i))).0) in
+    (λ z i. (w.of_now z (rw e (in_left z front back i))).0) in
     let joins : (h : Happening) → IsIn h (hs ++ front) → time_of h ≡ now → is_joined_by device h.note.body ≡ false = λ h i at.
     quiet_joins device h.note.body (quiet_rest s device now h.note.body (w.still h (inside h i) at)) in
-    let state : node.standing.state ≡ state_at_hearing s (hs ++ front) device now =
+    let state =
     w.left.state ∙ ap (λ l. if is_turned_on_at s device now then Integrating else state_after s l device) same
     ∙ sym (hears_state s (hs ++ front) device now joins) in
-    let adjustment : node.standing.adjustment ≡ adjustment_at_hearing s (hs ++ front) device now =
+    let adjustment =
     w.left.counted.adjustment ∙ ap (λ l. adjustment_after s l device) same
     ∙ sym (hears_adjustment s (hs ++ front) device now (λ h i. w.past h (inside h i)) joins) in
     record {
       cm = pending.1.cm;
       correct = w.sound;
       clusters = pending.1.clusters;
-      are = subst (λ ps. AreClusters (observation_window s.network) ps pending.1.clusters) (w.left.points pending.1.cm ∙ points) pending.1.are;
+      are = rw (w.left.points pending.1.cm ∙ points) at pending.1.are;
       cluster = pending.1.cluster;
       there = pending.1.there;
       is = pending.1.is;
-      reached = record { from_on = omega (arith, ints); reached = due; not_before = λ x from lt. w.sent.unsent sent pending.1 x (omega (arith, ints, lt)) };
-      heard = grind (arith, heard_as, plan_of, observation_window, state, state_at_hearing, adjustment);
+      reached = record {
+        from_on = omega (arith, ints);
+        reached = due;
+        not_before =
+            λ x from lt. w.sent.unsent sent pending.1 x (omega (arith, ints));
+      };
+      heard = grind (arith, heard_as, plan_of, observation_window, state_at_hearing);
     }

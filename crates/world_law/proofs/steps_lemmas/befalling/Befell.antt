@@ -1,13 +1,13 @@
 -- What the events of an instant leave is settled, before all else of it: the world stands behind them.
 use Rattle.world_law.proofs.runs.Settled.{no_part, none_pending}
 use Rattle.run_law.proofs.{records.Members.in_flat, runs.Places.before_next_time}
-use Rattle.world_law.proofs.steps_lemmas.Words.{Happening, HaveBefallen, Integrating, IsBefore, IsCaused, IsDue, IsEventBody, IsHeld, IsIn, IsOfThisTime, both_ways}
+use Rattle.world_law.proofs.steps_lemmas.Words.{Happening, HaveBefallen, Integrating, IsBefore, IsCaused, IsDue, IsEventBody, IsIn, IsOfThisTime, both_ways}
 use Rattle.world_law.proofs.steps_lemmas.Words.{IsOwnSource, IsRun, IsSendLost, IsSource, IsTurnedOnBy, Link, LinkId, List, Network, Node, NoteBody, Option}
 use Rattle.world_law.proofs.steps_lemmas.Words.{Scenario, Some, Units, Up, What, ℕ, [], amount, ap, arith, before_behind, behind, bodies_of, chain}
 use Rattle.world_law.proofs.steps_lemmas.Words.{clock_place, eq-eqb, false, happenings, has_outcome, if◌then◌else◌, in_left, in_right, inl, inr, ints}
 use Rattle.world_law.proofs.steps_lemmas.Words.{is_at_source, is_broken, is_cut, is_joined_by, is_turned_on_at, key, length, members_in, numbered_front}
 use Rattle.world_law.proofs.steps_lemmas.Words.{numbered_in, numbered_parts, option_map_or, own_time, place_of, rank, refl, settled_as, subst, sym}
-use Rattle.world_law.proofs.steps_lemmas.Words.{◌++◌, ◌+◌, ◌∙◌, ◌∷◌, ◌≡◌, ◌≤◌, ◌⊎◌, AreOfNetwork, AreOnWires, AreSettled, AreUntold, Befell, Bool, DeviceId}
+use Rattle.world_law.proofs.steps_lemmas.Words.{◌++◌, ◌+◌, ◌∙◌, ◌∷◌, ◌≡◌, ◌≤◌, ◌⊎◌, AreSettled, AreUntold, Befell, Bool, DeviceId}
 use Rattle.world_law.proofs.steps_lemmas.befalling.{Bodies.{IsOutcome, all_bodies, all_rising, calm_outcome, few_all}, Told.{on_by_event, recorded}}
 use Rattle.world_law.proofs.steps_lemmas.befalling.{Devices.{AreToldOf, held_told, known_told}, Filled.{IsFilled, IsOne, all_long, all_new, filled_all}}
 use Rattle.world_law.proofs.steps_lemmas.{befalling.UnderWay.{IsTelling, goes_on, ports_told, waiting_told, wires_told}, steps.Applied.no_coming}
@@ -77,12 +77,12 @@ module _ (s : Scenario) (hs : List Happening) (now : ℕ) where
   late_place it = let at = late_body it.out in (at.0, at.1, ap place_of it.is ∙ at.2, at.3)
 
 not_under : (now r : ℕ) (more : List ℕ) → 7 ≤ r → IsBefore (now ∷ r ∷ more) (now ∷ 2 ∷ []) → ⊥
-not_under now r more high (inl lt) = omega (arith, lt)
-not_under now r more high (inr (e, inl few)) = omega (arith, high, few)
+not_under now r more high (inl lt) = omega arith
+not_under now r more high (inr (e, inl few)) = omega arith
 not_under now r more high (inr (e, inr (two, none))) = none
 
 behind_two : (now r : ℕ) (more : List ℕ) → 7 ≤ r → IsBefore (behind (now ∷ 2 ∷ [])) (now ∷ r ∷ more)
-behind_two now r more high = inr (refl, inl (omega (arith, high)))
+behind_two now r more high = inr (refl, inl (omega arith))
 
 -- none of them is before the place behind the events
 not_yet : (s : Scenario) (hs : List Happening) (now : ℕ) {z : Happening} → IsOne s hs now z
@@ -97,11 +97,12 @@ not_yet s hs now {z} it b =
 -- ---- what is due by an event is among them
 
 bodies_out : (s : Scenario) (now number : ℕ) (what : What) (b : NoteBody) (x : Bool) → x ≡ false → IsIn b (b ∷ []) → IsIn b (if x then [] else b ∷ [])
-bodies_out s now number what b x sound i = subst (λ (y : Bool). IsIn b (if y then [] else b ∷ [])) (sym sound) i
+bodies_out s now number what b x sound i = rw sound i
 
 lost_out : (s : Scenario) (now n : ℕ) (device : DeviceId) (link : LinkId) (way : Link) (o : Option Link) → o ≡ Some way → device ≡ way.child
     → is_cut s link Up now ≡ true
-    → IsIn (notes.Lost device link n) (option_map_or (λ (l : Link). if is_cut s link Up now then notes.Lost l.child link n ∷ [] else []) o [])
+    → IsIn (notes.Lost device link n) (option_map_or
+    (λ l. if is_cut s link Up now then notes.Lost l.child link n ∷ [] else []) o [])
 lost_out s now n device link way o there by cut = grind (arith, option_map_or, is_cut)
 
 event_joins : (device : DeviceId) (body : NoteBody) → IsEventBody body → is_joined_by device body ≡ false
@@ -127,35 +128,35 @@ module _ (s : Scenario) (hs front : List Happening) (frontier : List ℕ) (now :
       → IsCaused s (hs ++ front) time body → StandsThere s hs now settled (amount time ∷ rank body ∷ key members body)
   came ms (notes.State d st n whys.On) m calm at o (looking, sound, (line, h, it, is)) =
       elim (of_instant front m.telling calm
-      (subst (λ t. IsOfThisTime (hs ++ front) t n h) at it)) [
-        | inr new ↦ absurd (let bad : false ≡ true = ap is_calm (sym is) ∙ new in cc)
+      (rw at at it)) [
+        | inr new ↦ absurd (cc)
         | inl old ↦ (
           notes.State d Integrating n whys.On,
           m.there n line (events.On d) h old.0 is (notes.State d Integrating n whys.On)
               (bodies_out s now n (events.On d) (notes.State d Integrating n whys.On) (is_broken s d now)
               (ap (is_broken s d) (sym at) ∙ sound) (inl refl)),
-          ap (λ (t : ℕ). t ∷ 7 ∷ d.0 ∷ n ∷ []) (sym at),
+          rw (sym at),
         )
       ]
   came ms (notes.State d st n whys.Frame) m calm at o (joining, (h, it, joins)) =
-      absurd (elim (of_instant front m.telling calm (subst (λ t. IsOfThisTime (hs ++ front) t n h) at it)) [
+      absurd (elim (of_instant front m.telling calm (rw at at it)) [
         | inr new ↦ (both_ways _ (calm_joins d h.note.body new) joins)
         | inl old ↦ (both_ways _ (event_joins d h.note.body old.1) joins)
       ])
   came ms (notes.State d st n whys.Correction) m calm at o (first, joining, (cycle, by, adjustment, h, it, is)) =
-      absurd (elim (of_instant front m.telling calm (subst (λ t. IsOfThisTime (hs ++ front) t n h) at it)) [
-        | inr new ↦ (let bad : false ≡ true = ap is_calm (sym is) ∙ new in cc)
+      absurd (elim (of_instant front m.telling calm (rw at at it)) [
+        | inr new ↦ (cc)
         | inl old ↦ subst IsEventBody is old.1
       ])
   came ms (notes.Lost d link n) m calm at (inr (inr (o, lost))) c =
       elim (of_instant front m.telling calm
-      (subst (λ t. IsOfThisTime (hs ++ front) t n lost.event) at lost.is)) [
-        | inr new ↦ absurd (let bad : false ≡ true = ap is_calm (sym lost.sends) ∙ new in cc)
+      (rw at at lost.is)) [
+        | inr new ↦ absurd (cc)
         | inl old ↦ (
           notes.Lost d link n,
           m.there n lost.line (events.Send link lost.octets) lost.event old.0 lost.sends (notes.Lost d link n)
               (lost_out s now n d link lost.way _ lost.there lost.by (ap (is_cut s link Up) (sym at) ∙ lost.cut)),
-          ap (λ (t : ℕ). t ∷ 9 ∷ d.0 ∷ link.0 ∷ n ∷ []) (sym at),
+          rw (sym at),
         )
       ]
   came ms (notes.Lost d link n) m calm at (inl o) c = absurd (grind arith)
@@ -171,7 +172,7 @@ event_past js y befallen is caused = grind (arith, event_cause, event_place, amo
 
 only_none : (ws : List ℕ) → IsBefore ws (0 ∷ []) → ws ≡ []
 only_none [] b = refl
-only_none (x ∷ ws) (inl lt) = absurd (omega (arith, lt))
+only_none (x ∷ ws) (inl lt) = absurd (omega arith)
 only_none (x ∷ ws) (inr (e, none)) = absurd none
 
 due_there : {s : Scenario} {hs : List Happening} (front : List Happening) {frontier : List ℕ} {now : ℕ}
@@ -186,8 +187,7 @@ due_there {s} {hs} front {y} k ws m calm not due own (inr (at, inl few)) =
     (own_event s (hs ++ front) (time_of y) (members_in y) y.note.body k ws own few) due.cause))
 due_there {s} {hs} front {frontier} {now} {befell} {settled} {y} k ws m calm not due own (inr (at, inr (two, b))) =
     came s hs front frontier now befell settled y.note.time (members_in y) y.note.body m calm at
-    (subst (λ (l : List ℕ). IsOwnSource s (hs ++ front) (time_of y) (members_in y) y.note.body (time_of y ∷ 2 ∷ l)) (only_none ws b)
-    (subst (λ (n : ℕ). IsOwnSource s (hs ++ front) (time_of y) (members_in y) y.note.body (time_of y ∷ n ∷ ws)) two own)) due.cause
+    (rw (only_none ws b) at (rw two at own)) due.cause
 
 -- ---- so they are settled
 
@@ -203,30 +203,30 @@ settled_told {s} {hs} {now} m =
           not_under now at.0 at.1 at.3
           (subst (λ p. IsBefore p (now ∷ 2 ∷ [])) at.2 (m.telling.untold.early refl (place_of z) b));
       founded = λ front rest z e.
-          let it = one z (subst (λ l. IsIn z l) (sym e) (in_here front rest z)) in
-          (m.filled.sorted front rest z e, subst (λ x. IsDueAs s (hs ++ front) x) (sym it.is) (due_one s hs front now it.out));
+          let it = one z (rw e (in_here front rest z)) in
+          (m.filled.sorted front rest z e, rw it.is (due_one s hs front now it.out));
       by = λ front rest z e.
-          let it = one z (subst (λ l. IsIn z l) (sym e) (in_here front rest z)) in
+          let it = one z (rw e (in_here front rest z)) in
           let off = worked_one s hs front now it.out in
-          subst (λ x. IsWorkedOff s (hs ++ front) (behind (now ∷ 2 ∷ [])) x) (sym it.is) off;
+          rw it.is off;
       full = λ front back y e before none not due worked.
           let calm : (z : Happening) → IsIn z front → is_calm z.note.body ≡ true = λ z i.
-          let it = one z (subst (λ l. IsIn z l) (sym e) (in_left z front back i)) in
-          ap (λ (x : Happening). is_calm x.note.body) it.is ∙ calm_outcome it.out in
+          let it = one z (rw e (in_left z front back i)) in
+          rw it.is (calm_outcome it.out) in
           let own = own_time s (hs ++ front) (time_of y) (members_in y) y.note.body worked.0 worked.1 in
           let found = due_there front own.0 own.1 m calm not due
-          (subst (λ q. IsOwnSource s (hs ++ front) (time_of y) (members_in y) y.note.body q) own.2 worked.1)
-          (subst (λ q. IsBefore q (behind (now ∷ 2 ∷ []))) own.2 worked.3) in
+          (rw own.2 at worked.1)
+          (rw own.2 at worked.3) in
           (settled_as s.network hs now found.0, found.1, found.2);
       not_past = λ z i p b.
           let at = late_place s hs now (one z i) in
           chain p (place_of z) (behind (place_of z))
-          (subst (λ q. IsBefore p q) (sym at.2) (chain p (behind (now ∷ 2 ∷ [])) (now ∷ at.0 ∷ at.1) b (behind_two now at.0 at.1 at.3)))
+          (rw (sym at.2) at (chain p (behind (now ∷ 2 ∷ [])) (now ∷ at.0 ∷ at.1) b (behind_two now at.0 at.1 at.3)))
           (before_behind (place_of z));
       worked = λ z i is.
           let it = one z i in
-          absurd (let bad : false ≡ true = sym (not_at_source s hs now it.out) ∙ ap
-          (λ (x : Happening). is_at_source x.note.body) (sym it.is) ∙ is
+          absurd (let bad = sym (not_at_source s hs now it.out) ∙ ap
+          (λ x. is_at_source x.note.body) (sym it.is) ∙ is
           in cc);
       begun = λ z i. before_behind (now ∷ 2 ∷ []);
     }
@@ -248,27 +248,25 @@ turned_there {s} {hs} {frontier} {now} device m on sound =
     let h = recorded s frontier hs it.0 it.1 m.run it.2 (m.befallen.begun it.0 it.1 it.2)
     (m.befallen.told it.0 it.1 it.2) in
     let body = notes.State device Integrating h.0 whys.On in
-    let here : IsIn body (bodies_of s now h.0 (events.On device)) = subst (λ (x : Bool). IsIn body (if x then [] else body ∷ []))
-    (sym sound) (inl refl) in
+    let here : IsIn body (bodies_of s now h.0 (events.On device)) = rw sound (inl refl) in
     let there = m.there h.0 (it.0 + 1) (events.On device) h.1
-    (record { there = h.2; same_time = ap amount h.3 ∙ it.4 }) (h.4 ∙ ap (λ (w : What). notes.Event (it.0 + 1) w) it.3) body here in
+    (record { there = h.2; same_time = ap amount h.3 ∙ it.4 }) (h.4 ∙ (rw it.3)) body here in
     record { by = settled_as s.network hs now body; there = there; at = refl; turning = eq-eqb device.0 device.0 refl }
 
 no_clock : (now : ℕ) (device : DeviceId) → IsBefore (clock_place now device) (behind (now ∷ 2 ∷ [])) → ⊥
-no_clock now device (inl lt) = omega (arith, lt)
-no_clock now device (inr (e, inl lt)) = omega (arith, lt)
-no_clock now device (inr (e, inr (two, b))) = omega (arith, two)
+no_clock now device (inl lt) = omega arith
+no_clock now device (inr (e, inl lt)) = omega arith
+no_clock now device (inr (e, inr (two, b))) = omega arith
 
 pub befell_step : {C M : Type 0} (reading : C → ℕ → ℕ) (stands : M → Network → DeviceId → Node → Type 0) → BefellStep reading stands
 befell_step {C} {M} reading stands s world notes wires settled old open_ room put_by put_in =
     let hs = happenings s.network notes in
     let now = world.now in
     let here = now ∷ 2 ∷ [] in
-    let untold : AreUntold hs old.frontier now true world.befell = subst
-    (λ b. AreUntold hs old.frontier now b world.befell) open_ old.untold in
+    let untold : AreUntold hs old.frontier now true world.befell = rw open_ at old.untold in
     let early = untold.early refl in
     let empty = no_coming hs world.settled s old.frontier now old.are early in
-    let m : IsTelling hs old.frontier now world.befell = grind (arith, untold, before_others, now, early, place_of) in
+    let m : IsTelling hs old.frontier now world.befell = grind (arith, before_others, place_of) in
     let bodies = befell_bodies s now world.befell in
     let each = all_bodies s hs now world.befell untold.real in
     let filled : IsFilled s hs now settled = filled_all s hs now bodies {old = []} settled
@@ -289,7 +287,7 @@ befell_step {C} {M} reading stands s world notes wires settled old open_ room pu
       telling = m;
       founded = old.run.founded;
       at = are.of_now;
-      out = λ z i. let it = filled.each z i in subst (λ (x : Happening). IsOutcome s hs now x.note.body) (sym it.is) it.out;
+      out = λ z i. let it = filled.each z i in rw it.is it.out;
       turned = λ device on sound. turned_there device settling on sound;
     } in
     let on = goes_on m in
@@ -322,19 +320,19 @@ befell_step {C} {M} reading stands s world notes wires settled old open_ room pu
       clocks = old.clocks;
       broken = old.broken;
       ways = old.ways;
-      room = omega (arith, room, few, put_count, none_long);
-      known = known_told told (subst (λ (l : List Happening). AreOfNetwork s (hs ++ l)) empty old.known);
+      room = omega arith;
+      known = known_told told (rw empty at old.known);
       devices = λ device lt.
           let k = old.devices device lt in (
             k.0,
             k.1,
             held_told stands s hs settled old.frontier now world.befell device k.0 told
-                (subst (λ l. IsHeld stands s hs l old.frontier now device k.0) empty k.2),
+                (rw empty at k.2),
           );
       early = λ fresh. absurd (let bad : false ≡ true = fresh in cc);
       untold = none_pending refl refl (λ number h it. before_behind here);
       wires = wires_told s hs old.frontier now world.befell wires m old.forward
-          (subst (λ b. AreOnWires s hs old.frontier now b world.wires) open_ old.wires) put_by;
+          (rw open_ at old.wires) put_by;
       ports = ports_told s hs old.frontier now world.befell m old.ports;
       waiting = waiting_told s hs old.frontier now world.befell m old.waiting;
       stored = old.stored;

@@ -71,7 +71,7 @@ few_then false b = omega arith
 
 module _ (s : Scenario) (now number : ℕ) where
   few_lost : (link : LinkId) (o : Option Link) → length
-      (option_map_or (λ (way : Link). if is_cut s link Up now then notes.Lost way.child link number
+      (option_map_or (λ way. if is_cut s link Up now then notes.Lost way.child link number
       ∷ [] else []) o []) ≤ 1
   few_lost link None = omega arith
   few_lost link (Some way) = few_then (is_cut s link Up now) (notes.Lost way.child link number)
@@ -91,7 +91,7 @@ HaveRecords hs now befell =
 pub all_bodies : (s : Scenario) (hs : List Happening) (now : ℕ) (befell : List Befell) → HaveRecords hs now befell → (b : NoteBody)
     → IsIn b (befell_bodies s now befell) → IsOutcome s hs now b × ((e : Befell) × IsIn e befell × (cause_of b ≡ e.number))
 all_bodies s hs now befell real b i =
-    let at = from_flat (λ (e : Befell). bodies_of s now e.number e.what) befell b i in
+    let at = from_flat (λ e. bodies_of s now e.number e.what) befell b i in
     let it = real at.0 at.1 in
     let is = each_body s hs now at.0.number it.0 at.0.what b it.2 it.3 at.2 in
     (is.0, (at.0, at.1, is.1))
@@ -109,7 +109,7 @@ rising_more : (bs more : List NoteBody) → length bs ≤ 1 → ((b c : NoteBody
     → AreRising (bs ++ more)
 rising_more [] more few less rising = rising
 rising_more (b ∷ []) more few less rising = (λ c i. less b c (inl refl) i, rising)
-rising_more (b ∷ c ∷ bs) more few less rising = absurd (omega (arith, few))
+rising_more (b ∷ c ∷ bs) more few less rising = absurd (omega arith)
 
 pub all_rising : (s : Scenario) (hs : List Happening) (now : ℕ) (befell : List Befell) → HaveRecords hs now befell → AreInOrder befell
     → AreRising (befell_bodies s now befell)
@@ -122,4 +122,4 @@ all_rising s hs now (e ∷ befell) real order =
     let next = (all_bodies s hs now befell later c j).1 in
     let lt = order.0 next.0 next.1 in
     let cause = next.2 in
-    omega (arith, first, lt, cause)) (all_rising s hs now befell later order.1)
+    omega arith) (all_rising s hs now befell later order.1)

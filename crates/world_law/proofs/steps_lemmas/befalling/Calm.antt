@@ -1,11 +1,11 @@
 -- The record of what comes of an event leaves a device as it was, but for its state.
 use Rattle.{std.proofs.Common.arith, world_law.proofs.{devices.OwnRecords.keeps_state, lists.Lists.map_none, steps_lemmas.Words.{time_of, true, up_to, ℕ}}}
-use Rattle.world_law.proofs.steps_lemmas.Words.{◌&&◌, ◌++◌, ◌||◌, ◌∙◌, ◌∷◌, ◌≡◌, ◌≤◌, Bool, DeviceId, Happening, Integrating, IsIn, IsLeft, List, Network, Node}
-use Rattle.world_law.proofs.steps_lemmas.Words.{None, NoteBody, On, Option, Scenario, State, Units, [], adjustment_after, adjustment_with, after_last, ap}
+use Rattle.world_law.proofs.steps_lemmas.Words.{◌&&◌, ◌++◌, ◌||◌, ◌∷◌, ◌≡◌, ◌≤◌, Bool, DeviceId, Happening, Integrating, IsIn, IsLeft, List, Network, Node}
+use Rattle.world_law.proofs.steps_lemmas.Words.{None, NoteBody, On, Option, Scenario, [], adjustment_after, adjustment_with, after_last}
 use Rattle.world_law.proofs.steps_lemmas.Words.{append-nil, append_assoc, behind_no, cases_Bool, changes_adjustment, cleared_in, cycle_in, earlier}
 use Rattle.world_law.proofs.steps_lemmas.Words.{ends_stretch, false, filter, filter_map, filter_no, filter_yes, fold, fold-append, heard_since, hearing_by, inl}
 use Rattle.world_law.proofs.steps_lemmas.Words.{inr, integration_cycle, is_joined_by, is_turned_on_at, keeps_adjustment, local_in, moves, nat_le, nat_lt}
-use Rattle.world_law.proofs.steps_lemmas.Words.{next_in, not, point_by, points_of, recorded_cycle, refl, same_before, state_after, state_with, subst, sym}
+use Rattle.world_law.proofs.steps_lemmas.Words.{next_in, not, point_by, points_of, recorded_cycle, refl, same_before, state_after, state_with}
 use Rattle.run_law.specs.declared.note.NoteBody.TheVariants as notes
 
 -- is it the record that a device was turned on, or that what was sent met a cut way?
@@ -51,10 +51,11 @@ heard_calm s hs z device t late calm =
     let f = λ (h : Happening). hearing_by s.network device h h.note.body in
     let k = λ (w : List Happening) (h : Happening). not (cleared_in s device w t) || cleared_in s device w (time_of h) in
     let p = λ (h : Happening). nat_lt (time_of h) t && changes_adjustment device h.note.body in
-    let none : p z ≡ false = both_no (nat_lt (time_of z) t) (changes_adjustment device z.note.body) (calm_changes device z.note.body calm) in
-    ap (λ l. filter_map f (filter (k (earlier t (hs ++ z ∷ []))) l)) (behind_no p hs z none)
-    ∙ ap (λ (w : List Happening). filter_map f (filter (k w) (after_last p hs ++ z ∷ []))) (same_before t hs z late)
-    ∙ filtered_none f (k (earlier t hs)) (after_last p hs) z (calm_hears s.network device z z.note.body calm)
+    let none = both_no (nat_lt (time_of z) t) (changes_adjustment device z.note.body)
+    (calm_changes device z.note.body calm) in
+    rw (behind_no p hs z none)
+    (rw (same_before t hs z late)
+    (filtered_none f (k (earlier t hs)) (after_last p hs) z (calm_hears s.network device z z.note.body calm)))
   where
     both_no : (a b : Bool) → b ≡ false → (a && b) ≡ false
     both_no true b e = e
@@ -88,17 +89,16 @@ pub left_all_calm : {s : Scenario} {hs : List Happening} (zs : List Happening) {
     → ((z : Happening) → IsIn z zs → is_calm z.note.body ≡ true) → IsLeft s hs device t node
     → IsLeft s (hs ++ zs) device t node
 left_all_calm {s} {hs} [] {device} {t} {node} late calm left =
-    subst (λ l. IsLeft s l device t node) (sym (append-nil hs)) left
+    rw (append-nil hs) left
 left_all_calm {s} {hs} (z ∷ zs) {device} {t} {node} late calm left =
-    subst (λ l. IsLeft s l device t node) (append_assoc hs (z ∷ []) zs)
-    (left_all_calm zs (λ y i. late y (inr i)) (λ y i. calm y (inr i))
+    rw (append_assoc hs (z ∷ []) zs) at (left_all_calm zs (λ y i. late y (inr i)) (λ y i. calm y (inr i))
     (left_calm z (late z (inl refl)) (calm z (inl refl)) left))
 
 -- ---- folds up to a time
 
 fold_up : {B : Type 0} (f : B → Happening → B) (b : B) (now : ℕ) (hs zs : List Happening) → ((z : Happening) → IsIn z zs → (y : B) → f y z ≡ y)
     → fold f b (up_to now (hs ++ zs)) ≡ fold f b (up_to now hs)
-fold_up f b now hs [] none = ap (λ l. fold f b (up_to now l)) (append-nil hs)
+fold_up f b now hs [] none = rw (append-nil hs)
 fold_up f b now hs (z ∷ zs) none =
     grind (
       arith,
@@ -119,11 +119,11 @@ module _ (s : Scenario) (hs zs : List Happening) (device : DeviceId) (now : ℕ)
   -- records that do not move a device leave its state and its adjustment
   pub state_unmoved : state_after s (up_to now (hs ++ zs)) device ≡ state_after s (up_to now hs) device
   state_unmoved =
-      fold_up (λ (state : State) (h : Happening). state_with device state h.note.body) _ now hs zs
+      fold_up (λ state h. state_with device state h.note.body) _ now hs zs
       (λ z i y. keeps_state device y z.note.body (none z i))
 
   pub adjustment_unmoved : adjustment_after s (up_to now (hs ++ zs)) device ≡ adjustment_after s (up_to now hs) device
   adjustment_unmoved =
-      fold_up (λ (adjustment : Units) (h : Happening). adjustment_with s device (cycle_in h) adjustment h.note.body)
+      fold_up (λ adjustment h. adjustment_with s device (cycle_in h) adjustment h.note.body)
       _ now hs zs
       (λ z i y. keeps_adjustment s device (cycle_in z) y z.note.body (none z i))

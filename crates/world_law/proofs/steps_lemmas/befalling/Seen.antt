@@ -1,9 +1,9 @@
 -- What code sees of the pending events: what each puts on wires, one after the other.
-use Rattle.{run_law.specs.{control.Wires.time_on_port, scenario.Ways.{delay_at, receiver_of}}, std.proofs.Common.arith}
+use Rattle.{run_law.specs.{control.Wires.time_on_port, scenario.Ways.{delay_at}}, std.proofs.Common.arith}
 use Rattle.world_law.proofs.steps_lemmas.Words.{◌++◌, ◌+◌, ◌<◌, ◌↔◌, ◌∙◌, ◌∷◌, ◌≡◌, ◌⊎◌, ArePutIn, Arrives, Befell, Bool, DeviceId, Happening, IsIn, both_ways}
 use Rattle.world_law.proofs.steps_lemmas.Words.{IsOfThisTime, Launch, Link, LinkId, List, Network, Node, None, Note, NoteBody, OnWire, Option, Scenario, Signal}
 use Rattle.world_law.proofs.steps_lemmas.Words.{Some, Stands, Up, What, World, [], ap, cases_lt, false, happenings, if◌then◌else◌, inl, inr, is_cut}
-use Rattle.world_law.proofs.steps_lemmas.Words.{launched, length, link_at, numbered_in, option_map, option_map_or, refl, signal_of, subst, sym, target_by}
+use Rattle.world_law.proofs.steps_lemmas.Words.{launched, length, link_at, numbered_in, option_map, option_map_or, refl, signal_of, sym, target_by}
 use Rattle.world_law.{proofs.steps_lemmas.{Words.{time_of, true, wire_place, ℕ}, befalling.Told.{event_due, on_by_record}}, specs.world.Moves.ArePut}
 use Rattle.net_plan.specs.declared.event.What.TheVariants as events
 use Rattle.run_law.specs.declared.note.NoteBody.TheVariants as kinds
@@ -63,23 +63,17 @@ module _ (s : Scenario) (now number : ℕ) (link : LinkId) (octets : List ℕ) (
   sent_all true o at cut there put device by t signal a = grind (arith, signal_of, is_cut)
   sent_all false o at cut there put device by t signal a =
       let here : Launch = record { link = link; way = Up; signal = signal_of octets } in
-      let is : Some here ≡ Some (let y : Launch = record { link = by; way = a.way; signal = signal } in y) =
-      sym (put ∙ ap (λ (b : Bool). if b then None else Some here) (ap (is_cut s link Up) at ∙ cut)) ∙ a.put in
-      let same : here ≡ (let y : Launch = record { link = by; way = a.way; signal = signal } in y) = cc in
-      let link_is : link ≡ by = ap (λ (x : Launch). x.link) same in
-      let way_is : Up ≡ a.way = ap (λ (x : Launch). x.way) same in
-      let signal_is : signal_of octets ≡ signal = ap (λ (x : Launch). x.signal) same in
+      let same : here ≡ ((record { link = by; way = a.way; signal = signal })) = cc in
+      let link_is : link ≡ by = ap (λ x. x.link) same in
+      let way_is : Up ≡ a.way = ap (λ x. x.way) same in
+      let signal_is : signal_of octets ≡ signal = ap (λ x. x.signal) same in
       let receives : option_map (target_by Up) o ≡ Some device = ap (option_map (target_by Up)) (sym there)
-      ∙ ap (λ w. receiver_of s.network link w) way_is ∙ ap (λ l. receiver_of s.network l a.way)
-      link_is ∙ a.receiver in
+      ∙ (rw way_is ((rw link_is a.receiver))) in
       let time_is : t ≡ now + time_on_port s.network link (signal_of octets) + delay_at s link Up now =
-      a.at ∙ ap (λ x. time_of h + time_on_port s.network by x + delay_at s by a.way (time_of h))
-      (sym signal_is)
-      ∙ ap (λ w. time_of h + time_on_port s.network by (signal_of octets) + delay_at s by w (time_of h))
-      (sym way_is)
-      ∙ ap (λ l. time_of h + time_on_port s.network l (signal_of octets) + delay_at s l Up (time_of h))
-      (sym link_is)
-      ∙ ap (λ n. n + time_on_port s.network link (signal_of octets) + delay_at s link Up n) at in
+      a.at ∙ (rw (sym signal_is)
+      ((rw (sym way_is)
+      ((rw (sym link_is)
+      ((rw at))))))) in
       from o receives time_is link_is
     where
       from : (p : Option Link) → option_map (target_by Up) p ≡ Some device → t ≡ now + time_on_port s.network link
@@ -92,9 +86,9 @@ module _ (s : Scenario) (now number : ℕ) (link : LinkId) (octets : List ℕ) (
           let device_is : l.parent ≡ device = cc in (
             sent_on s now number link octets l,
             inl refl,
-            ap (λ (n : ℕ). n ∷ 2 ∷ l.parent.0 ∷ link.0 ∷ number ∷ []) (sym time_is)
-                ∙ ap (λ (d : DeviceId). t ∷ 2 ∷ d.0 ∷ link.0 ∷ number ∷ []) device_is
-                ∙ ap (λ (k : LinkId). t ∷ 2 ∷ device.0 ∷ k.0 ∷ number ∷ []) link_is,
+            rw (sym time_is)
+                (ap (λ (d : DeviceId). t ∷ 2 ∷ d.0 ∷ link.0 ∷ number ∷ []) device_is
+                ∙ (rw link_is)),
           )
 
 event_real : (s : Scenario) (now number line : ℕ) (what : What) (h : Happening) (e : OnWire) → time_of h ≡ now → h.note.body ≡ kinds.Event line what
@@ -110,8 +104,7 @@ event_all : {s : Scenario} (now number line : ℕ) (what : What) {h : Happening}
 event_all {s} now number line (events.Send by octets) {h} at is {device} {link} {t} {signal} a =
     sent_all s now number by octets h (is_cut s by Up now) (link_at s.network by) at refl refl (ap (launched s h (time_of h)) is) device link t signal a
 event_all {s} now number line other {h} at is {link} {signal} a =
-    absurd (let bad : Option.None ≡ Some (let y : Launch = record { link = link; way = a.way; signal = signal } in y) =
-    sym (ap (launched s h (time_of h)) is) ∙ a.put in cc)
+    absurd (cc)
 
 -- so a list of wires with just those more has what the record of the event puts there
 pub put_event : (s : Scenario) (hs : List Happening) (now number line : ℕ) (what : What) (h : Happening) (old new : List OnWire) → IsOfThisTime hs now number h
@@ -128,5 +121,5 @@ put_event s hs now number line what h old new it is with_it = record {
 
 pub put_in_more : (network : Network) (hs : List Happening) (now : ℕ) (bodies more : List NoteBody) (old mid new : List Happening)
     → ArePutIn network hs now bodies old mid → ArePutIn network hs now more mid new → ArePutIn network hs now (bodies ++ more) old new
-put_in_more network hs now [] more old mid new put then_ = subst (λ l. ArePutIn network hs now more l new) put then_
+put_in_more network hs now [] more old mid new put then_ = rw put at then_
 put_in_more network hs now (b ∷ bodies) more old mid new (next, one, later) then_ = (next, one, put_in_more network hs now bodies more next mid new later then_)

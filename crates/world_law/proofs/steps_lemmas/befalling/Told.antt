@@ -1,7 +1,7 @@
 -- The events of a run and their records.
 use Rattle.run_law.{proofs.{law.FirstPlaces.{due_is_there, in_at, split}, records.Order.in_any, scenario.Devices.on_by}, specs.runs.DueRecords.IsEventRecord}
 use Rattle.{std.proofs.Common.arith, world_law.proofs.steps_lemmas.Words.{place_of, pos, refl, slice_get, subst, suc, sym, true, turns_on, ℕ}}
-use Rattle.world_law.proofs.steps_lemmas.Words.{◌&&◌, ◌+◌, ◌==◌, ◌||◌, ◌∙◌, ◌∷◌, ◌≡◌, ◌≤ℤ◌, Bool, DeviceId, Event, Happening, IsBefore, IsCaused, IsDue}
+use Rattle.world_law.proofs.steps_lemmas.Words.{◌&&◌, ◌+◌, ◌==◌, ◌∙◌, ◌∷◌, ◌≡◌, ◌≤ℤ◌, Bool, DeviceId, Event, Happening, IsBefore, IsCaused, IsDue}
 use Rattle.world_law.proofs.steps_lemmas.Words.{IsFounded, IsIn, IsRun, List, Note, Scenario, Some, Units, What, [], amount, and_parts, ap, by_number}
 use Rattle.world_law.proofs.steps_lemmas.Words.{cases_Bool, eq-eqb, eqb-true, founded_at, happening, inl, inr, is_turned_on_at, length, list_any, numbered}
 use Rattle.net_plan.specs.declared.event.What.TheVariants as events
@@ -14,7 +14,7 @@ any_from p [] e = absurd cc
 any_from p (x ∷ xs) e =
     elim (cases_Bool (p x)) [
       | inl here ↦ (0, x, refl, here)
-      | inr not ↦ let more = any_from p xs (sym (ap (λ (b : Bool). b || list_any p xs) not) ∙ e) in (suc more.0, more.1, more.2, more.3)
+      | inr not ↦ let more = any_from p xs (sym (rw not) ∙ e) in (suc more.0, more.1, more.2, more.3)
     ]
 
 -- ---- the event of a record
@@ -31,9 +31,9 @@ pub on_by_record : (s : Scenario) {time : Units} {line : ℕ} (now : ℕ) (devic
     → IsEventRecord s.events time line (events.On device) → amount time ≡ now → is_turned_on_at s device now ≡ true
 on_by_record s now device r at =
     let on : turns_on device r.event.what ≡ true = ap (turns_on device) (sym r.same) ∙ eq-eqb device.0 device.0 refl in
-    let then_ : (amount r.event.time == now) ≡ true = eq-eqb (amount r.event.time) now (ap amount (sym r.at) ∙ at) in
-    in_any (λ (e : Event). turns_on device e.what && amount e.time == now) s.events r.event (in_at s.events r.before r.event r.is)
-    (ap (λ (b : Bool). b && amount r.event.time == now) on ∙ then_)
+    let then_ = eq-eqb (amount r.event.time) now (ap amount (sym r.at) ∙ at) in
+    in_any (λ e. turns_on device e.what && amount e.time == now) s.events r.event (in_at s.events r.before r.event r.is)
+    (rw on then_)
 
 -- ---- the record of an event
 
@@ -49,8 +49,7 @@ pub recorded : (s : Scenario) (frontier : List ℕ) (hs : List Happening) (i : �
     × (numbered hs n ≡ Some h) × (h.note.time ≡ e.time)
     × (h.note.body ≡ notes.Event (i + 1) e.what)
 recorded s frontier hs i e run get begun told =
-    let p = amount e.time ∷ 1 ∷ (i + 1) ∷ [] in
-    let at = split place_of (IsDue s) hs p run.founded in
+    let at = split place_of (IsDue s) hs (amount e.time ∷ 1 ∷ (i + 1) ∷ []) run.founded in
     let note : Note = record { number = length at.front + 1; time = e.time; body = notes.Event (i + 1) e.what } in
     let x = happening s.network at.front note in
     let due : IsDue s at.front x = record {
@@ -59,5 +58,4 @@ recorded s frontier hs i e run get begun told =
       begun = begun;
       cause = record { event = e; before = i; line_is = refl; is = get; at = refl; same = refl };
     } in
-    let there = due_is_there {s = s} {mark = frontier} {x = x} at run due told in
-    (x.note.number, x, by_number s hs x run.founded there, refl, refl)
+    (x.note.number, x, by_number s hs x run.founded (due_is_there at run due told), refl, refl)

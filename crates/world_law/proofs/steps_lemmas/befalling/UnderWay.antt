@@ -1,5 +1,5 @@
 -- What the events of an instant put on wires, and what else is under way when their outcomes are settled.
-use Rattle.world_law.proofs.{runs.Firsts.arrives_later, steps_lemmas.Words.{ℕ, refl, ripe_place, some_same, subst, sym, time_of, true, wire_place}}
+use Rattle.world_law.proofs.{runs.Firsts.arrives_later, steps_lemmas.Words.{ℕ, refl, ripe_place, some_same, sym, time_of, true, wire_place}}
 use Rattle.world_law.proofs.steps_lemmas.Words.{◌<◌, ◌∙◌, ◌∷◌, ◌≡◌, ◌≤◌, ◌⊎◌, AreAtPorts, AreOnWires, AreUntold, AreWaiting, Arrives, AtPort, Befell, DeviceId}
 use Rattle.world_law.proofs.steps_lemmas.Words.{Happening, IsBefore, IsEventBody, IsIn, LinkId, List, NoteBody, OnWire, Scenario, Signal, Some, Waiting, What}
 use Rattle.world_law.proofs.steps_lemmas.Words.{[], ap, arith, before_behind, behind, chain, false, has_outcome, inl, inr, launched, numbered, numbered_in}
@@ -22,8 +22,8 @@ goes_on {now} m p b =
 -- what is of rank 2 or more, and no such place, it goes by only where it is of an earlier time
 pub earlier_only : (t k w now : ℕ) (ws : List ℕ) → 2 ≤ k → IsBefore (t ∷ k ∷ w ∷ ws) (behind (now ∷ 2 ∷ [])) → t < now
 earlier_only t k w now ws high (inl lt) = lt
-earlier_only t k w now ws high (inr (e, inl few)) = absurd (omega (arith, high, few))
-earlier_only t k w now ws high (inr (e, inr (r, inl less))) = absurd (omega (arith, less))
+earlier_only t k w now ws high (inr (e, inl few)) = absurd (omega arith)
+earlier_only t k w now ws high (inr (e, inr (r, inl less))) = absurd (omega arith)
 earlier_only t k w now ws high (inr (e, inr (r, inr (z, none)))) = absurd none
 
 pub not_gone_by : {hs : List Happening} {frontier : List ℕ} {now : ℕ} {befell : List Befell} (t k w : ℕ) (ws : List ℕ)
@@ -54,7 +54,7 @@ pub record IsPutByOne (s : Scenario) (hs : List Happening) (befell : List Befell
 
 put_real : (s : Scenario) (hs : List Happening) (befell : List Befell) (old new : List OnWire) → ArePutBy s hs befell old new → (e : OnWire) → IsIn e new
     → IsIn e old ⊎ IsPutByOne s hs befell e
-put_real s hs [] old new put e i = inl (subst (λ l. IsIn e l) put i)
+put_real s hs [] old new put e i = inl (rw put at i)
 put_real s hs (x ∷ befell) old new (mid, h, there, first, later) e i =
     elim (put_real s hs befell mid new later e i) [
       | inl before ↦ elim (first.real e before) [
@@ -66,7 +66,7 @@ put_real s hs (x ∷ befell) old new (mid, h, there, first, later) e i =
 
 put_kept : (s : Scenario) (hs : List Happening) (befell : List Befell) (old new : List OnWire) → ArePutBy s hs befell old new → (e : OnWire) → IsIn e old
     → IsIn e new
-put_kept s hs [] old new put e i = subst (λ l. IsIn e l) (sym put) i
+put_kept s hs [] old new put e i = rw put i
 put_kept s hs (x ∷ befell) old new (mid, h, there, first, later) e i = put_kept s hs befell mid new later e (first.kept e i)
 
 put_all : {s : Scenario} (hs : List Happening) (befell : List Befell) (old new : List OnWire)
@@ -76,9 +76,13 @@ put_all : {s : Scenario} (hs : List Happening) (befell : List Befell) (old new :
 put_all hs [] old new put x i there arrives = absurd i
 put_all {s} hs (y ∷ befell) old new (mid, g, at, first, later) x
     (inl same) {h} there {device} {link} {t} {signal} arrives =
-    let one : h ≡ g = some_same h g _ (subst (λ (z : Befell). numbered hs z.number ≡ Some h) same there) at in
-    let it = first.all device link t signal (subst (λ z. Arrives s z device link t signal) one arrives) in
-    (it.0, put_kept s hs befell mid new later it.0 it.1, it.2 ∙ ap (λ (z : Befell). t ∷ 2 ∷ device.0 ∷ link.0 ∷ z.number ∷ []) (sym same))
+    let one = some_same h g _ (rw same at there) at in
+    let it = first.all device link t signal (rw one at arrives) in (
+      it.0,
+      put_kept s hs befell mid new later it.0 it.1,
+      it.2 ∙ ap (λ z. t ∷ 2 ∷ device.0 ∷ link.0 ∷ z.number ∷ [])
+          (sym same),
+    )
 put_all hs (y ∷ befell) old new (mid, g, at, first, later) x (inr i) there arrives =
     put_all hs befell mid new later x i there arrives
 
@@ -96,28 +100,26 @@ module _ (s : Scenario) (hs : List Happening) (frontier : List ℕ) (now : ℕ) 
           )
       | inr it ↦
           let record_of = m.untold.real it.x it.one in
-          let same : it.h ≡ record_of.1 = some_same it.h record_of.1 _ it.there record_of.2.there in
+          let same = some_same it.h record_of.1 _ it.there record_of.2.there in
           let at : time_of it.h ≡ now = ap time_of same ∙ record_of.2.same_time in
           let later = arrives_later forward it.arrives in (
             record { putting = it.h; there = ap (numbered hs) it.cause ∙ it.there; arrives = it.arrives },
             λ open_. absurd cc,
             λ b.
                 let lt = earlier_only e.at 2 e.device.0 now (e.link.0 ∷ e.cause ∷ []) (omega arith) b in
-                omega (arith, lt, later, at),
+                omega arith,
           )
     ];
     all = λ t device link cause a told not.
         elim (m.sooner a.putting (numbered_in hs cause a.putting a.there)) [
           | inl lt ↦
-              let it = are.all t device link cause a (λ open_ at. (let bad = at in omega (arith, bad, lt)))
+              let it = are.all t device link cause a (λ open_ at. (let bad = at in omega arith))
               (λ b. not (goes_on m _ b)) in
               (it.0, put_kept s hs befell wires new put it.0 it.1, it.2)
           | inr same ↦
               let is = event_is a.putting.note.body same.1 in
               let out = launch_out s a.putting (time_of a.putting) is.0 is.1 _
-              (subst (λ (b : NoteBody). launched s a.putting (time_of a.putting) b ≡ Some
-              (record { link = link; way = a.arrives.way; signal = a.signal })) is.2
-              a.arrives.put) in
+              (rw is.2 at a.arrives.put) in
               let one = m.untold.all refl cause is.0 is.1 a.putting (record { there = a.there; same_time = same.0 })
               is.2 out in
               put_all hs befell wires new put (record { number = cause; what = is.1 }) one a.there a.arrives

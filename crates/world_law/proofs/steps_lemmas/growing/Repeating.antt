@@ -1,9 +1,9 @@
 -- A machine acts several times at one moment, and comes to an end.
-use Rattle.{run_law.specs.machines.Nodes.turning_on, world_law.proofs.{rows.Dispatching.lawful, steps_lemmas.{Words.{sym, ℕ}, steps.Passed.no_task}}}
+use Rattle.{run_law.specs.machines.Nodes.turning_on, world_law.proofs.{rows.Dispatching.lawful, steps_lemmas.{Words.{ℕ}, steps.Passed.no_task}}}
 use Rattle.world_law.proofs.{growing.Acts.{acts_are_few, may_act_then, one_more_act}, steps_lemmas.{growing.FromZero.kept_from_zero, hearing.Calling.may_call}}
-use Rattle.world_law.proofs.steps_lemmas.Words.{◌++◌, ◌+◌, ◌^◌, ◌∙◌, ◌∷◌, ◌≡◌, ◌≤◌, DeviceId, IsBefore, IsHeld, IsReadyAt, IsSteady, Joining, List, MayCall}
+use Rattle.world_law.proofs.steps_lemmas.Words.{◌++◌, ◌+◌, ◌^◌, ◌∷◌, ◌≡◌, ◌≤◌, DeviceId, IsBefore, IsHeld, IsReadyAt, IsSteady, Joining, List, MayCall}
 use Rattle.world_law.proofs.steps_lemmas.Words.{Network, Node, NoteBody, Phase, Ripe, Scenario, State, Units, Verdict, [], acting, amount, arith}
-use Rattle.world_law.proofs.steps_lemmas.Words.{cases_lt, chain, happenings, inl, inr, length, length-append, moment_of, rank_of_call, refl, subst}
+use Rattle.world_law.proofs.steps_lemmas.Words.{cases_lt, chain, happenings, inl, inr, length, length-append, moment_of, rank_of_call, refl}
 use Rattle.world_law.specs.steps.{Acting.{correction_bodies, first_bodies, joining_bodies}, Repeating.{ActsAddUp, ActsAreBounded, ActsBringFew, NoActYet}}
 use Rattle.run_law.specs.declared.steps.Act.TheVariants as acts
 use Rattle.run_law.specs.declared.steps.Ripe.TheVariants as ripe
@@ -18,10 +18,10 @@ acts_add_up stands network device moment result times old mid new range rules be
     let may_now = may_act_then network device moment so.0 so.1 range rules may so.3 in
     let then_is = once so.1 so.4 may_now (due so.1 so.4) in
     let many = so.2 in
-    let counted : length (so.0 ++ result ∷ []) ≡ length so.0 + 1 = length-append so.0 (result ∷ []) in (
+    let counted = length-append so.0 (result ∷ []) in (
       so.0 ++ result ∷ [],
       then_is.0,
-      omega (arith, many, counted),
+      omega arith,
       one_more_act network device moment node so.1 so.0 result then_is.0 so.3 then_is.1,
       then_is.2,
     )
@@ -33,8 +33,8 @@ up_to_acting turning_on = omega arith
 up_to_acting phase = omega arith
 
 not_behind : (now : ℕ) (more : List ℕ) → IsBefore (now ∷ 4 ∷ more) (now ∷ 4 ∷ []) → ⊥
-not_behind now more (inl lt) = omega (arith, lt)
-not_behind now more (inr (e, inl lt)) = omega (arith, lt)
+not_behind now more (inl lt) = omega arith
+not_behind now more (inr (e, inl lt)) = omega arith
 not_behind now more (inr (e, inr (f, b))) = b
 
 -- a device that is ready may act
@@ -48,9 +48,8 @@ may_act_now s ready steady limit =
 pub acts_are_bounded : {C M : Type 0} (reading : C → ℕ → ℕ) (stands : M → Network → DeviceId → Node → Type 0) → ActsAreBounded reading stands
 acts_are_bounded {C} {M} reading stands s world notes device machine new times old of_it there due so =
     let held = old.devices device of_it in
-    let one : held.0 ≡ machine = (let same = sym held.1 ∙ there in cc) in
-    by (subst (λ m. IsHeld stands s (happenings s.network notes) world.settled old.frontier world.now device m) one
-    held.2)
+    let one : held.0 ≡ machine = (cc) in
+    by (rw one at held.2)
   where
     by : IsHeld stands s (happenings s.network notes) world.settled old.frontier world.now device machine → times ≤ 259
     by (inr k) =
@@ -58,13 +57,12 @@ acts_are_bounded {C} {M} reading stands s world notes device machine new times o
         absurd (no_task s.network device k.node has.0 k.shows has.1)
     by (inl k) =
         let may = may_act_now s k.ready (old.steady device) old.limit in
-        let law = lawful reading stands s world notes old device in
         let zero_on = kept_from_zero stands s (happenings s.network notes) world.settled old.frontier world.now device
-        machine k law in
+        machine k (lawful reading stands s world notes old device) in
         let chain_of = so k.node k.is may in
         let few = acts_are_few s.network device (moment_of s device world.now) k.node chain_of.0 chain_of.1 old.range old.rules zero_on may chain_of.3 in
         let many = chain_of.2 in
-        omega (arith, few, many)
+        omega arith
 
 -- ---- what an act brings
 
@@ -79,16 +77,16 @@ module _ (n : ℕ) (device : DeviceId) where
 
   few_corrected : (was : State) (cycle : ℕ) (adjustment : Units) (verdict : Verdict)
       → length (correction_bodies n device was cycle adjustment verdict) ≤ 2
-  few_corrected was cycle adjustment (verdicts.Corrected by) = let few = few_first was in omega (arith, few)
+  few_corrected was cycle adjustment (verdicts.Corrected by) = let few = few_first was in omega arith
   few_corrected was cycle adjustment other = omega arith
 
 of_length : (bodies others : List NoteBody) → bodies ≡ others → length others ≤ 2 → length bodies ≤ 2
-of_length bodies others is few = subst (λ l. length l ≤ 2) (sym is) few
+of_length bodies others is few = rw is few
 
 pub acts_bring_few : ActsBringFew
 acts_bring_few s hs now device was adjustment (acts.Send frame) bodies are = of_length bodies _ are (omega arith)
 acts_bring_few s hs now device was adjustment (acts.Emit sent heard) bodies are =
-    let few = few_joining (length hs + 1) device heard in of_length bodies _ are (omega (arith, few))
+    let few = few_joining (length hs + 1) device heard in of_length bodies _ are (omega arith)
 acts_bring_few s hs now device was adjustment (acts.Correct cycle verdict) bodies are =
     of_length bodies _ are (few_corrected (length hs + 1) device was cycle adjustment verdict)
 acts_bring_few s hs now device was adjustment (acts.Dispatch row cycle) bodies are = of_length bodies _ are.4 (omega arith)

@@ -1,14 +1,14 @@
 -- A frame on a wire arrives, and its device's machine hears it.
 use Rattle.run_law.specs.machines.{Answers.after_arrival, Calls.MayArrive}
-use Rattle.world_law.proofs.steps_lemmas.Words.{ComesFirst, DeviceId, Happening, IsBefore, IsHeld, IsIn, IsKept, IsNoTaking, IsOut, IsPutIn, IsSet}
+use Rattle.world_law.proofs.steps_lemmas.Words.{ComesFirst, DeviceId, Happening, IsBefore, IsHeld, IsIn, IsKept, IsNoTaking, IsOut, IsSet}
 use Rattle.world_law.proofs.steps_lemmas.Words.{IsSteady, IsWithout, LinkId, List, Network, Node, Note, OnWire, Scenario, Some, Stands, StandsBehind}
-use Rattle.world_law.proofs.steps_lemmas.Words.{TakenFrame, VlId, World, ℕ, ℤ, [], amount, ap, arith, arrival_at, arrival_body, arrival_of, arriving}
+use Rattle.world_law.proofs.steps_lemmas.Words.{TakenFrame, VlId, World, ℕ, ℤ, [], amount, ap, arith, arrival_body, arrival_of, arriving}
 use Rattle.world_law.proofs.steps_lemmas.Words.{bears_on, behind, called, chain, comes_first, devices_then, eq-eqb, false, happenings, held_aside}
 use Rattle.world_law.proofs.steps_lemmas.Words.{if◌then◌else◌, in_parts, in_right, inl, inr, is_end, known_aside, length, moment_of, moves_no_other, ne_eqb}
-use Rattle.world_law.proofs.steps_lemmas.Words.{never_self, no_task_at, place_of, ports_still, pos, rank, refl, settled_as, signal_of, slice_get, some_same, stands_on}
+use Rattle.world_law.proofs.steps_lemmas.Words.{never_self, no_task_at, place_of, ports_still, pos, rank, refl, signal_of, slice_get, some_same, stands_on}
 use Rattle.world_law.proofs.steps_lemmas.Words.{subst, sym, taken_in, time_of, waiting_still, wire_place, wires_move}
-use Rattle.world_law.proofs.steps_lemmas.Words.{◌++◌, ◌+◌, ◌<◌, ◌==◌, ◌^◌, ◌∙◌, ◌∷◌, ◌≡◌, ◌≤ℤ◌, ◌≤◌, AreOfNetwork, ArePutIn, AreSettled, Arrival, Bool}
-use Rattle.world_law.proofs.steps_lemmas.hearing.Timed.{IsAfterGiven, given_by_now, heard_as_all, kept_judges, no_taking}
+use Rattle.world_law.proofs.steps_lemmas.Words.{◌++◌, ◌+◌, ◌<◌, ◌==◌, ◌^◌, ◌∙◌, ◌∷◌, ◌≡◌, ◌≤ℤ◌, ◌≤◌, AreOfNetwork, ArePutIn, AreSettled, Arrival}
+use Rattle.world_law.proofs.steps_lemmas.hearing.Timed.{IsAfterGiven, heard_as_all, kept_judges, no_taking}
 use Rattle.world_law.proofs.steps_lemmas.hearing.{Called.{After, kept_by, kept_called, out_called}, Calling.may_call, Judging.{broken_drops, out_drops}}
 use Rattle.world_law.proofs.steps_lemmas.hearing.{Putting.{IsHeardAs, IsReceived, IsReceiving, least_rank, received}, Receptions.{device_there, placed_at}}
 use Rattle.world_law.proofs.steps_lemmas.hearing.{Ranked.{accepted_high, delivered_high, rank_is}, Settling.arrival_put, Took.took}
@@ -19,7 +19,7 @@ use Rattle.run_law.specs.declared.steps.Arrival.TheVariants as arrivals
 -- A frame arrives: the world stands behind it, where its devices do.
 
 wire_at : (e : OnWire) (now : ℕ) → e.at ≡ now → wire_place e ≡ now ∷ 2 ∷ e.device.0 ∷ e.link.0 ∷ e.cause ∷ []
-wire_at e now at = ap (λ (t : ℕ). t ∷ 2 ∷ e.device.0 ∷ e.link.0 ∷ e.cause ∷ []) at
+wire_at e now at = rw at
 
 module _ {C M : Type 0} (reading : C → ℕ → ℕ) (stands : M → Network → DeviceId → Node → Type 0) (s : Scenario)
     (world : World C M) (notes : List Note) (e : OnWire) where
@@ -49,12 +49,11 @@ module _ {C M : Type 0} (reading : C → ℕ → ℕ) (stands : M → Network �
       → StandsBehind reading stands s
       (record world { early = false; machines = machines; wires = wires; settled = settled }) notes wire_here
   heard_behind machines wires {old} i at first without long are known devices =
-      let c = arriving_first {old = old} i at first in
-      let room = first.room in
-      stands_on c machines world.shown (omega (arith, long, room)) are known devices
+      let c = arriving_first i at first in
+      stands_on c machines world.shown (omega arith) are known devices
       (wires_move (goes_by s hs_of wire_here) wires c.wires
-      (subst (λ q. IsWithout wire_place q world.wires wires) (wire_at e world.now at) without))
-      (ports_still c (λ eight. omega (arith, eight))) (waiting_still c (λ three. omega (arith, three)))
+      (rw (wire_at e world.now at) at without))
+      (ports_still c (λ eight. omega arith)) (waiting_still c (λ three. omega arith))
       (shown_still c (omega arith))
 
   -- its record is put in
@@ -67,12 +66,9 @@ module _ {C M : Type 0} (reading : C → ℕ → ℕ) (stands : M → Network �
       → ArePutIn s.network hs_of world.now (arrival_body e.device e.link e.cause is ∷ []) world.settled settled
       → IsReceived s hs_of world.settled world.now e is settled
   heard_put settled is {old} i at first so least (mid, put, last) =
-      received is {settled = settled}
-      (arriving_first {old = old} i at first).moving old.run.founded (old.wires.real e i).0 at so least
-      (subst (λ l. IsPutIn
-      (settled_as s.network hs_of world.now (arrival_body e.device e.link e.cause is))
-      world.settled l)
-      (sym last) put)
+      received is
+      (arriving_first i at first).moving old.run.founded (old.wires.real e i).0 at so least
+      (rw last put)
 
 -- A frame arrives at its device: it is judged as the records say, and each device is kept behind it.
 
@@ -107,11 +103,9 @@ module _ {M : Type 0} (stands : M → Network → DeviceId → Node → Type 0) 
       let here = now ∷ 2 ∷ more in
       let call = may_call s here now e.device k.node arriving more k.ready k.phase h.steady h.limit (never_self here) in
       let so = h.hears k.node k.is call h.may in
-      let drops = so.0 ∙ out_drops s.network e.device k.node m e.link (signal_of octets) k.shows in
-      let is : stands heard s.network e.device (called m arriving k.node) = subst
-      (λ a. stands heard s.network e.device (called m arriving (after_arrival k.node m a))) drops so.1 in (
+      let drops = so.0 ∙ out_drops s.network e.device k.node m e.link (signal_of octets) k.shows in (
         drops ∙ sym (broken_drops s (hs ++ coming) e.device now e.link e.cause e.signal k.broken),
-        out_called stands s hs coming here (behind here) heard arriving k is (after_here s now e),
+        out_called stands s hs coming here (behind here) heard arriving k (rw drops at so.1) (after_here s now e),
       )
 
   -- a sound device judges it as the records say
@@ -126,8 +120,8 @@ module _ {M : Type 0} (stands : M → Network → DeviceId → Node → Type 0) 
       k.phase h.steady h.limit (never_self here) in
       let so = h.hears k.node k.is call h.may in (
         so.0
-            ∙ ap (λ x. arrival_at s.network e.device k.node m e.link x) h.octets_of
-            ∙ kept_judges e.signal h.given k,
+            ∙ (rw h.octets_of
+            (kept_judges e.signal h.given k)),
         so.1,
       )
 
@@ -150,9 +144,9 @@ module _ (device of : DeviceId) (link : LinkId) (cause : ℕ) where
   -- and another device takes nothing by it
   pub others_take : (is : Arrival) → (device.0 == of.0) ≡ false → IsNoTaking device (arrival_body of link cause is)
   others_take (arrivals.Accepted vl cycle) e =
-      λ at. ap (λ (b : Bool). if b then record { vl = vl; cycle = cycle; at = at } ∷ [] else []) e
+      λ at. rw e
   others_take (arrivals.Delivered vl cycle) e =
-      λ at. ap (λ (b : Bool). if b then record { vl = vl; cycle = cycle; at = at } ∷ [] else []) e
+      λ at. rw e
   others_take other e = λ at. refl
 
 pub quiet_for : {M : Type 0} (stands : M → Network → DeviceId → Node → Type 0) {s : Scenario}
@@ -162,10 +156,9 @@ pub quiet_for : {M : Type 0} (stands : M → Network → DeviceId → Node → T
 quiet_for stands {hs} {front} {back} {e} {is} a r device = record {
   bears = ap (bears_on device) r.body ∙ quiet_body device e.device e.link e.cause is;
   sooner = λ h i.
-      let at = r.one.at in
       elim (in_parts h hs (front ++ back) i) [
-        | inl old ↦ let le = given_by_now a h old in omega (arith, le, at)
-        | inr new ↦ let is_now = a.moving.are.of_now h new in omega (arith, is_now, at)
+        | inl old ↦ omega arith
+        | inr new ↦ omega arith
       ];
 }
 
@@ -173,9 +166,9 @@ quiet_for stands {hs} {front} {back} {e} {is} a r device = record {
 
 -- no act is before what follows an arrival
 four_after : (now d : ℕ) (more : List ℕ) → IsBefore (now ∷ 4 ∷ d ∷ []) (now ∷ 2 ∷ more) → ⊥
-four_after now d more (inl lt) = omega (arith, lt)
-four_after now d more (inr (e, inl lt)) = omega (arith, lt)
-four_after now d more (inr (e, inr (f, b))) = omega (arith, f)
+four_after now d more (inl lt) = omega arith
+four_after now d more (inr (e, inl lt)) = omega arith
+four_after now d more (inr (e, inr (f, b))) = omega arith
 
 longer_place : (now a b c : ℕ) → now ∷ 2 ∷ [] ≡ now ∷ 2 ∷ a ∷ b ∷ c ∷ [] → ⊥
 longer_place now a b c e = cc
@@ -198,10 +191,10 @@ plain_there {stands} {s} {hs} {front} {back} {now} e heard {w} quiet at none k i
 
 -- no place behind it, and before what acts, is before the frontier
 not_over : (now d : ℕ) (more : List ℕ) → IsBefore (now ∷ 2 ∷ (d + 1) ∷ []) (now ∷ 2 ∷ d ∷ more) → ⊥
-not_over now d more (inl lt) = omega (arith, lt)
-not_over now d more (inr (e, inl lt)) = omega (arith, lt)
-not_over now d more (inr (e, inr (f, inl lt))) = omega (arith, lt)
-not_over now d more (inr (e, inr (f, inr (g, b)))) = omega (arith, g)
+not_over now d more (inl lt) = omega arith
+not_over now d more (inr (e, inl lt)) = omega arith
+not_over now d more (inr (e, inr (f, inl lt))) = omega arith
+not_over now d more (inr (e, inr (f, inr (g, b)))) = omega arith
 
 module _ {M : Type 0} (stands : M → Network → DeviceId → Node → Type 0) (s : Scenario)
     (hs front back : List Happening) (now : ℕ) (e : OnWire) where
@@ -224,7 +217,7 @@ module _ {M : Type 0} (stands : M → Network → DeviceId → Node → Type 0) 
         | inr gone ↦ absurd (not_over now e.device.0 over
             (gone.1 (now ∷ 2 ∷ (e.device.0 + 1) ∷ []) (inr (refl, inl (omega arith)))))
       ] in
-      let rests = rested now on.worked (omega (arith, up)) (four_after now e.device.0 (e.device.0 ∷ over)) in
+      let rests = rested now on.worked (omega arith) (four_after now e.device.0 (e.device.0 ∷ over)) in
       inl (kept_taking stands heard taking steady precise (after_here s now e) on up
       rests)
 
@@ -246,7 +239,7 @@ abbrev frame_of : VlId → ℕ → ℤ → TakenFrame
 frame_of vl cycle z = record { vl = vl; cycle = cycle; at = z }
 
 self_takes : (device : DeviceId) (vl : VlId) (cycle : ℕ) (z : ℤ) → (if device.0 == device.0 then frame_of vl cycle z ∷ [] else []) ≡ frame_of vl cycle z ∷ []
-self_takes device vl cycle z = ap (λ (b : Bool). if b then frame_of vl cycle z ∷ [] else []) (eq-eqb device.0 device.0 refl)
+self_takes device vl cycle z = rw (eq-eqb device.0 device.0 refl)
 
 module _ {M : Type 0} (stands : M → Network → DeviceId → Node → Type 0) (s : Scenario)
     (hs front back : List Happening) (now : ℕ) (e : OnWire) (machine heard : M)
@@ -291,11 +284,9 @@ module _ {M : Type 0} (stands : M → Network → DeviceId → Node → Type 0) 
       → IsHeld stands s hs (front ++ w ∷ back) (behind (now ∷ 2 ∷ e.device.0 ∷ e.link.0 ∷ e.cause
       ∷ [])) now e.device heard
   held_there {is} h r so (inl k) =
-      let m = moment_of s e.device now in
       let it = kept_answers stands s hs (front ++ back) now e machine heard octets result h k in
       kept_there is h r so k
-      (subst (λ a. stands heard s.network e.device (called m arriving (after_arrival k.node m a)))
-      (it.0 ∙ sym so) it.1)
+      (rw (it.0 ∙ sym so) at it.1)
   held_there {w} h r so (inr k) =
       let quiet = quiet_for stands h.given r e.device in
       let dropped = so ∙ broken_drops s (hs ++ (front ++ back)) e.device now e.link e.cause e.signal k.broken in
@@ -323,15 +314,13 @@ heard_step {C} {M} reading stands s world notes e machine heard octets result ma
     let hs = happenings s.network notes in
     let now = world.now in
     let more = e.device.0 ∷ e.link.0 ∷ e.cause ∷ [] in
-    let here = now ∷ 2 ∷ more in
-    let c = arriving_first reading stands s world notes e {old = old} i at first in
+    let c = arriving_first reading stands s world notes e i at first in
     let a : IsAfterGiven s hs world.settled now e =
     record { moving = c.moving; within = c.run.within } in
     let is = arrival_of s (hs ++ world.settled) e.device now e.link e.cause e.signal in
     let own = c.devices e.device (device_there s hs e old.range (old.wires.real e i).0) in
-    let one : own.0 ≡ machine = some_same own.0 machine _ own.1 got in
     let held : IsHeld stands s hs world.settled (now ∷ 2 ∷ e.device.0 ∷ e.link.0 ∷ e.cause ∷ []) now e.device machine =
-    subst (λ x. IsHeld stands s hs world.settled (now ∷ 2 ∷ e.device.0 ∷ e.link.0 ∷ e.cause ∷ []) now e.device x) one own.2 in
+    rw (some_same own.0 machine _ own.1 got) at own.2 in
     let h : IsHearingIt stands s hs world.settled now e machine heard octets result = record {
       given = a;
       precise = old.precise;
@@ -341,31 +330,23 @@ heard_step {C} {M} reading stands s world notes e machine heard octets result ma
       may = may;
       hears = hears;
     } in
-    let answer : result ≡ is = held_answers stands s hs world.settled now e machine heard octets result h held in
-    let r = heard_put reading stands s world notes e settled is {old = old} i at first
+    let answer = held_answers stands s hs world.settled now e machine heard octets result h held in
+    let r = heard_put reading stands s world notes e settled is i at first
     (heard_as_all a) (rank_is s e.device now e.link e.cause e.signal)
-    (subst (λ x. ArePutIn s.network hs now (arrival_body e.device e.link e.cause x ∷ []) world.settled settled) answer
-    put) in
-    let a2 : IsAfterGiven s hs (r.front ++ r.back) now e =
-    subst (λ l. IsAfterGiven s hs l now e) r.whole a in
-    let quiet = quiet_for stands a2 r.it in
-    let then_ = r.front ++ r.w ∷ r.back in
-    subst (λ (l : List Happening).
-    StandsBehind reading stands s (record world { early = false; machines = machines; wires = wires; settled = l })
-    notes here)
-    (sym r.shows)
-    (heard_behind reading stands s world notes e machines wires {settled = then_} {old = old} i at first without r.long
+    (rw answer at put) in
+    let quiet = quiet_for stands (rw r.whole at a) r.it in
+    rw r.shows (heard_behind reading stands s world notes e machines wires i at first without r.long
     (arrival_put s hs r.front r.back now e is r.w r.it)
     (known_aside hs r.front r.back r.w (λ device le. moves_no_other device r.w.note.body (quiet device).bears)
-    (subst (λ (l : List Happening). AreOfNetwork s (hs ++ l)) r.whole old.known))
+    (rw r.whole at old.known))
     (devices_then c e.device (λ other not. no_task_at s.network now other 2 more (inl (omega arith))) set
     (held_there stands s hs r.front r.back now e machine heard octets result
-    (subst (λ l. IsHearingIt stands s hs l now e machine heard octets result) r.whole h) r.it
-    (ap (λ (l : List Happening). arrival_of s (hs ++ l) e.device now e.link e.cause e.signal) r.whole)
-    (subst (λ l. IsHeld stands s hs l (now ∷ 2 ∷ e.device.0 ∷ e.link.0 ∷ e.cause ∷ []) now e.device machine) r.whole held))
+    (rw r.whole at h) r.it
+    (ap (λ l. arrival_of s (hs ++ l) e.device now e.link e.cause e.signal) r.whole)
+    (rw r.whole at held))
     (λ device k not kept.
     held_aside s hs r.front r.back r.w device (quiet device).bears r.it.one.at
     (frames_aside s hs r.front r.back r.w device (quiet device).bears
     (λ z. ap (taken_in device z) r.it.body
     ∙ others_take device e.device e.link e.cause is (ne_eqb device.0 e.device.0 not) z))
-    (subst (λ l. IsHeld stands s hs l (behind here) now device k) r.whole kept))))
+    (rw r.whole at kept))))

@@ -2,7 +2,7 @@
 use Rattle.{run_law.{proofs.law.FirstBroken.off_control, specs.{device.Standpoints.first_reason, machines.Nodes.standpoint_at}}, std.proofs.Common.arith}
 use Rattle.world_law.proofs.steps_lemmas.Words.{◌&&◌, ◌∷◌, ◌≡◌, Bool, DeviceId, Happening, IsLeft, LinkId, List, Moment, Network, Node, Option, Pcf, PcfRefusal}
 use Rattle.world_law.proofs.steps_lemmas.Words.{Reason, Result, Scenario, Signal, Some, Standpoint, Units, VlId, amount, ap, arrival_at, arrival_of, control}
-use Rattle.world_law.proofs.steps_lemmas.Words.{control_arrival, false, field, is_broken, is_off, is_synchronised, last_taken, last_taken_by, nat_lt, not}
+use Rattle.world_law.proofs.steps_lemmas.Words.{false, field, is_broken, is_off, is_synchronised, last_taken, last_taken_by, nat_lt, not}
 use Rattle.world_law.proofs.steps_lemmas.Words.{octets_fault, octets_or_fault, pos, refl, standpoint, state_before, timed, timed_arrival, true, unsigned_abs, ℕ}
 use Rattle.run_law.specs.declared.judgement.Reason.TheVariants as reasons
 use Rattle.run_law.specs.declared.steps.Arrival.TheVariants as arrivals
@@ -28,7 +28,7 @@ module _ (s : Scenario) (hs : List Happening) (device : DeviceId) (t : ℕ) (nod
       → IsMomentOf s device t moment → arrival_at s.network device node moment link (control frame)
       ≡ arrival_of s hs device t link cause (control frame)
   control_judged link cause frame left at =
-      ap (λ p. control_arrival s.network device link p frame) (same_standpoint left at)
+      rw (same_standpoint left at)
 
 -- ---- a device that takes no part drops all
 

@@ -6,7 +6,7 @@ use Rattle.{run_law.specs.control.Arrivals.{are_others, is_of_other_member}, sch
 use Rattle.{run_law.specs.machines.Calls.{IsFromSwitch, IsLinkAt, IsOneMaster, MayArrive}, tte_units.proofs.general_lemmas.Options.{closed, opened as at_some}}
 use Rattle.{run_law.specs.{scenario.{Devices.member_of, Ways.receiver_of}, timed.Receptions.ArrivesAs}, world_law.proofs.frames.Proper.no_reason}
 use Rattle.std.proofs.Common.{Err, IsSomeAnd, Ok}
-use Rattle.world_law.proofs.steps_lemmas.Words.{◌&&◌, ◌+◌, ◌==◌, ◌^◌, ◌∙◌, ◌∷◌, ◌≡◌, ◌≤◌, Arrival, Arrives, Bool, Channel, DeviceId, Down, Event, Gives}
+use Rattle.world_law.proofs.steps_lemmas.Words.{◌&&◌, ◌+◌, ◌^◌, ◌∙◌, ◌∷◌, ◌≡◌, ◌≤◌, Arrival, Arrives, Bool, Channel, DeviceId, Down, Event, Gives}
 use Rattle.world_law.proofs.steps_lemmas.Words.{Happening, IsArrivedRecord, IsCaused, IsDue, IsFounded, IsIn, IsOfMaster, IsOnWire, IsParentOf, KeepsRules}
 use Rattle.world_law.proofs.steps_lemmas.Words.{Launch, Link, LinkId, List, Members, Network, None, NoteBody, OnWire, Option, Pcf, PcfRefusal, Reason, Result}
 use Rattle.world_law.proofs.steps_lemmas.Words.{Scenario, Signal, Some, Standpoint, Up, Way, [], amount, ap, arith, arrival_body, arrival_of, cases_Bool}
@@ -21,7 +21,7 @@ use Rattle.run_law.specs.declared.note.NoteBody.TheVariants as kinds
 
 -- what holds of the link holds of this one
 of_link : (network : Network) (link : LinkId) (l : Link) (P : Link → Type 0) → link_at network link ≡ Some l → IsSomeAnd (link_at network link) P → P l
-of_link network link l P e h = subst (λ (o : Option Link). IsSomeAnd o P) e h
+of_link network link l P e h = rw e at h
 
 -- ---- no link leads from a switch to itself
 
@@ -35,16 +35,16 @@ no_way_up {network} tree channel device link l e child parent up relay [] path =
     relay_no_cm network channel device relay path
 no_way_up {network} tree channel device link l e child parent up relay (first ∷ links) path =
     let p = at_some _ _ path in
-    let leads : IsUplink network channel device first = closed _ _ p.0 p.1 (p.2.0, p.2.1) in
-    let one : first ≡ link = tree.one_uplink channel device first link leads up in
-    let same : p.0 ≡ l = (let both : Some p.0 ≡ Some l = sym p.1 ∙ ap (link_at network) one ∙ e in cc) in
-    let back : p.0.parent ≡ device = ap (λ (x : Link). x.parent) same ∙ parent in
+    let leads = closed _ _ p.0 p.1 (p.2.0, p.2.1) in
+    let one = tree.one_uplink channel device first link leads up in
+    let same : p.0 ≡ l = (let both = sym p.1 ∙ ap (link_at network) one ∙ e in cc) in
+    let back : p.0.parent ≡ device = rw same parent in
     no_way_up tree channel device link l e child parent up relay links
-    (subst (λ d. IsPath network channel d links) back p.2.2)
+    (rw back at p.2.2)
 
 -- whether a device is an end system
 end_of : (network : Network) (device : DeviceId) (d : Device) → device_at network device ≡ Some d → is_end network device ≡ is_end_system d.role
-end_of network device d e = ap (λ (o : Option Device). option_map_or (λ (x : Device). is_end_system x.role) o false) e
+end_of network device d e = rw e
 
 no_loop : (network : Network) → KeepsRules network → (link : LinkId) (l : Link) → link_at network link ≡ Some l → is_end network l.child ≡ false
     → l.child ≡ l.parent → ⊥
@@ -54,13 +54,12 @@ no_loop network rules link l e switch loop =
     let tree = rules_give_trees network (shape_rules network rules) in
     elim joint.2 [
       | inl end ↦
-          let d = at_some (λ (x : Device). is_end_system x.role ≡ true) (device_at network l.child) end in
-          let bad : true ≡ false = sym (end_of network l.child d.0 d.1 ∙ d.2) ∙ switch in cc
+          let d = at_some (λ x. is_end_system x.role ≡ true) (device_at network l.child) end in
+          let bad = sym (end_of network l.child d.0 d.1 ∙ d.2) ∙ switch in cc
       | inr relay ↦
-          let d = at_some (λ (x : Device). (x.role ≡ Relay) × (x.channel ≡ Some channel)) (device_at network l.child) relay in
-          let up : IsUplink network channel l.child link = closed _ _ l e (refl, joint.1) in
+          let d = at_some (λ x. (x.role ≡ Relay) × (x.channel ≡ Some channel)) (device_at network l.child) relay in
           let reach = tree.reach channel l.child (closed _ _ d.0 d.1 (inr d.2.1)) in
-          no_way_up tree channel l.child link l e refl (sym loop) up relay reach.0 reach.2
+          no_way_up tree channel l.child link l e refl (sym loop) (closed _ _ l e (refl, joint.1)) relay reach.0 reach.2
     ]
 
 -- ---- what a record puts on a link
@@ -73,7 +72,7 @@ pub data Puts (s : Scenario) (h : Happening) (link : LinkId) (way : Way) (frame 
       → Puts s h link way frame
 
 left_of : (o : Option Pcf) (own link : LinkId) (from way : Way) (frame : Pcf)
-    → option_map (λ (f : Pcf). (let x : Launch = record { link = own; way = from; signal = control (Ok f) } in x)) o
+    → option_map (λ f. (let x : Launch = record { link = own; way = from; signal = control (Ok f) } in x)) o
     ≡ Some (record { link = link; way = way; signal = control (Ok frame) }) → (o ≡ Some frame) × (own ≡ link) × (from ≡ way)
 left_of None own link from way frame e = absurd cc
 left_of (Some f) own link from way frame e = grind (arith, control, option_map_or)
@@ -88,14 +87,15 @@ puts_by : (s : Scenario) (h : Happening) (t : ℕ) (body : NoteBody) (link : Lin
     → launched s h t body ≡ Some (record { link = link; way = way; signal = control (Ok frame) }) → Puts s h link way frame
 puts_by s h t (kinds.Left device own cause clock) link way frame is e =
     let it = left_of h.frame own link (way_from s.network device own) way frame e in
-    Puts.leaving device cause clock (is ∙ ap (λ (x : LinkId). kinds.Left device x cause clock) it.1) it.0
+    Puts.leaving device cause clock (is ∙ (rw it.1)) it.0
     (sym it.2 ∙ ap (way_from s.network device) it.1)
 puts_by s h t (kinds.TtSent device own cause vl cycle) link way frame is e =
-    let signals : timed h.octets ≡ control (Ok frame) = ap (λ (o : Option Launch). option_map_or (λ x. x.signal) o (control (Ok frame))) e in
+    let signals : timed h.octets ≡ control (Ok frame) = ap (λ o. option_map_or (λ x. x.signal) o (control (Ok frame)))
+    e in
     absurd cc
 puts_by s h t (kinds.Event line (events.Send own octets)) link way frame is e =
     let it = sent_of (is_cut s own Up t) own link way (signal_of octets) frame e in
-    Puts.sending line octets (is ∙ ap (λ (x : LinkId). kinds.Event line (events.Send x octets)) it.0) it.2 (sym it.1)
+    Puts.sending line octets (is ∙ (rw it.0)) it.2 (sym it.1)
 puts_by s h t other link way frame is e = absurd cc
 
 -- the record's frame is the one that it puts on the link
@@ -108,14 +108,14 @@ frame_put : {s : Scenario} {front : List Happening} {h : Happening} {link : Link
     → IsDue s front h → Puts s h link way frame → h.frame ≡ Some frame
 frame_put due (Puts.leaving device cause clock is of_frame by) = of_frame
 frame_put {s} {front} {frame} due (Puts.sending line octets is signal by) =
-    ap (λ (x : Happening). x.frame) due.same ∙ ap (frame_by s.network front) is ∙ decoded_of _ _ octets frame signal
+    rw due.same (ap (frame_by s.network front) is ∙ decoded_of _ _ octets frame signal)
 
 -- ---- what a switch takes
 
 -- a control frame that is taken, by its rank, is of its link's end system, where it comes from one
 fault_of : (network : Network) (device : DeviceId) (link : LinkId) (cause : ℕ) (p : Standpoint) (frame : Pcf) (fault : Option Reason)
     → rank (arrival_body device link cause (frame_or_fault network device link p frame fault)) ≡ 2 → fault ≡ None
-fault_of network device link cause p frame (Some reason) e = absurd (let bad : ◌≡◌ {A = ℕ} 13 2 = e in omega (arith, bad))
+fault_of network device link cause p frame (Some reason) e = absurd (omega arith)
 fault_of network device link cause p frame None e = refl
 
 pub record IsTakenSo (s : Scenario) (device : DeviceId) (link : LinkId) (signal : Signal) : Type 0 where
@@ -126,21 +126,20 @@ pub record IsTakenSo (s : Scenario) (device : DeviceId) (link : LinkId) (signal 
 module _ (s : Scenario) (js : List Happening) (device : DeviceId) (t : ℕ) (link : LinkId) (cause : ℕ) where
   taken_so : (signal : Signal) → rank (arrival_body device link cause (arrival_of s js device t link cause signal))
       ≡ 2 → IsTakenSo s device link signal
-  taken_so (control (Err refusal)) e = absurd (let bad : ◌≡◌ {A = ℕ} 13 2 = e in omega (arith, bad))
+  taken_so (control (Err refusal)) e = absurd (omega arith)
   taken_so (control (Ok frame)) e = grind (arith, standpoint, nat_lt, amount, fault_of, frame_fault, no_reason, not)
   taken_so (timed octets) e =
       absurd (low (is_end s.network device)
-      (subst (λ n. (if is_end s.network device then 12 else 11) ≤ n) e
-      (rank_is s device t link cause (timed octets) js)))
+      (rw e at (rank_is s device t link cause (timed octets) js)))
     where
       low : (b : Bool) → (if b then 12 else 11) ≤ 2 → ⊥
-      low true le = omega (arith, le)
-      low false le = omega (arith, le)
+      low true le = omega arith
+      low false le = omega arith
 
   arrived_so : {is : Arrival} → rank (arrival_body device link cause is) ≡ 2
       → (a : ArrivesAs s js device t link cause is) → IsTakenSo s device link a.signal
   arrived_so two a =
-      taken_so a.signal (ap (λ x. rank (arrival_body device link cause x)) (sym a.becomes) ∙ two)
+      taken_so a.signal (rw (sym a.becomes) two)
 
 -- an arrival that is recorded is of a control frame that is taken
 pub record IsArrivalOf (s : Scenario) (js : List Happening) (device : DeviceId) (t : ℕ) (link : LinkId) (cause : ℕ) : Type 0 where
@@ -159,7 +158,7 @@ module _ (s : Scenario) (js : List Happening) (device : DeviceId) (t : ℕ) (lin
         putting = a.putting;
         there = a.there;
         frame = it.frame;
-        arrives = subst (λ x. Arrives s a.putting device link t x) it.is a.arrives;
+        arrives = rw it.is at a.arrives;
         own = it.own;
       }
 
@@ -206,17 +205,20 @@ from_below : {s : Scenario} {hs : List Happening} (n : ℕ) → IsUpTo s hs n
     → (a : IsArrivalOf s hs device t link cause) → IsParentOf s.network device link
     → IsOfMaster s.network device link a.frame.members
 from_below {s} n up {device} {t} {link} {cause} le a parent =
-    let l = at_some (λ (x : Link). x.parent ≡ device) (link_at s.network link) parent in
+    let l = at_some (λ x. x.parent ≡ device) (link_at s.network link) parent in
     let own : (child : DeviceId) → IsChildOf s.network child link → is_end s.network child ≡ true
     → IsSomeAnd (member_of s.network child) (λ member. a.frame.members.0 ≡ 2 ^ member) = λ child of end.
-    let is : l.0.child ≡ child = of_link s.network link l.0 (λ (x : Link). x.child ≡ child) l.1 of in
-    subst (λ (d : DeviceId). IsSomeAnd (member_of s.network d) (λ member. a.frame.members.0 ≡ 2 ^ member)) is
-    (own_master s.network device link l.0 a.frame.members l.1 l.2 (ap (is_end s.network) is ∙ end) a.own) in
+    let is = of_link s.network link l.0 (λ x. x.child ≡ child) l.1 of in
+    rw is at (own_master s.network device link l.0 a.frame.members l.1 l.2 (ap (is_end s.network) is ∙ end) a.own) in
     record {
       one = elim (cases_Bool (is_end s.network l.0.child)) [
         | inl end ↦ (l.0.child, own_master s.network device link l.0 a.frame.members l.1 l.2 end a.own)
         | inr switch ↦ up cause a.putting device link t a.frame le a.there a.arrives
-            (record { parent = parent; from_switch = closed (λ (x : Link). is_end s.network x.child ≡ false) (link_at s.network link) l.0 l.1 switch })
+            (record {
+              parent = parent;
+              from_switch = closed (λ x. is_end s.network x.child ≡ false)
+                  (link_at s.network link) l.0 l.1 switch;
+            })
       ];
       own = own;
     }
@@ -224,8 +226,8 @@ from_below {s} n up {device} {t} {link} {cause} le a parent =
 parent_is : (network : Network) (device : DeviceId) (link : LinkId) (l : Link) → link_at network link ≡ Some l → l.parent ≡ device
     → is_parent_of network device link ≡ true
 parent_is network device link l e parent =
-    ap (λ (o : Option Link). option_map_or (λ (x : Link). x.parent.0 == device.0) o false) e
-    ∙ eq-eqb l.parent.0 device.0 (ap (λ (d : DeviceId). d.0) parent)
+    rw e
+    (eq-eqb l.parent.0 device.0 (rw parent))
 
 -- what comes to the link's upper end comes up
 upward : (network : Network) → KeepsRules network → (sender device : DeviceId) (link : LinkId) (l : Link) → link_at network link ≡ Some l
@@ -241,17 +243,16 @@ given_up : (s : Scenario) (hs : List Happening) (n : ℕ) → IsFounded place_of
 given_up s hs n founded up giving i le device link l e switch above frame of_frame (kinds.Sent master cycle) is g =
     let at = founded_at s hs giving founded i in
     let sends = subst (IsCaused s at.front giving.note.time) is at.due.cause in
-    let child : l.child ≡ device = of_link s.network link l (λ (x : Link). x.child ≡ device) e g.1 in
+    let child = of_link s.network link l (λ x. x.child ≡ device) e g.1 in
     let end : is_end s.network device ≡ true = ap (is_end s.network) g.0 ∙ master_end s.network master sends.master in
-    let bad : true ≡ false = sym (ap (is_end s.network) child ∙ end) ∙ switch in
     absurd cc
 given_up s hs n founded up giving i le device link l e switch above frame of_frame (kinds.Compressed cm opened at cycle members verdict) is g =
     grind (arith, of_link, parent_is)
 given_up s hs n founded up giving i le device link l e switch above frame of_frame (kinds.Arrived relay by cause clock) is g =
     elim g.1.on [
       | inr down ↦
-          let parent : l.parent ≡ device = of_link s.network link l (λ (x : Link). x.parent ≡ device) e down.1 in
-          absurd (let bad : true ≡ false = sym (parent_is s.network device link l e parent) ∙ above in cc)
+          let parent = of_link s.network link l (λ x. x.parent ≡ device) e down.1 in
+          absurd (let bad = sym (parent_is s.network device link l e parent) ∙ above in cc)
       | inl passed ↦
           let at = founded_at s hs giving founded i in
           let arrived : IsArrivedRecord s at.front relay (time_of giving) by cause clock = subst (IsCaused s at.front giving.note.time) is at.due.cause in
@@ -262,56 +263,58 @@ given_up s hs n founded up giving i le device link l e switch above frame of_fra
           ∙ numbered_front at.front (giving ∷ at.rest) cause a.putting a.there in
           let a_hs : IsArrivalOf s hs relay (time_of giving) by cause =
           record { putting = a.putting; there = there; frame = a.frame; arrives = a.arrives; own = a.own } in
-          let parent : IsParentOf s.network relay by = subst (λ d. IsParentOf s.network d by) g.0 passed.0 in
-          let one = (from_below n up (omega (arith, lt, number, le)) a_hs parent).one in
+          let parent : IsParentOf s.network relay by = rw g.0 at passed.0 in
           let put_at = founded_at s at.front a.putting at.founded (numbered_in at.front cause a.putting a.there) in
           let put_frame = frame_put put_at.due
           (puts_by s a.putting (time_of a.putting) a.putting.note.body by a.arrives.way a.frame refl a.arrives.put) in
-          let shown : giving.frame ≡ Some (with_clock clock a.frame) = ap (λ (x : Happening). x.frame) at.due.same ∙ ap (frame_by s.network at.front) is
-          ∙ ap (λ (o : Option Happening). option_map (with_clock clock) (option_and_then (λ h. h.frame) o)) a.there
-          ∙ ap (option_map (with_clock clock)) put_frame in
-          let same : Some (with_clock clock a.frame) ≡ Some frame = sym shown ∙ of_frame in
-          let members : a.frame.members ≡ frame.members = ap (λ (o : Option Pcf). option_map_or (λ f. f.members) o frame.members) same in
-          subst (IsOneMaster s.network) members one
+          let shown : giving.frame ≡ Some (with_clock clock a.frame) =
+          ap (λ x. x.frame) at.due.same ∙ ap (frame_by s.network at.front) is
+          ∙ (rw a.there
+          (ap (option_map (with_clock clock)) put_frame)) in
+          let same = sym shown ∙ of_frame in
+          let members : a.frame.members ≡ frame.members = ap (λ o. option_map_or (λ f. f.members) o frame.members)
+          same in
+          subst (IsOneMaster s.network) members ((from_below n up (omega arith) a_hs parent).one)
     ]
 given_up s hs n founded up giving i le device link l e switch above frame of_frame other is g = absurd g
 
 goes_up : {s : Scenario} (hs : List Happening) → KeepsRules s.network → SendsAreOfEnds s
     → IsFounded place_of (IsDue s) hs → (n : ℕ) → IsUpTo s hs n → IsUpTo s hs (suc n)
 goes_up {s} hs rules sends founded n up cause putting device link t frame le there arrives from =
-    let l = at_some (λ (x : Link). is_end s.network x.child ≡ false) (link_at s.network link) from.from_switch in
-    let parent : l.0.parent ≡ device = of_link s.network link l.0 (λ (x : Link). x.parent ≡ device) l.1 from.parent in
+    let l = at_some (λ x. is_end s.network x.child ≡ false) (link_at s.network link) from.from_switch in
+    let parent = of_link s.network link l.0 (λ x. x.parent ≡ device) l.1 from.parent in
     let i = numbered_in hs cause putting there in
     let at = founded_at s hs putting founded i in
     elim (puts_by s putting (time_of putting) putting.note.body link arrives.way frame refl arrives.put) [
       | Puts.sending line octets is signal way ↦
           let event = subst (IsCaused s at.front putting.note.time) is at.due.cause in
-          let end = of_link s.network link l.0 (λ (x : Link). is_end s.network x.child ≡ true) l.1
+          let end = of_link s.network link l.0 (λ x. is_end s.network x.child ≡ true) l.1
           (sends.ends event.before event.event link octets event.is (sym event.same)) in
-          absurd (let bad : true ≡ false = sym end ∙ l.2 in cc)
+          absurd (let bad = sym end ∙ l.2 in cc)
       | Puts.leaving sender from_cause clock is of_frame way ↦
           let departs = subst (IsCaused s at.front putting.note.time) is at.due.cause in
           let lt = numbered_within at.front from_cause departs.giving departs.there in
           let number = at.due.number in
           let number_so = number_is s hs cause putting founded there in
           let giving_at = numbered_in at.front from_cause departs.giving departs.there in
-          let giving_in : IsIn departs.giving hs = subst (λ x. IsIn departs.giving x) (sym at.whole)
-          (in_left departs.giving at.front (putting ∷ at.rest) giving_at) in
+          let giving_in : IsIn departs.giving hs =
+          rw (sym at.whole) at (in_left departs.giving at.front (putting ∷ at.rest) giving_at) in
           let giving_number = number_is s at.front from_cause departs.giving at.founded departs.there in
           let shown : putting.frame ≡ Some (with_clock clock departs.frame) =
           grind (arith, at.due.same, at.front, option_map, option_and_then, departs.there, departs.of_frame) in
-          let same : Some (with_clock clock departs.frame) ≡ Some frame = sym shown ∙ of_frame in
-          let members : departs.frame.members ≡ frame.members = ap (λ (o : Option Pcf). option_map_or (λ f. f.members) o frame.members) same in
-          let above : is_parent_of s.network sender link ≡ false = upward s.network rules sender device link l.0 l.1 l.2 parent arrives.way way arrives.receiver
+          let same = sym shown ∙ of_frame in
+          let members : departs.frame.members ≡ frame.members =
+          ap (λ o. option_map_or (λ f. f.members) o frame.members) same in
+          let above = upward s.network rules sender device link l.0 l.1 l.2 parent arrives.way way arrives.receiver
           in
           subst (IsOneMaster s.network) members
-          (given_up s hs n founded up departs.giving giving_in (omega (arith, giving_number, lt, number, number_so, le)) sender link l.0 l.1 l.2 above
+          (given_up s hs n founded up departs.giving giving_in (omega arith) sender link l.0 l.1 l.2 above
           departs.frame departs.of_frame departs.giving.note.body refl departs.gives)
     ]
 
 none_up : (s : Scenario) (hs : List Happening) → IsUpTo s hs 0
 none_up s hs zero putting device link t frame le there arrives from = absurd cc
-none_up s hs (suc cause) putting device link t frame le there arrives from = absurd (omega (arith, le))
+none_up s hs (suc cause) putting device link t frame le there arrives from = absurd (omega arith)
 
 module _ {s : Scenario} (hs : List Happening) (rules : KeepsRules s.network) (sends : SendsAreOfEnds s)
     (founded : IsFounded place_of (IsDue s) hs) where
@@ -330,13 +333,13 @@ module _ {s : Scenario} (hs : List Happening) (rules : KeepsRules s.network) (se
 
 at_link : (network : Network) (way : Way) (link : LinkId) (device : DeviceId) (l : Link) → link_at network link ≡ Some l → target_by way l ≡ device
     → IsLinkAt network device link
-at_link network Up link device l e same = inr (closed (λ (x : Link). x.parent ≡ device) (link_at network link) l e same)
-at_link network Down link device l e same = inl (closed (λ (x : Link). x.child ≡ device) (link_at network link) l e same)
+at_link network Up link device l e same = inr (closed (λ x. x.parent ≡ device) (link_at network link) l e same)
+at_link network Down link device l e same = inl (closed (λ x. x.child ≡ device) (link_at network link) l e same)
 
 received_at : (network : Network) (way : Way) (link : LinkId) (device : DeviceId) (o : Option Link) → link_at network link ≡ o
     → option_map (target_by way) o ≡ Some device → IsLinkAt network device link
 received_at network way link device None e receives = absurd cc
-received_at network way link device (Some l) e receives = at_link network way link device l e (let same : target_by way l ≡ device = cc in same)
+received_at network way link device (Some l) e receives = at_link network way link device l e (cc)
 
 -- octets of a length that frames have, which are what is on a wire, may arrive
 pub may_arrive : (s : Scenario) (hs : List Happening) (e : OnWire) (octets : List ℕ) → KeepsRules s.network → SendsAreOfEnds s
@@ -348,5 +351,5 @@ may_arrive s hs e octets rules sends founded it signal least most = record {
   most = most;
   one_master = λ from frame is.
       one_master hs rules sends founded e.cause frame it.there
-      (subst (λ x. Arrives s it.putting e.device e.link e.at x) (sym signal ∙ is) it.arrives) from;
+      (rw (sym signal ∙ is) at it.arrives) from;
 }

@@ -1,7 +1,7 @@
 -- The record of an arrival is put in among those to come.
 use Rattle.world_law.proofs.steps_lemmas.Words.{◌++◌, ◌+◌, ◌∙◌, ◌∷◌, ◌≡◌, ◌≤◌, ◌⊎◌, Arrival, DeviceId, Happening, IsBefore, IsDue, IsFounded, IsIn}
 use Rattle.world_law.proofs.steps_lemmas.Words.{IsMoving, IsOnWire, IsOwnSource, IsPutIn, IsSource, List, Network, NoneBefore, OnWire, Scenario}
-use Rattle.world_law.proofs.steps_lemmas.Words.{Signal, [], ap, append-nil, arith, arrival_body, arrival_of, cause_of, chain, IsOne}
+use Rattle.world_law.proofs.steps_lemmas.Words.{Signal, [], ap, append-nil, arith, arrival_body, arrival_of, chain, IsOne}
 use Rattle.world_law.proofs.steps_lemmas.Words.{control, due_of, if◌then◌else◌, in_right, is_end, length, members_in, one_shown, parted, place_of, put_length}
 use Rattle.world_law.proofs.steps_lemmas.Words.{rank, record_of, refl, second, settled_as, subst, sym, time_of, timed, units_of, ℕ}
 use Rattle.world_law.proofs.steps_lemmas.hearing.Receptions.{arrives_now, body_cause, body_caused, body_key, body_own, few_cause, own_there}
@@ -61,20 +61,18 @@ pub received : {s : Scenario} {hs coming : List Happening} {now : ℕ} {e : OnWi
 received {s} {hs} {coming} {now} {e} is m founded it at so least_is put =
     let more = e.device.0 ∷ e.link.0 ∷ e.cause ∷ [] in
     let body = arrival_body e.device e.link e.cause is in
-    let few : cause_of body ≤ length hs =
-    subst (λ n. n ≤ length hs) (sym (body_cause e.device e.link e.cause is)) (few_cause it) in
-    let shown = one_shown s.network hs now body few put in
+    let shown = one_shown s.network hs now body (rw (body_cause e.device e.link e.cause is) (few_cause it)) put in
     let front = shown.front in
     let back = shown.back in
     let w = record_of s.network hs front now body in
     let moving : IsMoving s hs (front ++ back) now 2 more =
-    subst (λ l. IsMoving s hs l now 2 more) shown.parts m in
-    let key_is : place_of w ≡ now ∷ rank body ∷ more = ap (λ (l : List ℕ). now ∷ rank body ∷ l) (body_key (members_in w) e.device e.link e.cause is) in
-    let all : is ≡ arrival_of s (hs ++ coming) e.device now e.link e.cause e.signal =
+    rw shown.parts at m in
+    let key_is : place_of w ≡ now ∷ rank body ∷ more = rw (body_key (members_in w) e.device e.link e.cause is) in
+    let all =
     so coming [] (least_rank s.network e.device e.signal) (sym (append-nil coming)) (λ y none_. absurd none_) (omega arith) in
     let ranked : least_rank s.network e.device e.signal ≤ rank body =
-    subst (λ a. least_rank s.network e.device e.signal ≤ rank (arrival_body e.device e.link e.cause a)) (sym all) (least_is (hs ++ coming)) in
-    let judged : is ≡ arrival_of s (hs ++ front) e.device now e.link e.cause e.signal =
+    rw all (least_is (hs ++ coming)) in
+    let judged =
     so front back (rank body) shown.parts (subst (λ q. NoneBefore place_of back q) key_is shown.none) ranked in
     let arrives = arrives_now front now is it at judged in
     record {
@@ -103,7 +101,7 @@ received {s} {hs} {coming} {now} {e} is m founded it at so least_is put =
                 arrives =
                     arrives.arrives;
               });
-          aside = λ x i device same hears. let six : 2 ≡ 6 = ap second same in omega (arith, six);
+          aside = λ x i device same hears. let six : 2 ≡ 6 = ap second same in omega arith;
         };
         body = refl;
         wire = it;
@@ -111,5 +109,5 @@ received {s} {hs} {coming} {now} {e} is m founded it at so least_is put =
         so = λ f rest rank_ whole none_ high. so f rest rank_ (shown.parts ∙ whole) none_ high;
       };
       shows = shown.shows;
-      long = put_length front back w ∙ ap (λ l. length l + 1) (sym shown.parts);
+      long = put_length front back w ∙ (rw (sym shown.parts));
     }

@@ -4,7 +4,7 @@ use Rattle.world_law.proofs.steps_lemmas.Words.{◌++◌, ◌≡◌, ◌≤◌, 
 use Rattle.world_law.proofs.steps_lemmas.Words.{Option, Pcf, PcfRefusal, Reason, Scenario, Signal, Some, Standpoint, VlId, ap, arith}
 use Rattle.world_law.proofs.steps_lemmas.Words.{arrival_body, arrival_of, control, control_arrival, earlier_still, false, field, frame_fault, frame_or_fault}
 use Rattle.world_law.proofs.steps_lemmas.Words.{if◌then◌else◌, is_end, is_parent_of, is_relay, last_taken}
-use Rattle.world_law.proofs.steps_lemmas.Words.{octets_fault, octets_or_fault, rank, standpoint, subst, time_of, timed, true, ℕ}
+use Rattle.world_law.proofs.steps_lemmas.Words.{octets_fault, octets_or_fault, rank, standpoint, time_of, timed, true, ℕ}
 use Rattle.world_law.proofs.steps_lemmas.hearing.Putting.{least_rank}
 use Rattle.run_law.specs.{device.Standpoints.{clock_of, cycle_at}, timed.Arrivals.{entry_arrival, entry_entering, row_fault, taken_or_fault}}
 use Rattle.run_law.specs.declared.steps.Arrival.TheVariants as arrivals
@@ -79,8 +79,7 @@ pub accepted_high : (s : Scenario) (device : DeviceId) (t : ℕ) (link : LinkId)
     → arrival_of s js device t link cause signal ≡ arrivals.Accepted vl cycle → (if is_end s.network device then 12 else 11) ≤ 11
 accepted_high s device t link cause (control frame) js vl cycle e = absurd (none_control s.network device link (standpoint s js device t) frame vl cycle e)
 accepted_high s device t link cause (timed octets) js vl cycle e =
-    subst (λ a. (if is_end s.network device then 12 else 11) ≤ rank (arrival_body device link cause a)) e
-    (rank_is s device t link cause (timed octets) js)
+    rw e at (rank_is s device t link cause (timed octets) js)
 
 pub delivered_high : (network : Network) (device : DeviceId) → (if is_end network device then 12 else 11) ≤ 12
 delivered_high network device = grind (arith, is_end)
@@ -96,4 +95,4 @@ module _ (s : Scenario) (hs zs : List Happening) (device : DeviceId) (t : ℕ) w
       → ((z : Happening) → IsIn z zs → t ≤ time_of z) → arrival_of s (hs ++ zs) device t link cause (control frame)
       ≡ arrival_of s hs device t link cause (control frame)
   control_still link cause frame late =
-      ap (λ p. control_arrival s.network device link p frame) (standpoint_still late)
+      rw (standpoint_still late)

@@ -1,6 +1,6 @@
 -- What becomes of a frame that arrives: the one record of it.
 use Rattle.{net_plan.specs.Ranges.IsLinkInRange, run_law.{proofs.runs.SameSteps.same_arrival, specs.timed.Receptions.ArrivesAs}}
-use Rattle.{tte_units.proofs.general_lemmas.Lists.in_all, world_law.proofs.steps_lemmas.Words.{second, subst, sym, target_by, time_of, ℕ}}
+use Rattle.{tte_units.proofs.general_lemmas.Lists.in_all, world_law.proofs.steps_lemmas.Words.{second, sym, target_by, time_of, ℕ}}
 use Rattle.world_law.proofs.steps_lemmas.Words.{◌++◌, ◌<◌, ◌∙◌, ◌∷◌, ◌≡◌, ◌≤◌, ◌⊎◌, Arrival, DeviceId, Down, Happening, IsArrivedRecord, IsBefore, IsCaused}
 use Rattle.world_law.proofs.steps_lemmas.Words.{IsInRange, IsOnWire, IsOwnSource, Link, LinkId, List, Network, None, NoteBody, OnWire, Option, Scenario, Some}
 use Rattle.world_law.proofs.steps_lemmas.Words.{Units, Up, Way, [], amount, ap, arith, arrival_body, arrival_of, cause_of, inl, inr}
@@ -47,7 +47,7 @@ placed_at now e is w at body = grind (arith, time_of, rank, key, members_in, arr
 -- ---- it arrives so
 
 pub few_cause : {s : Scenario} {hs : List Happening} {e : OnWire} → IsOnWire s hs e → e.cause ≤ length hs
-few_cause {hs} {e} it = let lt = numbered_within hs e.cause it.putting it.there in omega (arith, lt)
+few_cause {hs} {e} it = let lt = numbered_within hs e.cause it.putting it.there in omega arith
 
 -- what becomes of it, given more records
 pub arrives_now : {s : Scenario} {hs : List Happening} (zs : List Happening) (now : ℕ) {e : OnWire} (is : Arrival)
@@ -57,21 +57,20 @@ arrives_now {s} {hs} zs now {e} is it at so = record {
   putting = it.putting;
   there = numbered_prefix hs zs e.cause (few_cause it) ∙ it.there;
   signal = e.signal;
-  arrives = subst (λ (t : ℕ). Rattle.run_law.specs.control.Wires.Arrives s it.putting e.device e.link t e.signal) at it.arrives;
+  arrives = rw at at it.arrives;
   becomes = so;
 }
 
 target_in : {network : Network} (way : Way) {l : Link} (device : DeviceId) → IsLinkInRange network l
     → target_by way l ≡ device → device.0 < length network.device
-target_in {network} Up device range e = subst (λ (d : DeviceId). d.0 < length network.device) e range.parent
-target_in {network} Down device range e = subst (λ (d : DeviceId). d.0 < length network.device) e range.child
+target_in {network} Up device range e = rw e at range.parent
+target_in {network} Down device range e = rw e at range.child
 
 pub receiver_in : (network : Network) (way : Way) (link : LinkId) (o : Option Link) (device : DeviceId) → link_at network link ≡ o → IsInRange network
     → Rattle.std.specs.Prelude.option_map (target_by way) o ≡ Some device → device.0 < length network.device
 receiver_in network way link None device is range e = absurd cc
 receiver_in network way link (Some l) device is range e =
-    let same : target_by way l ≡ device = cc in
-    target_in way device (in_all (IsLinkInRange network) network.link link.0 l range.links is) same
+    target_in way device (in_all (IsLinkInRange network) network.link link.0 l range.links is) cc
 
 pub device_there : (s : Scenario) (hs : List Happening) (e : OnWire) → IsInRange s.network → IsOnWire s hs e → e.device.0 < length s.network.device
 device_there s hs e range it = receiver_in s.network it.arrives.way e.link (link_at s.network e.link) e.device refl range it.arrives.receiver
@@ -113,8 +112,7 @@ module _ (s : Scenario) (js : List Happening) (now : ℕ) (e : OnWire) (t member
   comes body {is} at a ranks keys = record {
     is = is;
     so = moved (same_wire e now t device link cause at) a;
-    place = ap (λ (r : ℕ). now ∷ r ∷ e.device.0 ∷ e.link.0 ∷ e.cause ∷ []) ranks ∙ ap (ranked (rank body)) at ∙ ap
-        (λ (l : List ℕ). t ∷ rank body ∷ l) keys;
+    place = rw ranks (ap (ranked (rank body)) at ∙ (rw keys));
   }
 
   arrived_as : {clock : ℕ} → now ∷ 2 ∷ e.device.0 ∷ e.link.0 ∷ e.cause ∷ [] ≡ t ∷ 2 ∷ device.0 ∷ link.0 ∷ cause ∷ []
@@ -132,13 +130,11 @@ pub comes_as : (s : Scenario) (js : List Happening) (now : ℕ) (e : OnWire) (t 
     → (time : Units) → amount time ≡ t → IsCaused s js time body → ComesAs s js now e t members body
 comes_as s js now e t m (kinds.Arrived device link cause clock) o time is c =
     arrived_as s js now e t m device link cause o
-    (subst (λ n. IsArrivedRecord s js device n link cause clock) is c)
+    (rw is at c)
 comes_as s js now e t m (kinds.Accepted device link cause vl cycle) o time is c =
-    comes s js now e t m device link cause _ o (subst
-    (λ n. ArrivesAs s js device n link cause (arrivals.Accepted vl cycle)) is c) refl refl
+    comes s js now e t m device link cause _ o (rw is at c) refl refl
 comes_as s js now e t m (kinds.Delivered device link cause vl cycle) o time is c =
-    comes s js now e t m device link cause _ o (subst
-    (λ n. ArrivesAs s js device n link cause (arrivals.Delivered vl cycle)) is c) refl refl
+    comes s js now e t m device link cause _ o (rw is at c) refl refl
 comes_as s js now e t m (kinds.Dropped device link cause reason) (inl o) time is c =
     comes s js now e t m device link cause _ o.0 o.1 refl refl
 comes_as s js now e t m (kinds.Dropped device link cause reason) (inr o) time is c = absurd (grind arith)
@@ -152,8 +148,7 @@ pub outcome_at : {s : Scenario} {hs : List Happening} (zs : List Happening) {now
     → now ∷ rank (arrival_body e.device e.link e.cause is) ∷ e.device.0 ∷ e.link.0 ∷ e.cause ∷ [] ≡ t ∷ rank body
     ∷ key members body
 outcome_at {s} {hs} zs {now} {e} is it at so c =
-    ap (λ x. now ∷ rank (arrival_body e.device e.link e.cause x) ∷ e.device.0 ∷ e.link.0 ∷ e.cause ∷ [])
-    (same_arrival (arrives_now zs now is it at so) c.so) ∙ c.place
+    rw (same_arrival (arrives_now zs now is it at so) c.so) c.place
 
 -- ---- whatever stands at the place of an outcome comes from the arrival, or from a source behind it
 
@@ -167,7 +162,7 @@ other_kind device link cause (arrivals.Delivered vl cycle) k r o = o.2 r
 other_kind device link cause other k r o = o.0 r
 
 behind_here : (now t r : ℕ) (more ws w : List ℕ) → now ≡ t → 2 < r → w ≡ t ∷ r ∷ ws → IsBefore (now ∷ 2 ∷ more) w
-behind_here now t r more ws w e lt is = subst (λ q. IsBefore (now ∷ 2 ∷ more) q) (sym is) (inr (e, inl lt))
+behind_here now t r more ws w e lt is = rw is (inr (e, inl lt))
 
 abbrev first_of : List ℕ → ℕ
 first_of [] = 0

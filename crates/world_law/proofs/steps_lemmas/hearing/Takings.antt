@@ -3,11 +3,11 @@ use Rattle.run_law.specs.machines.Nodes.{local_at}
 use Rattle.std.proofs.{Common.arith, lemmas.Bool.or_right}
 use Rattle.tte_units.proofs.general_lemmas.{Lists.{last_if, last_more}, Naturals.flips}
 use Rattle.world_law.proofs.steps_lemmas.Words.{IsBefore, IsIn, IsKept, IsLeft, IsNoTaking, IsSteady, LinkId, List, Network, Node, None, NoteBody, Option}
-use Rattle.world_law.proofs.steps_lemmas.Words.{Scenario, Some, TakenFrame, Units, VlId, ℕ, ℤ, [], amount, ap, append_assoc, bears_on, changed_at}
+use Rattle.world_law.proofs.steps_lemmas.Words.{Scenario, Some, TakenFrame, VlId, ℕ, ℤ, [], amount, ap, append_assoc, bears_on, changed_at}
 use Rattle.world_law.proofs.steps_lemmas.Words.{comes_before, eq-eqb, eqb-true, false, filter, filter-append, frames_taken, if◌then◌else◌, inl, inr}
 use Rattle.world_law.proofs.steps_lemmas.Words.{is_taken_before, last_or, last_taken, last_taken_by, local_before, lt-ltb, moment_of, moves_no_other}
 use Rattle.world_law.proofs.steps_lemmas.Words.{nat_lt, option_and_then, option_map, or_left, pos, refl, subst, sym, taken_cycle, taken_in, time_of, true}
-use Rattle.world_law.proofs.steps_lemmas.Words.{◌&&◌, ◌++◌, ◌+ℤ◌, ◌<◌, ◌==◌, ◌||◌, ◌∙◌, ◌∷◌, ◌≡◌, ◌≤ℤ◌, ◌≤◌, ◌⊎◌, Bool, DeviceId, Happening, HasDoneFrom}
+use Rattle.world_law.proofs.steps_lemmas.Words.{◌&&◌, ◌++◌, ◌<◌, ◌==◌, ◌||◌, ◌∙◌, ◌∷◌, ◌≡◌, ◌≤ℤ◌, ◌≤◌, ◌⊎◌, Bool, DeviceId, Happening, HasDoneFrom}
 use Rattle.world_law.proofs.{devices.Working.{HasRested, worked_by}, putting.Bearing.{changed_aside, earlier_aside, left_aside, still_aside}}
 use Rattle.world_law.proofs.{rows.AtHand.{frames_put, frames_with}, steps_lemmas.Words.turned_aside, steps_lemmas.hearing.Called.After}
 use Rattle.world_law.{proofs.steps_lemmas.hearing.Took.{done_took, left_took, ready_took, sent_took, took}, specs.device.Takings.taken_by}
@@ -33,9 +33,9 @@ taking_step : (device other : DeviceId) (vl of_vl : VlId) (cycle : ℕ) (at : �
     → cycle_of (last_or o (filter (λ taking. taking.vl.0 == vl.0) (if b then record { vl = of_vl; cycle = cycle; at = at } ∷ [] else [])))
     ≡ cycle_by (if (b && c) then Some h else p)
 taking_step device other vl of_vl cycle at o p h is same true true e =
-    ap (λ (b : Bool). cycle_of (last_or o (if b then record { vl = of_vl; cycle = cycle; at = at } ∷ [] else []))) e ∙ sym is
+    rw e (sym is)
 taking_step device other vl of_vl cycle at o p h is same true false e =
-    ap (λ (b : Bool). cycle_of (last_or o (if b then record { vl = of_vl; cycle = cycle; at = at } ∷ [] else []))) e ∙ same
+    rw e same
 taking_step device other vl of_vl cycle at o p h is same false c e = same
 
 last_step : (device : DeviceId) (vl : VlId) (at : ℤ) (o : Option TakenFrame) (p : Option Happening) (h : Happening) (body : NoteBody) → h.note.body ≡ body
@@ -63,8 +63,8 @@ last_by device vl at (h ∷ hs) o p same =
 filter_so : (p q : Happening → Bool) (hs : List Happening) → ((h : Happening) → IsIn h hs → p h ≡ q h) → filter p hs ≡ filter q hs
 filter_so p q [] same = refl
 filter_so p q (h ∷ hs) same =
-    ap (λ (b : Bool). if b then h ∷ filter p hs else filter p hs) (same h (inl refl))
-    ∙ ap (λ (l : List Happening). if q h then h ∷ l else l) (filter_so p q hs (λ g i. same g (inr i)))
+    rw (same h (inl refl))
+    (rw (filter_so p q hs (λ g i. same g (inr i))))
 
 -- where each taking comes before the arrival, the node's last is that of the records
 pub taken_last : (s : Scenario) (hs : List Happening) (device : DeviceId) (t : ℕ) (link : LinkId) (cause : ℕ) (node : Node)
@@ -72,10 +72,10 @@ pub taken_last : (s : Scenario) (hs : List Happening) (device : DeviceId) (t : �
     → ((vl : VlId) (h : Happening) → IsIn h hs → is_taking device vl h.note.body ≡ is_taken_before device vl t link cause (time_of h) h.note.body)
     → (vl : VlId) → last_taken_by node vl ≡ last_taken hs device t link cause vl
 taken_last s hs device t link cause node is all vl =
-    ap (λ (l : List TakenFrame). cycle_of (last_or None (filter (λ taking. taking.vl.0 == vl.0) l))) is
-    ∙ last_by device vl (Rattle.run_law.specs.device.LocalClocks.local_before s hs device) hs None None refl
-    ∙ ap (λ (l : List Happening). cycle_by (last_or None l))
-    (filter_so (λ h. is_taking device vl h.note.body) (λ h. is_taken_before device vl t link cause (time_of h) h.note.body) hs (all vl))
+    rw is
+    (last_by device vl (Rattle.run_law.specs.device.LocalClocks.local_before s hs device) hs None None refl
+    ∙ (rw (filter_so (λ h. is_taking device vl h.note.body) (λ h. is_taken_before device vl t link cause (time_of h)
+    h.note.body) hs (all vl))))
 
 -- ---- by which records
 
@@ -84,7 +84,7 @@ abbrev pub IsBefore2 : LinkId → ℕ → LinkId → ℕ → Type 0
 IsBefore2 by from link cause = (by.0 < link.0) ⊎ ((by.0 ≡ link.0) × (from < cause))
 
 before_so : (by : LinkId) (from : ℕ) (link : LinkId) (cause : ℕ) → IsBefore2 by from link cause → comes_before by from link cause ≡ true
-before_so by from link cause (inl lt) = ap (λ (b : Bool). b || (by.0 == link.0 && nat_lt from cause)) (lt-ltb by.0 link.0 lt)
+before_so by from link cause (inl lt) = rw (lt-ltb by.0 link.0 lt)
 before_so by from link cause (inr e) = grind (arith, nat_lt, eq-eqb, lt-ltb)
 
 three : (a b c : Bool) → (a ≡ true → c ≡ true) → (a && b) ≡ (a && b && c)
@@ -122,10 +122,10 @@ pub frames_placed : (s : Scenario) (hs front back : List Happening) (w : Happeni
     → IsNoTaking device w.note.body → ((h : Happening) → IsIn h (hs ++ (front ++ back)) → time_of h ≤ time_of w)
     → frames_taken s (hs ++ (front ++ back)) device ≡ frames_taken s (hs ++ (front ++ w ∷ back)) device
 frames_placed s hs front back w device none sooner =
-    ap (λ l. frames_taken s l device) (sym (append_assoc hs front back))
-    ∙ sym (frames_put s (hs ++ front) back w device none
-    (λ h i. sooner h (subst (λ l. IsIn h l) (append_assoc hs front back) i)))
-    ∙ ap (λ l. frames_taken s l device) (append_assoc hs front (w ∷ back))
+    rw (sym (append_assoc hs front back))
+    (sym (frames_put s (hs ++ front) back w device none
+    (λ h i. sooner h (rw (append_assoc hs front back) at i)))
+    ∙ (rw (append_assoc hs front (w ∷ back))))
 
 -- the record, as it is put in, bears on the device by nothing, and is not earlier than any other
 pub record IsQuiet (hs front back : List Happening) (w : Happening) (device : DeviceId) : Type 0 where
@@ -162,19 +162,18 @@ kept_taking stands {s} {hs} {front} {back} {w} {frontier} {now} {device} after {
     subst (λ n. HasDoneFrom s.network (s.reading device) device k.node (changed_at js device k.up) n k.up) up rests.done in
     let done_then = subst (λ n. HasDoneFrom s.network (s.reading device) device new (changed_at js device k.up) n k.up) (sym up)
     (done_took s now device k.node vl cycle steady done) in
-    let left_now : IsLeft s js device now k.node = subst (λ n. IsLeft s js device n k.node) up k.left in
+    let left_now : IsLeft s js device now k.node = rw (sym up) k.left in
     let shows : local_at k.node m ≡ local_before s js device now =
-    ap (λ (u : Units). pos (s.reading device now) +ℤ u.0) left_now.counted.adjustment in
+    rw left_now.counted.adjustment in
     let took_it : new.taken ≡ frames_taken s gs device =
-    ap (λ (l : List TakenFrame). l ++ record { vl = vl; cycle = cycle; at = local_at k.node m } ∷ []) k.taken
-    ∙ ap (λ (z : ℤ). frames_taken s js device ++ record { vl = vl; cycle = cycle; at = z } ∷ []) shows
-    ∙ ap (λ (l : List TakenFrame). frames_taken s js device ++ l) (sym (t.takes (local_before s js device now)))
-    ∙ ap (λ n. frames_taken s js device ++ taken_in device (local_before s js device n) w.note.body) (sym t.at)
-    ∙ ap (λ l. frames_taken s l device ++ taken_in device (local_before s l device (time_of w)) w.note.body)
-    (sym (append_assoc hs front back))
-    ∙ sym (frames_with s (hs ++ front) back w device t.behind
-    (λ h i. t.quiet.sooner h (subst (λ l. IsIn h l) (append_assoc hs front back) i)))
-    ∙ ap (λ l. frames_taken s l device) (append_assoc hs front (w ∷ back)) in
+    rw k.taken
+    ((rw shows
+    ((rw (sym (t.takes (local_before s js device now)))
+    ((rw (sym t.at)
+    ((rw (sym (append_assoc hs front back))
+    (sym (frames_with s (hs ++ front) back w device t.behind
+    (λ h i. t.quiet.sooner h (rw (sym (append_assoc hs front back)) i)))
+    ∙ (rw (append_assoc hs front (w ∷ back)))))))))))) in
     record {
       node = new;
       is = k.is;

@@ -1,11 +1,11 @@
 -- A time-triggered frame that arrives is judged by what its device took before.
 use Rattle.{run_law.proofs.runs.Places.earlier_time, world_law.proofs.{putting.{NearPut.filter_none, Numberless.timed_by}, rows.Entered.delivered_end}}
-use Rattle.world_law.proofs.steps_lemmas.Words.{◌&&◌, ◌++◌, ◌<◌, ◌==◌, ◌||◌, ◌∙◌, ◌∷◌, ◌≡◌, ◌≤◌, ◌⊎◌, AllBefore, Bool, DeviceId, Happening, IsBefore}
+use Rattle.world_law.proofs.steps_lemmas.Words.{◌++◌, ◌<◌, ◌==◌, ◌∙◌, ◌∷◌, ◌≡◌, ◌≤◌, ◌⊎◌, AllBefore, Bool, DeviceId, Happening, IsBefore}
 use Rattle.world_law.proofs.steps_lemmas.Words.{IsCaused, IsIn, IsKept, IsLeft, IsMoving, IsNoTaking, IsOwnSource, LinkId, List, Network, Node, None}
 use Rattle.world_law.proofs.steps_lemmas.Words.{NoneBefore, NoteBody, OnWire, Scenario, Signal, VlId, [], ap, append-nil, append_assoc, arith}
-use Rattle.world_law.proofs.steps_lemmas.Words.{arrival_at, arrival_of, cases_Bool, cases_lt, comes_before, control, eqb-true, false}
+use Rattle.world_law.proofs.steps_lemmas.Words.{arrival_at, arrival_of, cases_Bool, cases_lt, control, eqb-true, false}
 use Rattle.world_law.proofs.steps_lemmas.Words.{filter, filter-append, if◌then◌else◌, in_left, in_parts, in_right, inl, inr, is_end, is_taken_before, key}
-use Rattle.world_law.proofs.steps_lemmas.Words.{last_or, last_taken, last_taken_by, members_in, moment_of, nat_lt, option_and_then, parted, never_self, place_of, rank}
+use Rattle.world_law.proofs.steps_lemmas.Words.{last_or, last_taken, last_taken_by, members_in, moment_of, option_and_then, parted, never_self, place_of, rank}
 use Rattle.world_law.proofs.steps_lemmas.Words.{refl, standpoint, subst, sym, taken_cycle, time_of, timed, timed_arrival, true, ℕ}
 use Rattle.world_law.proofs.steps_lemmas.hearing.{Called.not_yet_acted, Putting.{IsHeardAs, least_rank}, Ranked.{control_still, standpoint_still}}
 use Rattle.world_law.proofs.steps_lemmas.hearing.{Judging.{control_judged, same_standpoint}, Takings.{IsBefore2, IsSooner, taken_last, taking_is}}
@@ -22,13 +22,12 @@ given_time : {s : Scenario} {hs coming : List Happening} {now : ℕ} {e : OnWire
     → IsAfterGiven s hs coming now e → (h : Happening) → IsIn h hs → 2 < rank h.note.body
     → time_of h < now
 given_time {now} {e} a h i high =
-    let here = now ∷ 2 ∷ e.device.0 ∷ e.link.0 ∷ e.cause ∷ [] in
     elim (cases_lt (time_of h) now) [
       | inl lt ↦ lt
       | inr ge ↦ elim (a.within h i) [
-        | inl lt ↦ absurd (omega (arith, lt, ge))
-        | inr (same, inl low) ↦ absurd (omega (arith, low, high))
-        | inr (same, inr (e, b)) ↦ absurd (omega (arith, e, high))
+        | inl lt ↦ absurd (omega arith)
+        | inr (same, inl low) ↦ absurd (omega arith)
+        | inr (same, inr (e, b)) ↦ absurd (omega arith)
       ]
     ]
 
@@ -46,9 +45,9 @@ module _ {s : Scenario} {hs coming : List Happening} {now : ℕ} {e : OnWire}
 -- of one device and one time, the source by the link and cause is before the other
 source_sooner : (now t : ℕ) (device other link by cause from : ℕ) → t ≡ now → other ≡ device
     → IsBefore (t ∷ 2 ∷ other ∷ by ∷ from ∷ []) (now ∷ 2 ∷ device ∷ link ∷ cause ∷ []) → (by < link) ⊎ ((by ≡ link) × (from < cause))
-source_sooner now t device other link by cause from at same (inl lt) = absurd (omega (arith, lt, at))
-source_sooner now t device other link by cause from at same (inr (e, inl lt)) = absurd (omega (arith, lt))
-source_sooner now t device other link by cause from at same (inr (e, inr (f, inl lt))) = absurd (omega (arith, lt, same))
+source_sooner now t device other link by cause from at same (inl lt) = absurd (omega arith)
+source_sooner now t device other link by cause from at same (inr (e, inl lt)) = absurd (omega arith)
+source_sooner now t device other link by cause from at same (inr (e, inr (f, inl lt))) = absurd (omega arith)
 source_sooner now t device other link by cause from at same (inr (e, inr (f, inr (g, inl lt)))) = inl lt
 source_sooner now t device other link by cause from at same (inr (e, inr (f, inr (g, inr (h, inl lt))))) = inr (h, lt)
 source_sooner now t device other link by cause from at same (inr (e, inr (f, inr (g, inr (h, inr (k, none)))))) = absurd none
@@ -59,14 +58,12 @@ module _ {s : Scenario} {hs coming : List Happening} {now : ℕ} {e : OnWire}
       → ((js : List Happening) (w : List ℕ) → IsOwnSource s js (time_of z) (members_in z) z.note.body w
       → w ≡ time_of z ∷ 2 ∷ other.0 ∷ by.0 ∷ from ∷ []) → e.device ≡ other → IsBefore2 by from e.link e.cause
   coming_sooner z i other by from source same =
-      let here = now ∷ 2 ∷ e.device.0 ∷ e.link.0 ∷ e.cause ∷ [] in
       let split = parted z coming i in
       let off = a.moving.are.by split.0 split.1 z split.2 in
-      let w_is = source (hs ++ split.0) off.0 off.1 in
       let at = a.moving.are.of_now z i in
       source_sooner now (time_of z) e.device.0 other.0 e.link.0 by.0 e.cause
-      from at (ap (λ (d : DeviceId). d.0) (sym same))
-      (subst (λ q. IsBefore q here) w_is off.3)
+      from at (rw (sym same))
+      (rw (source (hs ++ split.0) off.0 off.1) at off.3)
 
   come_sooner : (z : Happening) → IsIn z coming → (body : NoteBody) → z.note.body ≡ body
       → IsSooner e.device now e.link e.cause z body
@@ -74,13 +71,13 @@ module _ {s : Scenario} {hs coming : List Happening} {now : ℕ} {e : OnWire}
       inr (
         a.moving.are.of_now z i,
         coming_sooner z i other by from
-            (λ js w o. subst (λ b. IsOwnSource s js (time_of z) (members_in z) b w) is o) same,
+            (λ js w o. rw is at o) same,
       )
   come_sooner z i (notes.Delivered other by from vl cycle) is = λ same.
       inr (
         a.moving.are.of_now z i,
         coming_sooner z i other by from
-            (λ js w o. subst (λ b. IsOwnSource s js (time_of z) (members_in z) b w) is o) same,
+            (λ js w o. rw is at o) same,
       )
   come_sooner z i other is = tt
 
@@ -101,8 +98,7 @@ pub kept_judges : {M : Type 0} {stands : M → Network → DeviceId → Node →
 kept_judges {stands} {s} {hs} {coming} {now} {e} signal a k =
     let here = now ∷ 2 ∷ e.device.0 ∷ e.link.0 ∷ e.cause ∷ [] in
     let up = not_yet_acted stands s hs coming here (e.device.0 ∷ e.link.0 ∷ e.cause ∷ []) k (never_self here) in
-    let left : IsLeft s (hs ++ coming) e.device now k.node = subst (λ n. IsLeft s (hs ++ coming) e.device n k.node) up k.left in
-    by left signal
+    by (rw up at k.left) signal
   where
     by : IsLeft s (hs ++ coming) e.device now k.node → (signal : Signal)
         → arrival_at s.network e.device k.node (moment_of s e.device now) e.link signal ≡ arrival_of s (hs ++ coming) e.device now e.link e.cause signal
@@ -124,7 +120,7 @@ place_sooner now t r k device other link by cause from at same le before = grind
 
 -- a taking of the device by what is left would stand before it
 at_least_low : (b : Bool) (r : ℕ) → (if b then 12 else 11) ≤ r → 11 ≤ r
-at_least_low true r le = omega (arith, le)
+at_least_low true r le = omega arith
 at_least_low false r le = le
 
 abbrev IsApart : DeviceId → NoteBody → Type 0
@@ -141,32 +137,30 @@ apart {s} {now} {e} a z i r none high (notes.Accepted other by from of_vl cycle)
     elim (cases_Bool (e.device.0 == other.0)) [
       | inr other_one ↦ other_one
       | inl same ↦
-          let one : e.device ≡ other = ap (λ (n : ℕ). let d : DeviceId = record { 0 = n } in d) (eqb-true e.device.0 other.0 same) in
+          let one : e.device ≡ other = rw (eqb-true e.device.0 other.0 same) in
           let sooner = coming_sooner a z i other by from
-          (λ js w o. subst (λ b. IsOwnSource s js (time_of z) (members_in z) b w) is o) one in
-          let low : 11 ≤ r = at_least_low (is_end s.network e.device) r high in
-          absurd (none (subst (λ b. IsBefore (time_of z ∷ rank b ∷ key (members_in z) b)
-          (now ∷ r ∷ e.device.0 ∷ e.link.0 ∷ e.cause ∷ [])) (sym is)
-          (place_sooner now (time_of z) r 11 e.device.0 other.0 e.link.0 by.0 e.cause from (a.moving.are.of_now z i) (ap (λ (d : DeviceId). d.0) one) low
+          (λ js w o. rw is at o) one in
+          let low = at_least_low (is_end s.network e.device) r high in
+          absurd (none (rw is (place_sooner now (time_of z) r 11 e.device.0 other.0 e.link.0 by.0 e.cause from
+          (a.moving.are.of_now z i) (rw one) low
           sooner)))
     ]
 apart {s} {hs} {coming} {now} {e} a z i r none high (notes.Delivered other by from of_vl cycle) is =
     elim (cases_Bool (e.device.0 == other.0)) [
       | inr other_one ↦ other_one
       | inl same ↦
-          let one : e.device ≡ other = ap (λ (n : ℕ). let d : DeviceId = record { 0 = n } in d) (eqb-true e.device.0 other.0 same) in
+          let one : e.device ≡ other = rw (eqb-true e.device.0 other.0 same) in
           let sooner = coming_sooner a z i other by from
-          (λ js w o. subst (λ b. IsOwnSource s js (time_of z) (members_in z) b w) is o) one in
+          (λ js w o. rw is at o) one in
           let split = parted z coming i in
           let due = (a.moving.are.founded split.0 split.1 z split.2).1 in
           let caused : IsCaused s (hs ++ split.0) z.note.time (notes.Delivered other by from of_vl cycle) =
           subst (IsCaused s (hs ++ split.0) z.note.time) is due.cause in
           let end : is_end s.network e.device ≡ true = ap (is_end s.network) one ∙ delivered_end s (hs ++ split.0) other (time_of z) by from of_vl cycle caused
           in
-          let low : 12 ≤ r = subst (λ (b : Bool). (if b then 12 else 11) ≤ r) end high in
-          absurd (none (subst (λ b. IsBefore (time_of z ∷ rank b ∷ key (members_in z) b)
-          (now ∷ r ∷ e.device.0 ∷ e.link.0 ∷ e.cause ∷ [])) (sym is)
-          (place_sooner now (time_of z) r 12 e.device.0 other.0 e.link.0 by.0 e.cause from (a.moving.are.of_now z i) (ap (λ (d : DeviceId). d.0) one) low
+          let low : 12 ≤ r = rw end at high in
+          absurd (none (rw is (place_sooner now (time_of z) r 12 e.device.0 other.0 e.link.0 by.0 e.cause from
+          (a.moving.are.of_now z i) (rw one) low
           sooner)))
     ]
 apart a z i r none high other is = tt
@@ -174,14 +168,14 @@ apart a z i r none high other is = tt
 not_by : (device : DeviceId) (vl : VlId) (t : ℕ) (link : LinkId) (cause at : ℕ) (body : NoteBody) → IsApart device body
     → is_taken_before device vl t link cause at body ≡ false
 not_by device vl t link cause at (notes.Accepted other by from of_vl cycle) e =
-    ap (λ (b : Bool). b && vl.0 == of_vl.0 && (nat_lt at t || (at == t && comes_before by from link cause))) e
+    rw e
 not_by device vl t link cause at (notes.Delivered other by from of_vl cycle) e =
-    ap (λ (b : Bool). b && vl.0 == of_vl.0 && (nat_lt at t || (at == t && comes_before by from link cause))) e
+    rw e
 not_by device vl t link cause at other e = refl
 
 takes_not : (device : DeviceId) (body : NoteBody) → IsApart device body → IsNoTaking device body
-takes_not device (notes.Accepted other by from of_vl cycle) e = λ at. ap (λ (b : Bool). if b then record { vl = of_vl; cycle = cycle; at = at } ∷ [] else []) e
-takes_not device (notes.Delivered other by from of_vl cycle) e = λ at. ap (λ (b : Bool). if b then record { vl = of_vl; cycle = cycle; at = at } ∷ [] else []) e
+takes_not device (notes.Accepted other by from of_vl cycle) e = λ at. rw e
+takes_not device (notes.Delivered other by from of_vl cycle) e = λ at. rw e
 takes_not device other e = λ at. refl
 
 module _ {s : Scenario} {hs coming : List Happening} {now : ℕ} {e : OnWire}
@@ -199,24 +193,24 @@ module _ {s : Scenario} {hs coming : List Happening} {now : ℕ} {e : OnWire}
       → last_taken (hs ++ coming) e.device now e.link e.cause vl ≡ last_taken (hs ++ f) e.device now e.link e.cause vl
   last_still f rest r whole none high vl =
       let q = λ (h : Happening). is_taken_before e.device vl now e.link e.cause (time_of h) h.note.body in
-      let gone : filter q rest ≡ [] =
+      let gone =
       filter_none q rest (λ z i. not_by e.device vl now e.link e.cause (time_of z) z.note.body
-      (apart a z (subst (λ l. IsIn z l) (sym whole) (in_right z f rest i)) r (none z i) high
+      (apart a z (rw whole (in_right z f rest i)) r (none z i) high
       z.note.body refl))
       in
-      ap (λ (l : List Happening). option_and_then (λ h. taken_cycle h.note.body) (last_or None l))
-      (ap (λ (l : List Happening). filter q (hs ++ l)) whole ∙ ap (filter q) (sym (append_assoc hs f rest))
+      ap (λ l. option_and_then (λ h. taken_cycle h.note.body) (last_or None l))
+      (ap (λ l. filter q (hs ++ l)) whole ∙ ap (filter q) (sym (append_assoc hs f rest))
       ∙ filter-append q (hs ++ f) rest
-      ∙ ap (λ (l : List Happening). filter q (hs ++ f) ++ l) gone ∙ append-nil (filter q (hs ++ f)))
+      ∙ ap (λ l. filter q (hs ++ f) ++ l) gone ∙ append-nil (filter q (hs ++ f)))
 
   pub heard_as_all : IsHeardAs s hs coming now e (arrival_of s (hs ++ coming) e.device now e.link e.cause e.signal)
   heard_as_all f rest r whole none high = by e.signal high
     where
       late_all : (z : Happening) → IsIn z coming → now ≤ time_of z
-      late_all z i = let at = a.moving.are.of_now z i in omega (arith, at)
+      late_all z i = omega arith
 
       late : (z : Happening) → IsIn z f → now ≤ time_of z
-      late z i = late_all z (subst (λ l. IsIn z l) (sym whole) (in_left z f rest i))
+      late z i = late_all z (rw whole (in_left z f rest i))
 
       by : (signal : Signal) → least_rank s.network e.device signal ≤ r
           → arrival_of s (hs ++ coming) e.device now e.link e.cause signal ≡ arrival_of s (hs ++ f) e.device now

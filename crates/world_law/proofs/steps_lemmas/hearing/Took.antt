@@ -1,10 +1,9 @@
 -- A device that took a frame has the tasks that it had, and such as are for later readings.
-use Rattle.{run_law.specs.machines.Answers.with_taken, world_law.proofs.steps_lemmas.Words.{reading_for, refl, sending, subst, sym, true, value_of, ℕ}}
+use Rattle.{run_law.specs.machines.Answers.with_taken, world_law.proofs.steps_lemmas.Words.{reading_for, refl, sending, true, value_of, ℕ}}
 use Rattle.{run_law.specs.machines.Nodes.{last_taken_frame, local_at}, tte_units.proofs.general_lemmas.{Integers.ahead_yet, Lists.{last_kept, last_pushed}}}
-use Rattle.std.proofs.Common.{IsSomeAnd}
-use Rattle.world_law.proofs.steps_lemmas.Words.{◌+ℤ◌, ◌<ℤ◌, ◌==◌, ◌≡◌, ◌≤ℤ◌, ◌⊎◌, Bool, ClockTask, DeviceId, Happening, HasDoneFrom, HasSentFrom, IsDeedOf}
-use Rattle.world_law.proofs.steps_lemmas.Words.{IsLeft, IsPending, IsReadyAt, IsSteady, IsUndone, IsWaiting, List, Moment, Network, Node, Option, Scenario}
-use Rattle.world_law.proofs.steps_lemmas.Words.{Some, TakenFrame, Task, VlId, amount, arith, arriving, called, cases_Bool, correcting, dispatching}
+use Rattle.world_law.proofs.steps_lemmas.Words.{◌<ℤ◌, ◌==◌, ◌≡◌, ◌≤ℤ◌, ◌⊎◌, Bool, ClockTask, DeviceId, Happening, HasDoneFrom, HasSentFrom, IsDeedOf}
+use Rattle.world_law.proofs.steps_lemmas.Words.{IsLeft, IsPending, IsReadyAt, IsSteady, IsUndone, IsWaiting, List, Moment, Network, Node, Scenario}
+use Rattle.world_law.proofs.steps_lemmas.Words.{Some, Task, VlId, amount, arith, arriving, called, cases_Bool, correcting, dispatching}
 use Rattle.world_law.proofs.steps_lemmas.Words.{doing, emitting, false, filter, filter-append, if◌then◌else◌, inl, inr, ints, last_or, moment_of, pos}
 
 -- the device that took a frame by the call
@@ -26,12 +25,10 @@ was_deed network device node moment vl cycle (dispatching row number) own =
       | inl sender ↦ inl (own.0, record { entry = own.1.entry; is = own.1.is; leaves = own.1.leaves; occurs = own.1.occurs; has = inl sender })
       | inr taken ↦ elim (cases_Bool (vl.0 == own.1.entry.row.vl.0)) [
         | inl of_it ↦
-            let last = subst (λ (o : Option TakenFrame). IsSomeAnd o (λ taking. (taking.cycle ≡ number)
-            × (taking.at <ℤ value_of network (dispatching row number)))) (last_took node moment vl own.1.entry.row.vl cycle true of_it) taken.1.last in
+            let last = rw (last_took node moment vl own.1.entry.row.vl cycle true of_it) at taken.1.last in
             inr (ahead_yet moment.reading.0 node.standing.adjustment.0 (local_at node moment) (value_of network (dispatching row number)) refl last.1)
         | inr other ↦
-            let last = subst (λ (o : Option TakenFrame). IsSomeAnd o (λ taking. (taking.cycle ≡ number)
-            × (taking.at <ℤ value_of network (dispatching row number)))) (last_took node moment vl own.1.entry.row.vl cycle false other) taken.1.last in
+            let last = rw (last_took node moment vl own.1.entry.row.vl cycle false other) at taken.1.last in
             inl (
               own.0,
               record {
@@ -78,17 +75,16 @@ module _ (s : Scenario) (now : ℕ) (device : DeviceId) (node : Node) (vl : VlId
         begun = omega (arith, ints);
         last = refl;
         undone = λ task p x lt.
-            subst (λ z. pos (s.reading device x) <ℤ z) (sym (same_reading s.network node m vl cycle task))
+            rw (same_reading s.network node m vl cycle task)
             (elim (was_pending s.network device node m vl cycle task p) [
               | inl old ↦ ready.undone task old x lt
-              | inr later ↦ let fell = steady.never_falls x now (omega (arith, lt)) in omega (arith, ints, later, fell)
+              | inr later ↦ let fell = steady.never_falls x now (omega arith) in omega (arith, ints)
             ]);
         in_time = λ task p.
-            subst (λ z. pos (s.reading device now) <ℤ (z +ℤ s.network.precision.0))
-            (sym (same_reading s.network node m vl cycle task))
+            rw (same_reading s.network node m vl cycle task)
             (elim (was_pending s.network device node m vl cycle task p) [
               | inl old ↦ ready.in_time task old
-              | inr later ↦ omega (arith, ints, later, precise)
+              | inr later ↦ omega (arith, ints)
             ]);
       }
 
@@ -100,7 +96,7 @@ module _ (s : Scenario) (now : ℕ) (device : DeviceId) (node : Node) (vl : VlId
     undone = λ deed u x from lt.
         elim (was_undone s.network device node (moment_of s device now) vl cycle u) [
           | inl old ↦ has.undone deed old x from lt
-          | inr later ↦ let fell = steady.never_falls x now (omega (arith, lt)) in omega (arith, ints, later, fell)
+          | inr later ↦ let fell = steady.never_falls x now (omega arith) in omega (arith, ints)
         ];
     done = has.done;
   }

@@ -1,19 +1,19 @@
 -- The machine answers, and its device is kept, whatever becomes of the frame.
 use Rattle.run_law.{proofs.device.States.joined_or, specs.machines.Calls.{IsHearing, MayRipen, order_of_phase}}
 use Rattle.std.proofs.Common.{Contains}
-use Rattle.world_law.proofs.steps_lemmas.Words.{never_self, chain, Happening, HasSentFrom, HasTurnedOn, IsBefore, IsIn, IsKept, IsLeft, IsNoTaking, IsOfMaster, IsParentOf}
+use Rattle.world_law.proofs.steps_lemmas.Words.{never_self, chain, Happening, HasTurnedOn, IsBefore, IsIn, IsKept, IsNoTaking, IsOfMaster, IsParentOf}
 use Rattle.world_law.proofs.steps_lemmas.Words.{IsPermanenceOutcomeAt, IsSteady, Joining, Judgement, List, MayCall, Network, Node, NoneBefore, NoteBody}
 use Rattle.world_law.proofs.steps_lemmas.Words.{Phase, Point, Reason, Ripe, Scenario, Some, State, Waiting, ℕ, [], after_permanence, all_up_to, amount, ap}
 use Rattle.world_law.proofs.steps_lemmas.Words.{append_assoc, arith, behind, both_ways, called, cases_Bool, cases_lt, channel_of_link, earlier}
 use Rattle.world_law.proofs.steps_lemmas.Words.{earlier_still, eq-eqb, eqb-true, false, frames_taken, has_joined_at, if◌then◌else◌, in_left, in_parts}
 use Rattle.world_law.proofs.steps_lemmas.Words.{in_right, inl, inr, ints, is_broken, is_cm, is_off, key, length, members_in, moment_of, next_is_up_to}
-use Rattle.world_law.proofs.steps_lemmas.Words.{no_higher, no_later_breaks, place_of, pos, rank, rank_of_call, reading_for, refl, ripe_as, ripening}
+use Rattle.world_law.proofs.steps_lemmas.Words.{no_higher, no_later_breaks, place_of, pos, rank, rank_of_call, refl, ripe_as, ripening}
 use Rattle.world_law.proofs.steps_lemmas.Words.{state_after, state_before, state_with, subst, sym, taken_in, time_of, true, turned_aside, whole}
-use Rattle.world_law.proofs.steps_lemmas.Words.{◌++◌, ◌+◌, ◌<ℤ◌, ◌<◌, ◌^◌, ◌∙◌, ◌∷◌, ◌≡◌, ◌≤ℤ◌, ◌≤◌, ◌⊎◌, AllBefore, AsState, Bool, Compressed, DeviceId}
+use Rattle.world_law.proofs.steps_lemmas.Words.{◌++◌, ◌+◌, ◌<◌, ◌^◌, ◌∙◌, ◌∷◌, ◌≡◌, ◌≤ℤ◌, ◌≤◌, ◌⊎◌, AllBefore, AsState, Bool, Compressed, DeviceId}
 use Rattle.world_law.proofs.steps_lemmas.ripening.Kept.{carried_by_role, carried_called, is_yet, kept_next, next_aside, next_by_role, rests_yet}
 use Rattle.world_law.proofs.steps_lemmas.ripening.Ripens.{IsLateKind, IsRipe, all_late, come_of, emitted_no_later, late_mere, may_ripen, points_no_later}
 use Rattle.world_law.proofs.steps_lemmas.ripening.{Called.left_called, Grown.IsByRole, Joined.{IsJoin, kept_joined, was_looking}, Merely.IsMere}
-use Rattle.world_law.proofs.steps_lemmas.ripening.{Judged.{Hears, IsKindOf, hears_before, hears_told, outcome_kind}, JustTold.{all_high, ends_in}}
+use Rattle.world_law.proofs.steps_lemmas.ripening.{Judged.{Hears, hears_before, hears_told, outcome_kind}, JustTold.{all_high, ends_in}}
 use Rattle.world_law.proofs.steps_lemmas.{hearing.Calling.ranked_so, hearing.Takings.frames_placed, ripening.Awake.{still_on, stirs, was_on}}
 use Rattle.world_law.proofs.{frames.Proper.{link_of, received}, putting.Bearing.placed_back, putting.Placing.causes_given}
 use Rattle.world_law.{proofs.steps_lemmas.ripening.Ripens.{ripe_more, sooner_of, sound_of}, specs.steps.Ripening.HasRipened}
@@ -34,27 +34,26 @@ may_call {s} {now} phase more k steady limit waits =
     let last = whole k.node.last.time.0 k.ready.begun in
     let time = k.ready.time in
     let read = k.ready.last in
-    let sooner : amount k.node.last.time ≤ now = omega (arith, ints, last, time) in
-    let fell = steady.never_falls (amount k.node.last.time) now sooner in
+    let fell = steady.never_falls (amount k.node.last.time) now (omega (arith, ints)) in
     let low = steady.low now limit in
     record {
       later = record {
         time = time;
-        reading = omega (arith, ints, read, fell);
-        early_enough = omega (arith, ints, limit);
-        low_enough = omega (arith, ints, low);
+        reading = omega (arith, ints);
+        early_enough = omega (arith, ints);
+        low_enough = omega (arith, ints);
       };
       in_order = λ same.
-          let at : k.node.last.time.0 ≡ pos now = sym (ap (λ (u : _). u.0) same) in
+          let at : k.node.last.time.0 ≡ pos now = sym (ap (λ u. u.0) same) in
           let a = ranked_so phase in
           let b = ranked_so k.node.phase in
           elim (cases_lt (order_of_phase phase) (order_of_phase k.node.phase)) [
             | inr ge ↦ ge
-            | inl lt ↦ absurd (waits (k.phase at (now ∷ rank_of_call phase ∷ more) (inr (refl, inl (omega (arith, lt, a, b))))))
+            | inl lt ↦ absurd (waits (k.phase at (now ∷ rank_of_call phase ∷ more) (inr (refl, inl (omega arith)))))
           ];
       all_done = λ before task p.
-          let lt : amount k.node.last.time < now = omega (arith, ints, last, before) in
-          subst (λ z. z <ℤ reading_for s.network k.node task) (sym read) (k.ready.undone task p (amount k.node.last.time) lt);
+          let lt : amount k.node.last.time < now = omega (arith, ints) in
+          rw read (k.ready.undone task p (amount k.node.last.time) lt);
       in_time = λ task p. k.ready.in_time task p;
     }
 
@@ -80,8 +79,8 @@ pub hears_now : {M : Type 0} {stands : M → Network → DeviceId → Node → T
 hears_now {stands} {s} {hs} {coming} {e} {machine} r k =
     let yet = is_yet stands machine r k in
     elim yet.stands [
-      | inl here ↦ hears_before r (subst (λ t. IsLeft s (hs ++ coming) e.device t k.node) here k.left) (k.still here)
-      | inr over ↦ hears_told over.1 (subst (λ t. IsLeft s (hs ++ coming) e.device t k.node) over.0 k.left)
+      | inl here ↦ hears_before r (rw here at k.left) (k.still here)
+      | inr over ↦ hears_told over.1 (rw over.0 at k.left)
     ]
 
 -- what the machine is asked may be asked
@@ -110,11 +109,9 @@ module _ {M : Type 0} (stands : M → Network → DeviceId → Node → Type 0) 
       (received s.network device e.link c.so.arrives.way c.so.arrives.receiver) in
       let le = r.past arrival (Rattle.run_law.proofs.law.FirstPlaces.numbered_in hs e.cause arrival r.it.there) in
       let inside : (h : Happening) → IsIn h c.front → IsIn h hs =
-      λ h i. subst (λ l. IsIn h l) (sym c.whole)
-      (in_left h c.front (arrival ∷ c.rest) i) in
+      λ h i. rw c.whole (in_left h c.front (arrival ∷ c.rest) i) in
       let on = still_on c.front t0 device r.run (λ p b. chain p (now ∷ []) (now ∷ 3 ∷ ripe_more e) b (inr (refl, tt))) r.befallen le inside flags.0 flags.1 in
-      let late = all_late r.moving r.run.within in
-      let broken : k.node.broken ≡ false = k.left.counted.broken ∙ elim yet.stands [
+      let broken = k.left.counted.broken ∙ elim yet.stands [
         | inl here ↦ ap (is_broken s device) here ∙ k.sound
         | inr over ↦ ap (is_broken s device) over.0 ∙ no_later_breaks s _ now (now + 1) device r.befallen
             (omega arith) ∙ k.sound
@@ -127,19 +124,19 @@ module _ {M : Type 0} (stands : M → Network → DeviceId → Node → Type 0) 
       let call = may_call ripening (ripe_more e) k r.steady r.limit (never_self (now ∷ 3 ∷ ripe_more e)) in
       let points : (p : Point) → IsIn p k.node.points → p.reading ≤ℤ e.point.0 =
       λ p i. elim (cases_Bool (is_cm s.network device)) [
-        | inl cm ↦ points_no_later s hs coming now r late p
-            (subst (λ l. IsIn p l) (k.left.points cm) i)
-        | inr other ↦ absurd (subst (λ l. IsIn p l) (k.bare other).0 i)
+        | inl cm ↦ points_no_later s hs coming now r (all_late r.moving r.run.within) p
+            (rw (k.left.points cm) at i)
+        | inr other ↦ absurd (rw (k.bare other).0 at i)
       ] in
       let emitted : (x : Compressed) → Contains k.node.emitted x → x.at.0 ≤ℤ e.point.0 =
       λ x there. elim (cases_Bool (is_cm s.network device)) [
         | inl cm ↦ elim yet.stands [
           | inl here ↦ emitted_no_later s hs coming now r
-              (subst (λ n. HasSentFrom s device k.node k.up n) here (rests_yet stands machine r k).sent) x there
+              (rw here at (rests_yet stands machine r k).sent) x there
           | inr over ↦ absurd (both_ways (is_cm s.network device) over.1.just.other cm)
         ]
         | inr other ↦ absurd (Rattle.compression.proofs.Elements.in_none x
-            (subst (λ (l : List Compressed). Contains l x) (k.bare other).1 there))
+            (rw (k.bare other).1 at there))
       ] in
       record { hears = hears; call = call; hearing = hearing; ripens = may_ripen s hs coming now r k.ready master points emitted }
 
@@ -185,7 +182,7 @@ quiet_kept {s} {hs} [] back {now} {e} {after} w verdict r k a role body of_frame
     (after_permanence k.node (moment_of s e.device now) (channel_of_link s.network e.link) e.frame e.point (ripe_as verdict)) r k a.is
     (carried_by_role s hs back now e k.node verdict r role (λ cm q i.
     points_no_later s hs back now r (all_late r.moving r.run.within) q
-    (subst (λ l. IsIn q l) (k.left.points cm) i)))
+    (rw (k.left.points cm) at i)))
     (next_by_role w verdict r k a.hears role body of_frame at)
 quiet_kept (f ∷ front) back w verdict r k a role body of_frame at place before =
     absurd (r.moving.are.after f (inl refl) (subst (λ q. IsBefore (place_of f) q) place (before f (inl refl))))
@@ -229,20 +226,20 @@ joined_kept {s} {hs} {back} f2 back2 {now} {e} {after} w v r k a precise body of
     ripe.Integrates a.outcome in
     let other : is_cm s.network device ≡ false = elim (cases_Bool (is_cm s.network device)) [
       | inr no_cm ↦ no_cm
-      | inl cm ↦ absurd (subst (λ b. IsKindOf b ripe.Integrates) cm kind)
+      | inl cm ↦ absurd (rw cm at kind)
     ] in
-    let was : (z : Happening) → IsIn z (f2 ++ back2) → IsIn z back = λ z i. subst (λ l. IsIn z l) (sym parts) i in
+    let was : (z : Happening) → IsIn z (f2 ++ back2) → IsIn z back = λ z i. rw parts i in
     let of : (z : Happening) → IsIn z zs → (time_of z ≡ now) × IsMere device z.note.body = λ z i. elim (placed_back [] f2 back2 v z i) [
       | inl same ↦ (
         ap time_of same ∙ v_at,
-        subst (λ (h : Happening). IsMere device h.note.body) (sym same) (subst (IsMere device) (sym v_body) tt),
+        rw same (subst (IsMere device) (sym v_body) tt),
       )
       | inr old ↦ (r.moving.are.of_now z (was z old), late_mere device z.note.body (late z (was z old)))
     ] in
     let past : (h : Happening) → IsIn h (hs ++ w ∷ zs) → time_of h ≤ now = λ h i. elim (in_parts h hs (w ∷ zs) i) [
       | inl given ↦ r.past h given
-      | inr (inl same) ↦ (let t : time_of h ≡ time_of w = ap time_of same in omega (arith, t, at))
-      | inr (inr more) ↦ let t = (of h more).0 in omega (arith, t)
+      | inr (inl same) ↦ (let t : time_of h ≡ time_of w = ap time_of same in omega arith)
+      | inr (inr more) ↦ let t = (of h more).0 in omega arith
     ] in
     let sets : (old : State) → state_with device old v.note.body ≡ Joining = λ old.
     ap (state_with device old) v_body ∙ ap (λ (b : Bool). if b then Joining else old) (eq-eqb device.0 device.0 refl) in
@@ -255,19 +252,19 @@ joined_kept {s} {hs} {back} f2 back2 {now} {e} {after} w v r k a precise body of
           let few = causes_given r.moving (omega arith) h x st.0 in
           let same = st.1 in
           let under : IsBefore (now ∷ 7 ∷ st.0.device.0 ∷ st.0.cause ∷ []) (now ∷ 7 ∷ device.0 ∷ n ∷ []) =
-          inr (refl, inr (refl, inr (sym same, inl (omega (arith, few))))) in
+          inr (refl, inr (refl, inr (sym same, inl (omega arith)))) in
           let h_at : place_of h ≡ now ∷ 7 ∷ st.0.device.0 ∷ st.0.cause ∷ [] =
-          ap (λ (t : ℕ). t ∷ rank h.note.body ∷ key (members_in h) h.note.body) (r.moving.are.of_now h x)
-          ∙ ap (λ b. now ∷ rank b ∷ key (members_in h) b) st.0.is in
+          rw (r.moving.are.of_now h x)
+          (ap (λ b. now ∷ rank b ∷ key (members_in h) b) st.0.is) in
           let v_is : place_of v ≡ now ∷ 7 ∷ device.0 ∷ n ∷ [] =
-          ap (λ (t : ℕ). t ∷ rank v.note.body ∷ key (members_in v) v.note.body) v_at
-          ∙ ap (λ b. now ∷ rank b ∷ key (members_in v) b) v_body in
+          rw v_at
+          (ap (λ b. now ∷ rank b ∷ key (members_in v) b) v_body) in
           absurd (none h i (subst (λ q. IsBefore q (place_of v)) (sym h_at)
           (subst (λ q. IsBefore (now ∷ 7 ∷ st.0.device.0 ∷ st.0.cause ∷ []) q) (sym v_is) under)))
     ] in
     let joining : state_after s (hs ++ w ∷ zs) device ≡ Joining =
-    ap (λ l. state_after s l device) (sym (append_assoc hs (w ∷ f2) (v ∷ back2)))
-    ∙ ends_in device _ Joining (hs ++ w ∷ f2) back2 v sets rests in
+    rw (sym (append_assoc hs (w ∷ f2) (v ∷ back2)))
+    (ends_in device _ Joining (hs ++ w ∷ f2) back2 v sets rests) in
     let j : IsJoin s hs zs device now w e.link e.cause e.point e.frame = record {
       body = body;
       of_frame = of_frame;
@@ -276,9 +273,9 @@ joined_kept {s} {hs} {back} f2 back2 {now} {e} {after} w v r k a precise body of
       mere = λ z i. (of z i).1;
       joining = joining;
     } in
-    let whole : w ∷ back ≡ (w ∷ f2) ++ back2 = ap (λ (l : List Happening). w ∷ l) parts in
+    let whole : w ∷ back ≡ (w ∷ f2) ++ back2 = rw parts in
     let early : (l : List Happening) → ((z : Happening) → IsIn z l → time_of z ≡ now) → earlier now (hs ++ l) ≡ earlier now hs = λ l times.
-    earlier_still now hs l (λ z i. let t = times z i in omega (arith, t)) in
+    earlier_still now hs l (λ z i. let t = times z i in omega arith) in
     let states = λ (l : List Happening). state_after s l device in
     let times_back : (z : Happening) → IsIn z back → time_of z ≡ now = λ z i. r.moving.are.of_now z i in
     let times_one : (z : Happening) → IsIn z (w ∷ back) → time_of z ≡ now = λ z i. elim i [
@@ -290,11 +287,12 @@ joined_kept {s} {hs} {back} f2 back2 {now} {e} {after} w v r k a precise body of
     (λ frontier2 it.
     let first : HasTurnedOn s hs (w ∷ back) frontier2 device now =
     turned_aside s hs [] back w device it (ap states (early back times_back ∙ sym (early (w ∷ back) times_one))) in
-    turned_aside s hs (w ∷ f2) back2 v device (subst (λ l. HasTurnedOn s hs l frontier2 device now) whole first)
-    (ap states (ap (λ (l : List Happening). earlier now (hs ++ l)) (sym whole) ∙ early (w ∷ back) times_one ∙ sym (early (w ∷ zs) times_two))))
+    turned_aside s hs (w ∷ f2) back2 v device (rw whole at first)
+    (ap states (ap (λ l. earlier now (hs ++ l)) (sym whole) ∙ early (w ∷ back) times_one ∙ sym
+    (early (w ∷ zs) times_two))))
     (frames_placed s hs [] back w device (λ z. ap (taken_in device z) body) (λ h i. sooner_of r w h at i)
     ∙ ap (λ (l : List Happening). frames_taken s (hs ++ l) device) whole
     ∙ frames_placed s hs (w ∷ f2) back2 v device (λ z. ap (taken_in device z) v_body) (λ h i. elim (in_parts h hs ((w ∷ f2) ++ back2) i) [
-      | inl given ↦ let past = r.past h given in omega (arith, past, v_at)
+      | inl given ↦ let past = r.past h given in omega arith
       | inr more ↦ let t = times_one h (subst (λ l. IsIn h l) (sym whole) more) in omega (arith, t, v_at)
     ]))

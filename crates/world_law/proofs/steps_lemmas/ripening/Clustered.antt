@@ -4,13 +4,13 @@ use Rattle.{compression.proofs.Firsts.counts, std.{proofs.Common.◌*ℤ◌, spe
 use Rattle.compression.{proofs.Growth.{cluster_of-beyond, counted, end_of-least, end_of-most, end_of-one, end_of-two, window_end}, specs.Emission.emission}
 use Rattle.compression.specs.{Clusters.{Cluster, beyond, cluster_of, end_of, firsts, of_cycle_within, with_first}, Middle.{last_but_one, middle_of, relative}}
 use Rattle.world_law.proofs.steps_lemmas.Words.{◌&&◌, ◌++◌, ◌+ℤ◌, ◌-ℤ◌, ◌<ℤ◌, ◌==◌, ◌∙◌, ◌∷◌, ◌≡◌, ◌≤ℤ◌, ◌≤◌, ◌⊎◌, AllByRecursion, AreClusters, Bool, List}
-use Rattle.world_law.proofs.steps_lemmas.Words.{Point, [], ap, arith, cases_int, false, filter, filter-append, fold-append, if◌then◌else◌, inl, inr, int_le}
-use Rattle.world_law.proofs.steps_lemmas.Words.{int_lt, ints, length, length-append, map, pos, refl, subst, suc, sym, true, zero, ℕ, ℤ}
+use Rattle.world_law.proofs.steps_lemmas.Words.{Point, [], ap, arith, cases_int, false, filter, filter-append, fold-append, inl, inr, int_le}
+use Rattle.world_law.proofs.steps_lemmas.Words.{int_lt, ints, length, length-append, map, pos, refl, suc, sym, true, zero, ℕ, ℤ}
 
 -- ---- middles are not before the first point
 
 mean_of_two : {a b m : ℤ} → IsMean a b m → pos 0 ≤ℤ a → pos 0 ≤ℤ b → pos 0 ≤ℤ m
-mean_of_two mean from to = omega (arith, ints, mean.least, mean.most, from, to)
+mean_of_two mean from to = omega (arith, ints, mean.least, mean.most)
 
 last_two : (a b : ℤ) (xs : List ℤ) → pos 0 ≤ℤ a → pos 0 ≤ℤ b → AllByRecursion (λ x. pos 0 ≤ℤ x) xs → pos 0 ≤ℤ last_but_one a b xs
 last_two a b [] x y all = x
@@ -28,9 +28,9 @@ middle_later (a ∷ b ∷ c ∷ d ∷ e ∷ f ∷ more) all =
     (last_two e f more all.1.1.1.1.0 all.1.1.1.1.1.0 all.1.1.1.1.1.1)
 
 later_by : (from : ℤ) (qs : List Point) → AllByRecursion (λ q. from ≤ℤ q.reading) qs
-    → AllByRecursion (λ x. pos 0 ≤ℤ x) (map (λ q. q -ℤ from) (map (λ (q : Point). q.reading) qs))
+    → AllByRecursion (λ x. pos 0 ≤ℤ x) (map (λ q. q -ℤ from) (map (λ q. q.reading) qs))
 later_by from [] all = tt
-later_by from (q ∷ qs) all = let le = all.0 in (omega (arith, ints, le), later_by from qs all.1)
+later_by from (q ∷ qs) all = (omega (arith, ints), later_by from qs all.1)
 
 each_later : (o : Point) (cycle : ℕ) (from to : ℤ) (xs acc : List Point) (P : Point → Type 0) → (qs : List Point)
     → AllByRecursion (λ q. Contains (filter (λ r. r.cycle == cycle && (int_le from r.reading && int_le r.reading to)) xs) q × P q) qs
@@ -53,23 +53,23 @@ middle_of_cluster : (ow : ℤ) (o : Point) (ps : List Point) → pos 0 ≤ℤ ow
 middle_of_cluster ow o ps some =
     let end = end_of ow o (o ∷ ps) in
     let least = end_of-least ow o (o ∷ ps) some in
-    let held : of_cycle_within o.cycle o.reading end (o ∷ ps) ≡ o ∷ of_cycle_within o.cycle o.reading end ps = held-start o end ps
-    (omega (arith, ints, least, some)) in
+    let held = held-start o end ps
+    (omega (arith, ints)) in
     let c = counts (o ∷ []) (of_cycle_within o.cycle o.reading end ps) in
     let start : firsts (of_cycle_within o.cycle o.reading end (o ∷ ps)) ≡ o ∷ c.more = ap firsts held ∙ c.is in
     let later = each_later o o.cycle o.reading end ps (o ∷ []) _ c.more c.each in
-    subst (λ (l : List Point). pos 0 ≤ℤ middle_of (relative (map (λ q. q.reading) l))) (sym start)
-    (middle_later (map (λ q. q -ℤ o.reading) (map (λ (q : Point). q.reading) (o ∷ c.more))) (later_by o.reading (o ∷ c.more) (omega (arith, ints), later)))
+    rw start (middle_later (map (λ q. q -ℤ o.reading) (map (λ q. q.reading) (o ∷ c.more)))
+    (later_by o.reading (o ∷ c.more) (omega (arith, ints), later)))
 
 -- ---- the clusters with one more point
 
 more_count : (xs zs : List Point) → length (firsts xs) ≤ length (firsts (xs ++ zs))
 more_count xs zs =
     let c = counts (firsts xs) zs in
-    let whole : firsts (xs ++ zs) ≡ firsts xs ++ c.more = fold-append with_first [] xs zs ∙ c.is in
+    let whole = fold-append with_first [] xs zs ∙ c.is in
     let long = length-append (firsts xs) c.more in
     let same : length (firsts (xs ++ zs)) ≡ length (firsts xs ++ c.more) = ap length whole in
-    omega (arith, long, same)
+    omega arith
 
 -- the end is no earlier with a point that was not beyond it
 not_beyond : (ow : ℤ) (o : Point) (ps : List Point) (p : Point) → pos 0 ≤ℤ ow → p.reading ≤ℤ end_of ow o ps → p.reading ≤ℤ end_of ow o (ps ++ p ∷ [])
@@ -78,16 +78,17 @@ not_beyond ow o ps p some within =
 
 none_beyond : (end : ℤ) (ps : List Point) → AllByRecursion (λ q. q.reading ≤ℤ end) ps → beyond end ps ≡ []
 none_beyond end [] all = refl
-none_beyond end (q ∷ ps) all = ap (λ (b : Bool). if b then q ∷ beyond end ps else beyond end ps) (int_lt-false end q.reading all.0) ∙ none_beyond end ps all.1
+none_beyond end (q ∷ ps) all = rw (int_lt-false end q.reading all.0) (none_beyond end ps all.1)
 
 no_more : (ow : ℤ) (ps : List Point) (cs : List Cluster) → ps ≡ [] → AreClusters ow ps cs → cs ≡ []
 no_more ow [] [] e are = refl
 no_more ow [] (c ∷ cs) e are = absurd are
 no_more ow (p ∷ ps) cs e are = absurd cc
 
-all_up_to : (p end : ℤ) (ps : List Point) → p ≤ℤ end → AllByRecursion (λ q. q.reading ≤ℤ p) ps → AllByRecursion (λ (q : Point). q.reading ≤ℤ end) ps
+all_up_to : (p end : ℤ) (ps : List Point) → p ≤ℤ end → AllByRecursion (λ q. q.reading ≤ℤ p) ps → AllByRecursion
+    (λ q. q.reading ≤ℤ end) ps
 all_up_to p end [] le all = tt
-all_up_to p end (q ∷ ps) le all = let a = all.0 in (omega (arith, ints, a, le), all_up_to p end ps le all.1)
+all_up_to p end (q ∷ ps) le all = (omega (arith, ints), all_up_to p end ps le all.1)
 
 all_push : (P : Point → Type 0) (ps : List Point) (p : Point) → AllByRecursion P ps → P p → AllByRecursion P (ps ++ p ∷ [])
 all_push P [] p all h = (h, tt)
@@ -106,22 +107,21 @@ pub old_or_open : (n : ℕ) (ow : ℤ) (ps : List Point) (cs news : List Cluster
     ⊎ IsOpen ow p c
 old_or_open n ow [] cs [] p c few some up are also there = absurd also
 old_or_open n ow [] cs (d ∷ ds) p c few some up are also there = grind (arith, in_cases, ints, in_none, no_more)
-old_or_open zero ow (o ∷ ps) cs news p c few some up are also there = absurd (omega (arith, few))
+old_or_open zero ow (o ∷ ps) cs news p c few some up are also there = absurd (omega arith)
 old_or_open (suc n) ow (o ∷ ps) [] news p c few some up are also there = absurd are
 old_or_open (suc n) ow (o ∷ ps) (k ∷ ks) [] p c few some up are also there = absurd also
 old_or_open (suc n) ow (o ∷ ps) (k ∷ ks) (d ∷ ds) p c few some up are also there =
     elim (cases_int (end_of ow o (o ∷ ps)) p.reading) [
       | inl past ↦
-          let same : d ≡ k = also.0 ∙ cluster_of-beyond ow o (o ∷ ps) p some past ∙ sym are.0 in
-          let past_k : k.end <ℤ p.reading = subst (λ (x : Cluster). x.end <ℤ p.reading) (sym are.0) past in
-          let rest : AreClusters ow (beyond k.end (ps ++ p ∷ [])) ds = subst (λ (x : Cluster). AreClusters ow (beyond x.end (ps ++ p ∷ [])) ds) same also.1 in
-          let pushed : AreClusters ow (beyond k.end ps ++ p ∷ []) ds = subst (λ qs. AreClusters ow qs ds) (beyond-push_out k.end ps p past_k)
-          rest in
+          let same = also.0 ∙ cluster_of-beyond ow o (o ∷ ps) p some past ∙ sym are.0 in
+          let past_k : k.end <ℤ p.reading = rw are.0 past in
+          let rest : AreClusters ow (beyond k.end (ps ++ p ∷ [])) ds = rw same at also.1 in
+          let pushed : AreClusters ow (beyond k.end ps ++ p ∷ []) ds = rw (beyond-push_out k.end ps p past_k) at rest in
           let short = length-beyond k.end ps in
           elim (in_cases d c ds there) [
-            | inl e ↦ inl (subst (λ (x : Cluster). Contains (k ∷ ks) x) (sym same ∙ e) (Rattle.compression.proofs.Elements.in_head k ks))
+            | inl e ↦ inl (rw (sym (sym same ∙ e)) (Rattle.compression.proofs.Elements.in_head k ks))
             | inr more ↦
-                elim (old_or_open n ow (beyond k.end ps) ks ds p c (omega (arith, few, short)) some
+                elim (old_or_open n ow (beyond k.end ps) ks ds p c (omega arith) some
                 (all-filter (λ q. q.reading ≤ℤ p.reading) (λ q. int_lt k.end q.reading) ps up.1) are.1 pushed more) [
                   | inl old ↦ inl (Rattle.compression.proofs.Elements.in_tail k c ks old)
                   | inr open_ ↦ inr open_
@@ -129,13 +129,19 @@ old_or_open (suc n) ow (o ∷ ps) (k ∷ ks) (d ∷ ds) p c few some up are also
           ]
       | inr within ↦
           let most = end_of-most ow o (o ∷ ps) some in
-          let longer : p.reading ≤ℤ end_of ow o ((o ∷ ps) ++ p ∷ []) = not_beyond ow o (o ∷ ps) p some within in
-          let d_end : p.reading ≤ℤ d.end = subst (λ (x : Cluster). p.reading ≤ℤ x.end) (sym also.0) longer in
-          let none : beyond d.end (ps ++ p ∷ []) ≡ [] = none_beyond d.end (ps ++ p ∷ [])
+          let longer = not_beyond ow o (o ∷ ps) p some within in
+          let d_end : p.reading ≤ℤ d.end = rw also.0 longer in
+          let none = none_beyond d.end (ps ++ p ∷ [])
           (all_push (λ q. q.reading ≤ℤ d.end) ps p (all_up_to p.reading d.end ps d_end up.1) d_end) in
           elim (in_cases d c ds there) [
-            | inl e ↦ inr (record { opener = o; others = ps ++ p ∷ []; is = sym e ∙ also.0; reaches = omega (arith, ints, within, most) })
-            | inr more ↦ absurd (in_none c (subst (λ (l : List Cluster). Contains l c) (no_more ow (beyond d.end (ps ++ p ∷ [])) ds none also.1) more))
+            | inl e ↦ inr (record {
+              opener = o;
+              others = ps ++ p ∷ [];
+              is = sym e ∙ also.0;
+              reaches =
+                  omega (arith, ints);
+            })
+            | inr more ↦ absurd (in_none c (rw (no_more ow (beyond d.end (ps ++ p ∷ [])) ds none also.1) at more))
           ]
     ]
 
@@ -145,4 +151,4 @@ pub open_later : {ow : ℤ} (calc : ℤ) {p : Point} {c : Cluster} → pos 0 ≤
 open_later {ow} calc {p} some it =
     let middle = middle_of_cluster ow it.opener it.others some in
     let reaches = it.reaches in
-    subst (λ x. (p.reading +ℤ calc) ≤ℤ emission ow calc x) (sym it.is) (omega (arith, ints, middle, reaches))
+    rw it.is (omega (arith, ints))

@@ -1,11 +1,11 @@
 -- A device after a frame that is permanent and tells it no time stands as the records leave it, with that of the frame put in.
 use Rattle.{run_law.specs.{control.Corrections.heard_by, machines.Answers.hearings}, std.proofs.Common.arith}
 use Rattle.world_law.proofs.{devices.Borne.{cleared_alike, tell_owned}, steps_lemmas.Words.{refl, ripe_as, same_kept, self, since_at, sym, time_of, true, ℕ}}
-use Rattle.world_law.proofs.steps_lemmas.Words.{◌&&◌, ◌++◌, ◌==◌, ◌||◌, ◌∙◌, ◌∷◌, ◌≡◌, Bool, DeviceId, Happening, Hearing, Integrating, IsIn, IsLeft}
-use Rattle.world_law.proofs.steps_lemmas.Words.{Judgement, LinkId, List, Moment, Network, Node, None, Pcf, Phase, Point, Scenario, Some, Units, []}
+use Rattle.world_law.proofs.steps_lemmas.Words.{◌&&◌, ◌++◌, ◌==◌, ◌||◌, ◌∙◌, ◌∷◌, ◌≡◌, Bool, DeviceId, Happening, Hearing, IsIn, IsLeft}
+use Rattle.world_law.proofs.steps_lemmas.Words.{Judgement, LinkId, List, Moment, Network, Node, None, Pcf, Phase, Scenario, Some, Units, []}
 use Rattle.world_law.proofs.steps_lemmas.Words.{adjustment_before, after_last, after_more, after_permanence, ap, append-nil, append_assoc, called, changed_at}
 use Rattle.world_law.proofs.steps_lemmas.Words.{changes_adjustment, channel_of_link, cycle_in, earlier, ends_stretch, false, filter, filter-append, filter_map}
-use Rattle.world_law.proofs.steps_lemmas.Words.{has_cleared, heard_since, hearing_by, if◌then◌else◌, is_cm, is_timed, is_turned_on_at, master_of, members_in}
+use Rattle.world_law.proofs.steps_lemmas.Words.{has_cleared, heard_since, hearing_by, if◌then◌else◌, is_cm, is_timed, master_of, members_in}
 use Rattle.world_law.proofs.steps_lemmas.Words.{moves, nat_lt, not, option_map, option_map_or, option_to_list, point_at, point_by, points_of, recorded_cycle}
 use Rattle.world_law.proofs.steps_lemmas.ripening.Merely.{IsMere, maps_one, maps_rest, mere_changes, mere_hears, mere_point, own_skip}
 use Rattle.run_law.specs.declared.judgement.Judgement.TheVariants as judgements
@@ -40,7 +40,7 @@ changes_at device t h e = Rattle.std.proofs.lemmas.Bool.and_right (nat_lt (time_
 filter_one : {X : Type 0} (q : X → Bool) (xs zs : List X) (w : X) → q w ≡ true → filter q ((xs ++ w ∷ []) ++ zs) ≡ (filter q xs ++ w ∷ []) ++ filter q zs
 filter_one {X} q xs zs w e =
     filter-append q (xs ++ w ∷ []) zs
-    ∙ ap (λ (l : List X). l ++ filter q zs) (Rattle.world_law.proofs.lists.Lists.filter_yes q xs w e)
+    ∙ (rw (Rattle.world_law.proofs.lists.Lists.filter_yes q xs w e))
 
 pub heard_grown : {s : Scenario} (hs : List Happening) {zs : List Happening} {device : DeviceId} {t : ℕ}
     {w : Happening} → IsFirst s zs device t w → keep s (hs ++ zs) device t w ≡ true
@@ -52,19 +52,20 @@ heard_grown {s} hs {zs} {device} {t} {w} first kept =
     let a = tell_owned s (hs ++ w ∷ zs) (hs ++ zs) device t (own_skip device t hs zs w first.still) in
     let with_it = keep s (hs ++ w ∷ zs) device t in
     let without = keep s (hs ++ zs) device t in
-    let same : (h : Happening) → with_it h ≡ without h = grind (arith, not, has_cleared, time_of, cleared_alike, a) in
+    let same : (h : Happening) → with_it h ≡ without h = grind (arith, not, has_cleared, time_of, cleared_alike) in
     let none : (h : Happening) → IsIn h zs → p h ≡ false = λ h i. changes_at device t h (mere_changes device h.note.body (first.mere h i)) in
     let silent : (h : Happening) → IsIn h (filter without zs) → f h ≡ None = λ h i.
     mere_hears s.network device h h.note.body (first.mere h (Rattle.run_law.proofs.law.FirstPlaces.in_filter without zs h i)) in
     let base = after_last p hs in
-    let since : since_at device t (hs ++ w ∷ zs) ≡ (base ++ w ∷ []) ++ zs = grind (arith, after_last, p, append_assoc, after_more, none, changes_at) in
-    let was : since_at device t (hs ++ zs) ≡ base ++ zs = after_more p hs zs none in
+    let since : since_at device t (hs ++ w ∷ zs) ≡ (base ++ w ∷ []) ++ zs =
+    grind (arith, after_last, append_assoc, after_more, changes_at) in
+    let was = after_more p hs zs none in
     ap (filter_map f) (same_kept with_it without (since_at device t (hs ++ w ∷ zs)) (λ h i. same h))
     ∙ ap (λ l. filter_map f (filter without l)) since
     ∙ ap (filter_map f) (filter_one without base zs w kept)
     ∙ maps_rest f (filter without base ++ w ∷ []) (filter without zs) silent
     ∙ maps_one f (filter without base) w
-    ∙ ap (λ (l : List Hearing). l ++ option_to_list (f w)) (sym (maps_rest f (filter without base) (filter without zs) silent)
+    ∙ ap (λ l. l ++ option_to_list (f w)) (sym (maps_rest f (filter without base) (filter without zs) silent)
     ∙ ap (filter_map f) (sym (filter-append without base zs)) ∙ ap (λ l. filter_map f (filter without l)) (sym was))
 
 pub points_grown : {s : Scenario} (hs : List Happening) {zs : List Happening} {device : DeviceId} {t : ℕ}
@@ -76,10 +77,10 @@ points_grown hs {zs} {device} {w} first cm =
     let none : (h : Happening) → IsIn h zs → f h ≡ None = λ h i. mere_point device h h.note.body (first.mere h i) in
     let base = after_last p hs in
     ap (filter_map f) (ap (after_last p) (sym (append_assoc hs (w ∷ []) zs)) ∙ after_more p (hs ++ w ∷ []) zs (first.open_ cm)
-    ∙ ap (λ (l : List Happening). l ++ zs) (Rattle.world_law.proofs.lists.Lists.behind_no p hs w first.goes_on))
+    ∙ ap (λ l. l ++ zs) (Rattle.world_law.proofs.lists.Lists.behind_no p hs w first.goes_on))
     ∙ maps_rest f (base ++ w ∷ []) zs none
     ∙ maps_one f base w
-    ∙ ap (λ (l : List Point). l ++ option_to_list (f w)) (sym (maps_rest f base zs none) ∙ ap (filter_map f) (sym (after_more p hs zs (first.open_ cm))))
+    ∙ (rw (sym (maps_rest f base zs none) ∙ ap (filter_map f) (sym (after_more p hs zs (first.open_ cm)))))
 
 pub left_grown : {s : Scenario} (hs : List Happening) {zs : List Happening} {device : DeviceId} {t : ℕ}
     {w : Happening} {node new : Node} → IsFirst s zs device t w
@@ -87,23 +88,21 @@ pub left_grown : {s : Scenario} (hs : List Happening) {zs : List Happening} {dev
     → IsLeft s (hs ++ zs) device t node → IsLeft s (hs ++ w ∷ zs) device t new
 left_grown {s} hs {zs} {device} {t} {w} {node} {new} first kept grown left =
     let a = tell_owned s (hs ++ zs) (hs ++ w ∷ zs) device t (sym (own_skip device t hs zs w first.still)) in
-    let timed_too : is_timed new.standing.state ≡ true → is_timed node.standing.state ≡ true = λ timed. ap (λ (x : _). is_timed x.state) (sym grown.standing)
-    ∙ timed in
     record {
       counted = record {
-        plan = ap (λ (x : _). x.plan) grown.standing ∙ left.counted.plan;
-        adjustment = ap (λ (x : _). x.adjustment) grown.standing ∙ left.counted.adjustment ∙ a.adjustment;
-        integrated = ap (λ (x : _). x.integrated) grown.standing ∙ left.counted.integrated ∙ a.integration;
-        number = grind (arith, timed_too, recorded_cycle, earlier, cleared_alike, a, has_cleared, a.cycle);
+        plan = rw grown.standing left.counted.plan;
+        adjustment = rw grown.standing (left.counted.adjustment ∙ a.adjustment);
+        integrated = rw grown.standing (left.counted.integrated ∙ a.integration);
+        number = grind (arith, recorded_cycle, earlier, cleared_alike, has_cleared, a.cycle);
         changed = grind (arith, adjustment_before, a.change, changed_at, a.adjustment);
-        heard = grind (arith, option_to_list, hearing_by, timed_too, heard_grown);
+        heard = grind (arith, option_to_list, hearing_by, heard_grown);
         started = grind (arith, recorded_cycle, earlier, a.integration, a.cycle);
         broken = grown.broken ∙ left.counted.broken;
       };
-      state = ap (λ (x : _). x.state) grown.standing ∙ left.state ∙ ap (λ x. if is_turned_on_at s device t then Integrating else x) a.state;
+      state = rw grown.standing (left.state ∙ (rw a.state));
       points = λ cm.
-          grown.points cm ∙ ap (λ (l : List Point). l ++ option_to_list (point_by device w w.note.body)) (left.points cm)
-          ∙ sym (points_grown hs first cm);
+          grown.points cm ∙ (rw (left.points cm)
+          (sym (points_grown hs first cm)));
     }
 
 -- ---- what the machine makes of the frame

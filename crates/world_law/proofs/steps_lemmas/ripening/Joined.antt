@@ -1,17 +1,17 @@
 -- The device that a frame tells the time is kept.
 use Rattle.run_law.{proofs.control.Verdicts.looking_ripe, specs.{declared.judgement.Judgement.TheVariants.Integrates, device.States.joined_adjustment}}
 use Rattle.{sync_state.specs.Integration.joined_by, world_law.specs.device.Told.change_in}
-use Rattle.world_law.proofs.steps_lemmas.Words.{turned_by, ◌&&◌, ◌++◌, ◌+ℤ◌, ◌+◌, ◌-ℤ◌, ◌-◌, ◌<ℤ◌, ◌||◌, ◌∙◌, ◌∷◌, ◌≡◌, ◌≤ℤ◌, ◌≤◌, ◌⊎◌, Bool, DeviceId, Happening}
+use Rattle.world_law.proofs.steps_lemmas.Words.{turned_by, ◌&&◌, ◌++◌, ◌+ℤ◌, ◌+◌, ◌-◌, ◌<ℤ◌, ◌||◌, ◌∙◌, ◌∷◌, ◌≡◌, ◌≤ℤ◌, ◌≤◌, ◌⊎◌, Bool, DeviceId, Happening}
 use Rattle.world_law.proofs.steps_lemmas.Words.{HasTurnedOn, Integrating, IsIn, IsKept, IsLeft, IsPending, Joining, LinkId, List, Moment, Network, Node, None}
-use Rattle.world_law.proofs.steps_lemmas.Words.{Option, Pcf, Phase, Scenario, Some, State, Task, Units, Waiting, [], adjustment_after}
-use Rattle.world_law.proofs.steps_lemmas.Words.{adjustment_with, after_last, and_right, ap, append_assoc, arith, before_behind, behind, both_ways, called}
-use Rattle.world_law.proofs.steps_lemmas.Words.{chain, changed_at, changes_adjustment, cleared_in, correcting, correction_value, cycle_after, cycle_in, doing}
-use Rattle.world_law.proofs.steps_lemmas.Words.{earlier, earlier_still, emitting, false, filter, filter_map, fold, fold-append, frames_taken, has_cleared}
+use Rattle.world_law.proofs.steps_lemmas.Words.{Pcf, Phase, Scenario, Some, State, Task, Units, Waiting, [], adjustment_after}
+use Rattle.world_law.proofs.steps_lemmas.Words.{adjustment_with, and_right, ap, append_assoc, arith, before_behind, behind, both_ways, called}
+use Rattle.world_law.proofs.steps_lemmas.Words.{chain, changed_at, changes_adjustment, correcting, correction_value, cycle_after, cycle_in, doing}
+use Rattle.world_law.proofs.steps_lemmas.Words.{earlier, earlier_still, emitting, false, filter, fold, fold-append, frames_taken, has_cleared}
 use Rattle.world_law.proofs.steps_lemmas.Words.{has_joined_at, heard_since, hearing_by, if◌then◌else◌, inl, inr, int_le, int_lt, integration_cycle, ints}
 use Rattle.world_law.proofs.steps_lemmas.Words.{is_broken, is_cm, is_integration_cycle, is_joined_by, is_turned_on_at, last_or, local_in, lt-ltb, moment_of}
 use Rattle.world_law.proofs.steps_lemmas.Words.{nat_lt, next_in, no_later_breaks, none_in, not, not_on_after, not_turned_on, observation_window, option_map_or}
-use Rattle.world_law.proofs.steps_lemmas.Words.{plan_of, pos, reading_for, recorded_cycle, refl, ripening, self, state_after, state_before, subst, sym, time_of}
-use Rattle.world_law.proofs.steps_lemmas.{Words.{true, value_of, with_joined, ℕ, ℤ}, ripening.Judged.{Hears, last_behind, not_yet}}
+use Rattle.world_law.proofs.steps_lemmas.Words.{plan_of, pos, reading_for, recorded_cycle, refl, ripening, self, state_after, state_before, sym, time_of}
+use Rattle.world_law.proofs.steps_lemmas.{Words.{true, with_joined, ℕ}, ripening.Judged.{Hears, last_behind, not_yet}}
 use Rattle.world_law.proofs.steps_lemmas.ripening.{Kept.before_place, Merely.{mere_hears, mere_joins}, Ripens.{IsRipe, ripe_more}}
 use Rattle.world_law.proofs.steps_lemmas.ripening.Merely.{IsMere, behind_it, filter_rest, fold_rest, maps_rest, mere_adjustment, mere_changes, mere_cycle}
 use Rattle.run_law.specs.declared.note.NoteBody.TheVariants as kinds
@@ -40,12 +40,12 @@ module _ (s : Scenario) (hs zs : List Happening) (device : DeviceId) (now : ℕ)
   joined_changes j =
       let p = λ (h : Happening). changes_adjustment device h.note.body in
       let changes : p w ≡ true = ap (changes_adjustment device) j.body ∙ self device in
-      ap (λ l. option_map_or time_of (last_or None (filter p l)) 0) j.whole
-      ∙ ap (λ (l : List Happening). option_map_or time_of (last_or None l) 0)
+      rw j.whole
+      (ap (λ l. option_map_or time_of (last_or None l) 0)
       (ap (filter p) (sym (append_assoc hs (w ∷ []) zs))
       ∙ filter_rest p (hs ++ w ∷ []) zs (λ z i. mere_changes device z.note.body (j.mere z i))
       ∙ Rattle.world_law.proofs.lists.Lists.filter_yes p hs w changes)
-      ∙ ap (λ (o : Option Happening). option_map_or time_of o 0) (last_behind (filter p hs) [] w None) ∙ j.at
+      ∙ ap (λ o. option_map_or time_of o 0) (last_behind (filter p hs) [] w None) ∙ j.at)
 
   pub left_joined : (node : Node) (moment : Moment) (phase : Phase)
       → IsJoin s hs zs device now w link cause point frame → moment.reading.0 ≡ pos (s.reading device now)
@@ -57,50 +57,49 @@ module _ (s : Scenario) (hs zs : List Happening) (device : DeviceId) (now : ℕ)
       let u = now + 1 in
       let e = j.body in
       let joined : is_joined_by device w.note.body ≡ true = ap (is_joined_by device) e ∙ self device in
-      let changes : changes_adjustment device w.note.body ≡ true = ap (changes_adjustment device) e ∙ self device in
-      let of_cycle : cycle_in w ≡ frame.cycle = ap (λ (o : Option Pcf). option_map_or (λ f. f.cycle) o 0) j.of_frame in
+      let of_cycle : cycle_in w ≡ frame.cycle = rw j.of_frame in
       let adjusted : adjustment_after s js device ≡ joined_adjustment s device (cycle_in w) point =
-      grind (arith, at_join, adjustment_with, cycle_in, mere_adjustment, adjustment_after, e, self) in
+      grind (arith, at_join, adjustment_with, cycle_in, mere_adjustment, adjustment_after, self) in
       let integration : integration_cycle js device ≡ Some (cycle_in w) =
-      grind (arith, at_join, is_joined_by, cycle_in, mere_joins, integration_cycle, joined) in
+      grind (arith, at_join, is_joined_by, cycle_in, mere_joins, integration_cycle) in
       let recorded : recorded_cycle js device ≡ cycle_in w =
-      grind (arith, at_join, cycle_after, mere_cycle, recorded_cycle, e, cycle_in, self) in
+      grind (arith, at_join, cycle_after, mere_cycle, recorded_cycle, cycle_in, self) in
       let changed = joined_changes j in
       let change : change_in device js ≡ now =
-      ap (λ l. change_in device l) (sym j.whole) ∙ changed in
+      rw (sym j.whole) changed in
       let at : u - 1 ≡ now = omega arith in
       let local : local_in s device js ≡ (pos (s.reading device now) +ℤ (adjustment_after s js device).0) =
-      ap (λ (n : ℕ). pos (s.reading device n) +ℤ (adjustment_after s js device).0) change in
+      rw change in
       let v = correction_value s.network (recorded_cycle js device) in
-      let none : cleared_in s device js u ≡ false = and_right (is_integration_cycle js device) _
-      (ap (λ (z : ℤ). int_lt z v && int_le v (pos (s.reading device (u - 1)) +ℤ (adjustment_after s js device).0)) local
-      ∙ ap (λ (n : ℕ). int_lt (pos (s.reading device now) +ℤ (adjustment_after s js device).0) v
+      let none = and_right (is_integration_cycle js device) _
+      (ap (λ z. int_lt z v && int_le v (pos (s.reading device (u - 1)) +ℤ (adjustment_after s js device).0)) local
+      ∙ ap (λ n. int_lt (pos (s.reading device now) +ℤ (adjustment_after s js device).0) v
       && int_le v (pos (s.reading device n) +ℤ (adjustment_after s js device).0)) at
       ∙ not_yet (pos (s.reading device now) +ℤ (adjustment_after s js device).0) v) in
       let own : joined_adjustment s device (cycle_in w) point ≡ (joined_by node.standing.plan frame point).adjustment =
-      ap (λ n. joined_adjustment s device n point) of_cycle ∙ ap
-      (λ p. (joined_by p frame point).adjustment) (sym plan) in
+      rw of_cycle (ap
+      (λ p. (joined_by p frame point).adjustment) (sym plan)) in
       let p = λ (h : Happening). nat_lt (time_of h) u && changes_adjustment device h.note.body in
-      let early : nat_lt (time_of w) u ≡ true = lt-ltb (time_of w) u (let w_now = j.at in omega (arith, w_now)) in
-      let here : p w ≡ true = ap (λ (b : Bool). b && changes_adjustment device w.note.body) early ∙ changes in
-      let since : after_last p js ≡ zs = behind_it p hs zs w here
+      let here : p w ≡ true = rw (lt-ltb (time_of w) u (let w_now = j.at in omega arith))
+      (ap (changes_adjustment device) e ∙ self device) in
+      let since = behind_it p hs zs w here
       (λ h i. and_right (nat_lt (time_of h) u) _ (mere_changes device h.note.body (j.mere h i))) in
       let k = λ (h : Happening). not (has_cleared s js device u u) || has_cleared s js device u (time_of h) in
       let hear = λ (h : Happening). hearing_by s.network device h h.note.body in
-      let anew : heard_since s js device u ≡ [] = ap (λ l. filter_map hear (filter k l)) since
-      ∙ maps_rest hear [] (filter k zs) (λ h i. mere_hears s.network device h h.note.body
-      (j.mere h (Rattle.run_law.proofs.law.FirstPlaces.in_filter k zs h i)))
+      let anew : heard_since s js device u ≡ [] = rw since
+      (maps_rest hear [] (filter k zs) (λ h i. mere_hears s.network device h h.note.body
+      (j.mere h (Rattle.run_law.proofs.law.FirstPlaces.in_filter k zs h i))))
       in
       record {
         counted = record {
           plan = plan;
           adjustment = sym own ∙ sym adjusted ∙ ap (λ l. adjustment_after s l device) (sym j.whole);
-          integrated = sym (ap (λ (n : ℕ). Some n) of_cycle) ∙ sym integration ∙ ap
+          integrated = sym (rw of_cycle) ∙ sym integration ∙ ap
               (λ l. integration_cycle l device) (sym j.whole);
-          number = grind (arith, of_cycle, recorded, recorded_cycle, js, none, next_in, u);
-          changed = grind (arith, own, adjusted, local, local_in);
+          number = grind (arith, recorded_cycle, next_in);
+          changed = grind (arith, local_in);
           heard = λ timed. sym anew;
-          started = grind (arith, integration_cycle, recorded_cycle, js, recorded, cycle_in, integration);
+          started = grind (arith, integration_cycle, recorded_cycle, cycle_in);
           broken = broken;
         };
         state = sym j.joining ∙ ap (λ l. state_after s l device) (sym j.whole) ∙ sym
@@ -140,7 +139,7 @@ kept_joined {s} {hs} {zs} {now} {e} after {w} r k is other precise looking j tim
     let moment = moment_of s device now in
     let new = called moment ripening (with_joined k.node moment e.frame e.point) in
     let here = now ∷ 3 ∷ ripe_more e in
-    let sound : k.node.broken ≡ is_broken s device (now + 1) = k.left.counted.broken
+    let sound = k.left.counted.broken
     ∙ same_breaks k.up (elim k.acted [ inl yet ↦ inl yet.0 | inr over ↦ inr over.0 ]) in
     let changed = joined_changes s hs zs device now w e.link e.cause e.point e.frame j in
     let at = j.at in
@@ -154,16 +153,16 @@ kept_joined {s} {hs} {zs} {now} {e} after {w} r k is other precise looking j tim
       acted = inr (refl, λ p b. chain p here (behind here) (before_place p now (ripe_more e) b) (before_behind here));
       told = λ over.
           inr (inl (record {
-            looking = ap (λ l. if is_turned_on_at s device now then Integrating else state_after s l device) same ∙ looking;
+            looking = rw same looking;
             other = other;
           }));
       left = left_joined s hs zs device now w e.link e.cause e.point e.frame k.node moment ripening j refl k.left.counted.plan sound off other;
       taken = k.taken ∙ frames;
       worked = record {
         undone = λ deed u x from lt.
-            let now_is : x ≡ now = omega (arith, from, lt, changed) in
+            let now_is : x ≡ now = omega arith in
             let ahead = u.ahead in
-            subst (λ (n : ℕ). pos (s.reading device n) <ℤ (value_of s.network deed -ℤ new.standing.adjustment.0)) (sym now_is) (omega (arith, ints, ahead));
+            rw now_is (omega (arith, ints));
         done = λ deed there. absurd (none_in deed there);
         unsent = λ sent waits x lt. absurd (both_ways (is_cm s.network device) other waits.cm);
         sent = λ sent there. absurd (none_in sent there);
@@ -173,8 +172,8 @@ kept_joined {s} {hs} {zs} {now} {e} after {w} r k is other precise looking j tim
         time = omega (arith, ints);
         begun = omega (arith, ints);
         last = refl;
-        undone = λ task p x lt. later_task task p x (omega (arith, lt));
-        in_time = λ task p. let late = later_task task p now (omega arith) in omega (arith, ints, late, precise);
+        undone = λ task p x lt. later_task task p x (omega arith);
+        in_time = λ task p. let late = later_task task p now (omega arith) in omega (arith, ints);
       };
       still = λ same_up. absurd (too_soon now same_up);
       turned = λ on. turns (behind here) (turned_by r.moving (k.turned on));
@@ -187,7 +186,7 @@ kept_joined {s} {hs} {zs} {now} {e} after {w} r k is other precise looking j tim
     same_breaks up (inr at) = ap (is_broken s e.device) at
 
     too_soon : (now : ℕ) → now + 1 ≡ now → ⊥
-    too_soon now e = omega (arith, e)
+    too_soon now e = omega arith
 
     later_task : (task : Task)
         → IsPending s.network e.device (called (moment_of s e.device now) ripening (with_joined k.node (moment_of s e.device now) e.frame e.point)) task
@@ -197,4 +196,4 @@ kept_joined {s} {hs} {zs} {now} {e} after {w} r k is other precise looking j tim
     later_task (doing deed) p x le =
         let ahead = p.1.ahead in
         let fell = r.steady.never_falls x now le in
-        omega (arith, ints, ahead, fell)
+        omega (arith, ints)

@@ -11,7 +11,7 @@ use Rattle.world_law.proofs.steps_lemmas.Words.{adjustment_at_hearing, adjustmen
 use Rattle.world_law.proofs.steps_lemmas.Words.{any_in, ap, append-nil, arith, both_ways, cases_Bool, changed_at, changes_adjustment}
 use Rattle.world_law.proofs.steps_lemmas.Words.{correction_value, earlier, earlier_still, ends_stretch, eqb-true, false, filter, filter-append, filter_map}
 use Rattle.world_law.proofs.steps_lemmas.Words.{has_cleared, has_joined_at, heard_as, if◌then◌else◌, in_left, in_parts, in_right, inl, inr, int_le, int_lt}
-use Rattle.world_law.proofs.steps_lemmas.Words.{is_cm, is_integration_cycle, is_joined_by, is_timed, is_turned_on_at, last_or, master_of, next_is_up_to}
+use Rattle.world_law.proofs.steps_lemmas.Words.{is_cm, is_integration_cycle, is_joined_by, is_timed, last_or, master_of, next_is_up_to}
 use Rattle.world_law.proofs.steps_lemmas.Words.{none_kept, not_on_after, not_turned_on, numbered_front, observation_window, option_map_or, parted, place_of}
 use Rattle.world_law.proofs.steps_lemmas.Words.{plan_of, point_at, point_by, points_of, quiet_rest, recorded_cycle, refl, ripe_as, state_after}
 use Rattle.world_law.proofs.steps_lemmas.ripening.{Hears.{by_role, not_joined, not_joined_yet}, Ripens.{IsLateKind, all_late, late_mere, rest_ends}}
@@ -29,10 +29,10 @@ pub judged_all : {s : Scenario} {hs coming : List Happening} (front : List Happe
 judged_all {hs} front {now} {e} r after =
     let here = now ∷ 3 ∷ ripe_more e in
     let q = λ (h : Happening). is_before (place_of h) (now ∷ 3 ∷ e.device.0 ∷ amount e.point ∷ e.frame.members.0 ∷ e.link.0 ∷ e.cause ∷ []) in
-    let given : filter q hs ≡ hs = all_kept q hs (λ h i. before_is (place_of h) here
+    let given = all_kept q hs (λ h i. before_is (place_of h) here
     (r.run.within h i)) in
-    let none : filter q front ≡ [] = none_kept q front (λ h i. not_is (place_of h) here (after h i)) in
-    filter-append q hs front ∙ ap (λ (l : List Happening). filter q hs ++ l) none ∙ append-nil (filter q hs) ∙ given
+    let none = none_kept q front (λ h i. not_is (place_of h) here (after h i)) in
+    filter-append q hs front ∙ (rw none (append-nil (filter q hs) ∙ given))
 
 -- ---- where the device stands as it hears
 
@@ -58,21 +58,21 @@ pub hears_before : {s : Scenario} {hs coming : List Happening} {now : ℕ} {e : 
     → Hears s hs e.device now node
 hears_before {s} {hs} {coming} {now} {e} r left still =
     let device = e.device in
-    let same : earlier now (hs ++ coming) ≡ earlier now hs = earlier_still now hs coming (λ z i. let at = r.moving.are.of_now z i in omega (arith, at)) in
+    let same = earlier_still now hs coming (λ z i. omega arith) in
     let late = all_late r.moving r.run.within in
-    let none : has_joined_at hs device now ≡ false = none_any (λ h. time_of h == now && is_joined_by device h.note.body) hs (λ h i.
+    let none = none_any (λ h. time_of h == now && is_joined_by device h.note.body) hs (λ h i.
     elim (cases_Bool (time_of h == now)) [
-      | inr other ↦ ap (λ (b : Bool). b && is_joined_by device h.note.body) other
+      | inr other ↦ rw other
       | inl at ↦
-          ap (λ (b : Bool). b && is_joined_by device h.note.body) at
-          ∙ Rattle.world_law.proofs.devices.TurnedOn.quiet_joins device h.note.body
-          (quiet_rest s device now h.note.body (still h (in_left h hs coming i) (eqb-true (time_of h) now at)))
+          rw at
+          (Rattle.world_law.proofs.devices.TurnedOn.quiet_joins device h.note.body
+          (quiet_rest s device now h.note.body (still h (in_left h hs coming i) (eqb-true (time_of h) now at))))
     ]) in
     record {
       state =
-          left.state ∙ ap (λ l. if is_turned_on_at s device now then Integrating else state_after s l device) same
-          ∙ sym (not_joined s hs device now none);
-      adjustment = left.counted.adjustment ∙ ap (λ l. adjustment_after s l device) same ∙ sym (not_joined_yet s hs device now none r.past);
+          left.state ∙ (rw same
+          (sym (not_joined s hs device now none)));
+      adjustment = left.counted.adjustment ∙ (rw same (sym (not_joined_yet s hs device now none r.past)));
       points = λ cm.
           left.points cm
           ∙ points_given s hs coming device late
@@ -85,7 +85,7 @@ pub all_earlier : {s : Scenario} {hs coming : List Happening} {now : ℕ} {e : W
 all_earlier {hs} {coming} {now} r =
     next_is_up_to now (hs ++ coming) ∙ all_up_to now (hs ++ coming) (λ h i. elim (in_parts h hs coming i) [
       | inl given ↦ r.past h given
-      | inr more ↦ let at = r.moving.are.of_now h more in omega (arith, at)
+      | inr more ↦ omega arith
     ])
 
 -- where one has
@@ -156,9 +156,7 @@ becomes_now s hs coming front now e node is r after hears so = record {
     reached = reach_now r;
     correct = r.sound;
   };
-  becomes = subst (λ l. IsJudgedBy s l e.device now e.frame e.point is)
-      (sym (judged_all front r after))
-      (judges_so e.frame e.point is hears so);
+  becomes = rw (judged_all front r after) (judges_so e.frame e.point is hears so);
 }
 
 -- ---- what it has cleared does not count at the instant of a join
@@ -181,22 +179,23 @@ changed_now {s} {hs} {coming} {now} {e} r joined =
     let found = any_in (λ h. time_of h == now && is_joined_by device h.note.body) hs joined in
     let j = found.0 in
     let flags = and_parts (time_of j == now) (is_joined_by device j.note.body) found.2 in
-    let j_now : time_of j ≡ now = eqb-true (time_of j) now flags.0 in
+    let j_now = eqb-true (time_of j) now flags.0 in
     let at = parted j hs found.1 in
     let late = all_late r.moving r.run.within in
     let rest : (y : Happening) → IsIn y (filter p at.1) → time_of y ≡ now = λ y i.
     let inside = in_filter p at.1 y i in
     let from = in_time_of s hs r.run.founded at.0 at.1 j at.2 y inside in
-    let to = r.past y (subst (λ l. IsIn y l) (sym at.2) (in_right y at.0 (j ∷ at.1) (inr inside))) in
-    omega (arith, from, to, j_now) in
+    let to = r.past y (rw at.2 (in_right y at.0 (j ∷ at.1) (inr inside))) in
+    omega arith in
     let lists : filter p (earlier (now + 1) (hs ++ coming)) ≡ filter p at.0 ++ j ∷ filter p at.1 =
     ap (filter p) (all_earlier r)
     ∙ filter_rest p hs coming (λ h i. mere_changes device h.note.body (late_mere device h.note.body (late h i)))
     ∙ ap (filter p) at.2 ∙ filter-append p at.0 (j ∷ at.1)
-    ∙ ap (λ (b : Bool). filter p at.0 ++ (if b then j ∷ filter p at.1 else filter p at.1)) (joined_changes device j.note.body flags.1) in
-    ap (λ (l : List Happening). option_map_or time_of (last_or None l) 0) lists
-    ∙ ap (λ (o : Option Happening). option_map_or time_of o 0) (last_behind (filter p at.0) (filter p at.1) j None)
-    ∙ last_time now j (filter p at.1) j_now rest
+    ∙ ap (λ b. filter p at.0 ++ (if b then j ∷ filter p at.1 else filter p at.1))
+    (joined_changes device j.note.body flags.1) in
+    rw lists
+    (ap (λ o. option_map_or time_of o 0) (last_behind (filter p at.0) (filter p at.1) j None)
+    ∙ last_time now j (filter p at.1) j_now rest)
   where
     joined_changes : (device : DeviceId) (body : _) → is_joined_by device body ≡ true → changes_adjustment device body ≡ true
     joined_changes device (Rattle.run_law.specs.declared.note.NoteBody.TheVariants.Corrected other cycle by adjustment) e = absurd cc
@@ -221,8 +220,8 @@ pub cleared_told : {s : Scenario} {hs coming : List Happening} {now : ℕ} {e : 
     → is_timed node.standing.state ≡ true → has_cleared s (hs ++ coming) e.device (now + 1) (now + 1) ≡ false
 cleared_told {s} {hs} {coming} {now} {e} {node} told hears timed =
     let r = told.ripe in
-    let same : earlier now (hs ++ coming) ≡ earlier now hs = earlier_still now hs coming (λ z i. let at = r.moving.are.of_now z i in omega (arith, at)) in
-    let looking : state_before s hs e.device now ≡ Integrating =
-    sym (ap (λ l. if is_turned_on_at s e.device now then Integrating else state_after s l e.device) same) ∙ told.just.looking in
+    let same = earlier_still now hs coming (λ z i. omega arith) in
+    let looking =
+    sym (rw same) ∙ told.just.looking in
     none_cleared s (hs ++ coming) e.device now
     (changed_now r (timed_joined s hs e.device now node.standing.state hears.state looking timed))

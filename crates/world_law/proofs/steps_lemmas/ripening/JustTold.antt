@@ -26,12 +26,12 @@ pub record IsTold (s : Scenario) (hs coming : List Happening) (now : ℕ) (e : W
 
 low_state : (device : DeviceId) (old : State) (body : NoteBody) → rank body ≤ 3
     → state_with device old body ≡ (if is_joined_by device body then Joining else old)
-low_state device old (kinds.State other state cause why) low = absurd (omega (arith, low))
+low_state device old (kinds.State other state cause why) low = absurd (omega arith)
 low_state device old other low = refl
 
 low_moves : (device : DeviceId) (body : NoteBody) → rank body ≤ 3 → is_joined_by device body ≡ false → moves device body ≡ false
-low_moves device (kinds.State other state cause why) low e = absurd (omega (arith, low))
-low_moves device (kinds.Corrected other cycle by adjustment) low e = absurd (omega (arith, low))
+low_moves device (kinds.State other state cause why) low e = absurd (omega arith)
+low_moves device (kinds.Corrected other cycle by adjustment) low e = absurd (omega arith)
 low_moves device other low e = e
 
 pub if_same : {X : Type 0} (b : Bool) (x : X) → (if b then x else x) ≡ x
@@ -43,24 +43,24 @@ now_states : (device : DeviceId) (now : ℕ) (z : State) (l : List Happening) �
 now_states device now z [] low = refl
 now_states device now z (h ∷ l) low =
     let this = low h (inl refl) in
-    let time_is : (time_of h == now) ≡ true = eq-eqb (time_of h) now this.0 in
-    let step : state_with device z h.note.body ≡ (if is_joined_by device h.note.body then Joining else z) = low_state device z h.note.body this.1 in
+    let time_is = eq-eqb (time_of h) now this.0 in
+    let step = low_state device z h.note.body this.1 in
     elim (cases_Bool (is_joined_by device h.note.body)) [
       | inl joined ↦
-          ap (λ (y : State). fold (λ state g. state_with device state g.note.body) y l) (step ∙ ap (λ (b : Bool). if b then Joining else z) joined)
-          ∙ now_states device now Joining l (λ g i. low g (inr i))
+          rw (step ∙ ap (λ b. if b then Joining else z) joined)
+          (now_states device now Joining l (λ g i. low g (inr i))
           ∙ if_same (has_joined_at l device now) Joining
-          ∙ sym (ap (λ (b : Bool). if (b && is_joined_by device h.note.body) || has_joined_at l device now then Joining else z) time_is
-          ∙ ap (λ (b : Bool). if b || has_joined_at l device now then Joining else z) joined)
+          ∙ sym (rw time_is
+          (ap (λ b. if b || has_joined_at l device now then Joining else z) joined)))
       | inr not ↦
-          ap (λ (y : State). fold (λ state g. state_with device state g.note.body) y l) (step ∙ ap (λ (b : Bool). if b then Joining else z) not)
-          ∙ now_states device now z l (λ g i. low g (inr i))
-          ∙ sym (ap (λ (b : Bool). if (b && is_joined_by device h.note.body) || has_joined_at l device now then Joining else z) time_is
-          ∙ ap (λ (b : Bool). if b || has_joined_at l device now then Joining else z) not)
+          rw (step ∙ ap (λ b. if b then Joining else z) not)
+          (now_states device now z l (λ g i. low g (inr i))
+          ∙ sym (rw time_is
+          (ap (λ b. if b || has_joined_at l device now then Joining else z) not)))
     ]
 
 in_time_rest : (x : Happening) (hs : List Happening) → IsInTime (x ∷ hs) → IsInTime hs
-in_time_rest x hs sorted front rest y e h i = sorted (x ∷ front) rest y (ap (λ (l : List Happening). x ∷ l) e) h i
+in_time_rest x hs sorted front rest y e h i = sorted (x ∷ front) rest y (rw e) h i
 
 given_states : (device : DeviceId) (now : ℕ) (z : State) (hs : List Happening) → IsInTime hs → ((h : Happening) → IsIn h hs → time_of h ≤ now)
     → ((h : Happening) → IsIn h hs → time_of h ≡ now → rank h.note.body ≤ 3) → fold (λ state h. state_with device state h.note.body) z hs
@@ -70,21 +70,20 @@ given_states device now z (h ∷ hs) sorted past low =
     let f = λ (state : State) (g : Happening). state_with device state g.note.body in
     elim (cases_lt (time_of h) now) [
       | inl lt ↦
-          let other : (time_of h == now) ≡ false = ne_eqb (time_of h) now (λ same. omega (arith, same, lt)) in
+          let other = ne_eqb (time_of h) now (λ same. omega arith) in
           given_states device now (f z h) hs (in_time_rest h hs sorted) (λ g i. past g (inr i)) (λ g i. low g (inr i))
-          ∙ sym (ap (λ (b : Bool). if (b && is_joined_by device h.note.body) || has_joined_at hs device now then Joining else fold f z (earlier now (h ∷ hs)))
-          other
-          ∙ ap (λ (l : List Happening). if has_joined_at hs device now then Joining else fold f z l) (earlier_yes now h hs lt))
+          ∙ sym (rw other
+          (ap (λ l. if has_joined_at hs device now then Joining else fold f z l) (earlier_yes now h hs lt)))
       | inr ge ↦
           let le = past h (inl refl) in
           let late : (g : Happening) → IsIn g (h ∷ hs) → time_of g ≡ now = λ g i. elim i [
-            | inl same ↦ (let at : time_of g ≡ time_of h = ap time_of same in omega (arith, at, le, ge))
-            | inr more ↦ let from = sorted [] hs h refl g more in let to = past g (inr more) in omega (arith, from, to, ge)
+            | inl same ↦ (let at : time_of g ≡ time_of h = ap time_of same in omega arith)
+            | inr more ↦ let from = sorted [] hs h refl g more in let to = past g (inr more) in omega arith
           ] in
-          let none : earlier now (h ∷ hs) ≡ [] = none_kept (λ g. nat_lt (time_of g) now) (h ∷ hs)
-          (λ g i. let at = late g i in le-ltb (time_of g) now (omega (arith, at))) in
+          let none = none_kept (λ g. nat_lt (time_of g) now) (h ∷ hs)
+          (λ g i. let at = late g i in le-ltb (time_of g) now (omega arith)) in
           now_states device now z (h ∷ hs) (λ g i. (late g i, low g i (late g i)))
-          ∙ ap (λ (l : List Happening). if has_joined_at (h ∷ hs) device now then Joining else fold f z l) (sym none)
+          ∙ ap (λ l. if has_joined_at (h ∷ hs) device now then Joining else fold f z l) (sym none)
     ]
 
 -- ---- the adjustment
@@ -98,9 +97,9 @@ fold_filter : {B : Type 0} (f : B → Happening → B) (q : Happening → Bool) 
 fold_filter f q z [] same = refl
 fold_filter {B} f q z (h ∷ hs) same =
     elim (cases_Bool (q h)) [
-      | inl kept ↦ fold_filter f q (f z h) hs (λ g i. same g (inr i)) ∙ sym (ap (λ (b : Bool). fold f z (if b then h ∷ filter q hs else filter q hs)) kept)
-      | inr left ↦ ap (λ (b : B). fold f b hs) (same h (inl refl) left z) ∙ fold_filter f q z hs (λ g i. same g (inr i))
-          ∙ sym (ap (λ (b : Bool). fold f z (if b then h ∷ filter q hs else filter q hs)) left)
+      | inl kept ↦ fold_filter f q (f z h) hs (λ g i. same g (inr i)) ∙ sym (rw kept)
+      | inr left ↦ rw (same h (inl refl) left z) (fold_filter f q z hs (λ g i. same g (inr i))
+          ∙ sym (rw left))
     ]
 
 pub adjustment_now : {s : Scenario} {hs coming : List Happening} {now : ℕ} {e : Waiting}
@@ -115,7 +114,7 @@ adjustment_now {s} {hs} {coming} {now} {e} r =
     let parts = or_parts (nat_lt (time_of h) now) (is_joined_by e.device h.note.body) out in
     let at : time_of h ≡ now = elim (cases_lt (time_of h) now) [
       | inl lt ↦ absurd (both_ways (nat_lt (time_of h) now) parts.0 (lt-ltb (time_of h) now lt))
-      | inr ge ↦ (let le = r.past h i in omega (arith, ge, le))
+      | inr ge ↦ (let le = r.past h i in omega arith)
     ] in
     low_adjustment s e.device (cycle_in h) old h.note.body (low h i at) parts.1)
 
@@ -145,10 +144,10 @@ said_by s hs front device now time (kinds.State other state cause whys.On) late 
           elim (numbered_parts hs front h cause it.there) [
             | inl given ↦
                 inr (inl (
-                  ap (λ (st : State). is_turning device (kinds.State other st cause whys.On)) c.0 ∙ own,
-                  (other, cause, h, ap (λ (st : State). kinds.State other st cause whys.On) c.0, given, it.same_time ∙ at, one),
+                  rw c.0 own,
+                  (other, cause, h, rw c.0, given, it.same_time ∙ at, one),
                 ))
-            | inr more ↦ let four = high h more in absurd (omega (arith, four, one))
+            | inr more ↦ let four = high h more in absurd (omega arith)
           ]
     ]
 said_by s hs front device now time (kinds.State other state cause whys.Frame) late high kind at c =
@@ -157,17 +156,17 @@ said_by s hs front device now time (kinds.State other state cause whys.Frame) la
       | inl own ↦
           let it = c.1.1 in
           let h = c.1.0 in
-          let same : other ≡ device = same_device other device (sym (eqb-true device.0 other.0 own)) in
+          let same = same_device other device (sym (eqb-true device.0 other.0 own)) in
           elim (numbered_parts hs front h cause it.there) [
             | inl given ↦
                 inr (inr (
                   other,
                   cause,
                   h,
-                  ap (λ (st : State). kinds.State other st cause whys.Frame) c.0,
+                  rw c.0,
                   given,
                   it.same_time ∙ at,
-                  subst (λ d. is_joined_by d h.note.body ≡ true) same c.1.2,
+                  rw same at c.1.2,
                 ))
             | inr more ↦ absurd (both_ways (is_joined_by other h.note.body) (mere_joins other h.note.body (late_mere other h.note.body (late h more))) c.1.2)
           ]
@@ -184,8 +183,8 @@ module _ (s : Scenario) (hs coming : List Happening) (now : ℕ) where
     where
       by_kind : (body : NoteBody) → IsLateKind body → 3 ≤ rank body → 4 ≤ rank body
       by_kind (kinds.Permanent device link cause point verdict) late le = absurd late
-      by_kind (kinds.Event line what) late le = absurd (omega (arith, le))
-      by_kind (kinds.Arrived device link cause clock) late le = absurd (omega (arith, le))
+      by_kind (kinds.Event line what) late le = absurd (omega arith)
+      by_kind (kinds.Arrived device link cause clock) late le = absurd (omega arith)
       by_kind other late le = omega arith
 
   pub all_high : {e : Waiting} → IsRipe s hs coming now e → (y : Happening) → IsIn y coming
@@ -197,7 +196,7 @@ module _ (s : Scenario) (hs coming : List Happening) (now : ℕ) where
   said {e} r z i =
       let at = parted z coming i in
       let inside : (y : Happening) → IsIn y at.0 → IsIn y coming =
-      λ y j. subst (λ l. IsIn y l) (sym at.2) (in_left y at.0 (z ∷ at.1) j) in
+      λ y j. rw at.2 (in_left y at.0 (z ∷ at.1) j) in
       let late = all_late r.moving r.run.within in
       let due = (r.moving.are.founded at.0 at.1 z at.2).1 in
       said_by s hs at.0 e.device now z.note.time z.note.body (λ y j. late y (inside y j))
@@ -216,12 +215,12 @@ pub ends_in : (device : DeviceId) (z to : State) (a b : List Happening) (y : Hap
     → ((h : Happening) → IsIn h b → state_with device to h.note.body ≡ to) → fold (λ state h. state_with device state h.note.body) z (a ++ y ∷ b) ≡ to
 ends_in device z to a b y is stays =
     let f = λ (state : State) (h : Happening). state_with device state h.note.body in
-    fold-append f z a (y ∷ b) ∙ ap (λ (x : State). fold f x b) (is (fold f z a)) ∙ rest b stays
+    fold-append f z a (y ∷ b) ∙ ap (λ x. fold f x b) (is (fold f z a)) ∙ rest b stays
   where
     rest : (b : List Happening) → ((h : Happening) → IsIn h b → state_with device to h.note.body ≡ to) → fold (λ state h. state_with device state h.note.body)
         to b ≡ to
     rest [] stays = refl
-    rest (x ∷ b) stays = ap (λ (y : State). fold (λ state h. state_with device state h.note.body) y b) (stays x (inl refl)) ∙ rest b (λ h i. stays h (inr i))
+    rest (x ∷ b) stays = rw (stays x (inl refl)) (rest b (λ h i. stays h (inr i)))
 
 split_sorted : (p : List ℕ) (zs : List Happening)
     → ((front rest : List Happening) (z : Happening) → zs ≡ front ++ z ∷ rest → AllBefore place_of front (place_of z))
@@ -230,11 +229,11 @@ split_sorted p [] sorted = ([], [], refl, λ n i. absurd i, λ n i. absurd i)
 split_sorted p (z ∷ zs) sorted =
     elim (before_or_not (place_of z) p) [
       | inl lt ↦
-          let more = split_sorted p zs (λ front rest y e. λ n i. sorted (z ∷ front) rest y (ap (λ (l : List Happening). z ∷ l) e) n (inr i)) in (
+          let more = split_sorted p zs (λ front rest y e. λ n i. sorted (z ∷ front) rest y (rw e) n (inr i)) in (
             z ∷ more.0,
             more.1,
-            ap (λ (l : List Happening). z ∷ l) more.2,
-            λ n i. elim i [ inl e ↦ subst (λ m. IsBefore (place_of m) p) (sym e) lt | inr j ↦ more.3 n j ],
+            rw more.2,
+            λ n i. elim i [ inl e ↦ rw e lt | inr j ↦ more.3 n j ],
             more.4,
           )
       | inr not ↦ (
@@ -243,10 +242,10 @@ split_sorted p (z ∷ zs) sorted =
         refl,
         λ n i. absurd i,
         λ n i b. elim i [
-          | inl e ↦ not (subst (λ m. IsBefore (place_of m) p) e b)
+          | inl e ↦ not (rw e at b)
           | inr j ↦
               let at = parted n zs j in
-              not (chain (place_of z) (place_of n) p (sorted (z ∷ at.0) at.1 n (ap (λ (l : List Happening). z ∷ l) at.2) z (inl refl)) b)
+              not (chain (place_of z) (place_of n) p (sorted (z ∷ at.0) at.1 n (ap (λ l. z ∷ l) at.2) z (inl refl)) b)
         ],
       )
     ]
@@ -268,22 +267,22 @@ event_first s hs now n c j h founded at_n at_c j_now h_now one two =
     let number = number_is s hs n j founded at_n in
     let due = split.due.number in
     elim (Rattle.run_law.proofs.runs.Places.in_parts h split.front (j ∷ split.rest)
-    (subst (λ l. IsIn h l) split.whole (numbered_in hs c h at_c))) [
+    (rw split.whole at (numbered_in hs c h at_c))) [
       | inl before ↦
           let own = by_number s split.front h split.founded before in
           let few = numbered_within split.front h.note.number h own in
           let is = number_is s hs c h founded at_c in
-          omega (arith, few, is, number, due)
-      | inr (inl same) ↦ (let r : rank h.note.body ≡ rank j.note.body = ap (λ (y : Happening). rank y.note.body) same in absurd (omega (arith, r, one, two)))
+          omega arith
+      | inr (inl same) ↦ (let r : rank h.note.body ≡ rank j.note.body = rw same in absurd (omega arith))
       | inr (inr later) ↦
           let at = parted h split.rest later in
-          let whole : hs ≡ (split.front ++ j ∷ at.0) ++ h ∷ at.1 = split.whole ∙ ap (λ (l : List Happening). split.front ++ j ∷ l) at.2
+          let whole = split.whole ∙ ap (λ l. split.front ++ j ∷ l) at.2
           ∙ sym (append_assoc split.front (j ∷ at.0) (h ∷ at.1)) in
           let before = (founded (split.front ++ j ∷ at.0) at.1 h whole).0 j (in_right j split.front (j ∷ at.0) (inl refl)) in
           elim (no_higher (time_of j) (rank j.note.body) (time_of h) (rank h.note.body) (key (members_in j) j.note.body) (key (members_in h) h.note.body)
           (inr before)) [
-            | inl lt ↦ absurd (omega (arith, lt, j_now, h_now))
-            | inr same ↦ let le = same.1 in absurd (omega (arith, le, one, two))
+            | inl lt ↦ absurd (omega arith)
+            | inr same ↦ let le = same.1 in absurd (omega arith)
           ]
     ]
 
@@ -302,9 +301,9 @@ told_joining {s} {hs} {coming} {now} {e} z told joined =
     let found = any_in (λ h. time_of h == now && is_joined_by device h.note.body) hs joined in
     let j = found.0 in
     let flags = and_parts (time_of j == now) (is_joined_by device j.note.body) found.2 in
-    let j_now : time_of j ≡ now = eqb-true (time_of j) now flags.0 in
+    let j_now = eqb-true (time_of j) now flags.0 in
     let n = j.note.number in
-    let at_n : numbered hs n ≡ Some j = by_number s hs j r.run.founded found.1 in
+    let at_n = by_number s hs j r.run.founded found.1 in
     let place = now ∷ 7 ∷ device.0 ∷ n ∷ [] in
     let cut = split_sorted place coming (λ front rest y eq. (m.are.founded front rest y eq).0) in
     let body = kinds.State device Joining n whys.Frame in
@@ -312,59 +311,58 @@ told_joining {s} {hs} {coming} {now} {e} z told joined =
     let of_time : IsOfThisTime (hs ++ cut.0) now n j = record { there = numbered_front hs cut.0 n j at_n; same_time = j_now } in
     let not_marked : IsBefore place (now ∷ 3 ∷ ripe_more e) → ⊥ = λ b.
     elim (no_higher now 7 now 3 (device.0 ∷ n ∷ []) (ripe_more e) (inr b)) [
-      | inl lt ↦ omega (arith, lt)
-      | inr same ↦ let le = same.1 in omega (arith, le)
+      | inl lt ↦ omega arith
+      | inr same ↦ let le = same.1 in omega arith
     ] in
     let there = m.are.full cut.0 cut.1 y cut.2 cut.3 cut.4 not_marked (due_of s hs cut.0 now body (refl, (j, of_time, flags.1)))
     (now ∷ 2 ∷ [], refl, IsSource.following now n j of_time, m.later) in
     let g = there.0 in
     let shape = place_state (time_of g) (members_in g) now device.0 n g.note.body there.2 in
-    let own : (device.0 == (shape.0).0) ≡ true = eq-eqb device.0 (shape.0).0 (sym shape.5) in
+    let own = eq-eqb device.0 (shape.0).0 (sym shape.5) in
     let at = parted g coming there.1 in
     let sets : (old : State) → state_with device old g.note.body ≡ Joining =
     λ old. elim (said s hs coming now r g there.1) [
       | inl quiet ↦ absurd (both_ways (stirs device g.note.body) quiet (ap (stirs device) shape.4 ∙ own))
       | inr (inl on) ↦
           let by = on.1 in
-          let cause : by.1 ≡ n = (let same : kinds.State by.0 Integrating by.1 whys.On ≡ kinds.State shape.0 shape.1 shape.2 shape.3 = sym by.3
+          let cause : by.1 ≡ n = (let same = sym by.3
           ∙ shape.4 in (state_parts same).1) ∙ shape.6 in
-          let same : by.2 ≡ j = some_same by.2 j _ by.4 (ap (numbered hs) cause ∙ at_n) in
+          let same = some_same by.2 j _ by.4 (ap (numbered hs) cause ∙ at_n) in
           let two = joined_rank device j.note.body flags.1 in
           let one = by.6 in
           let ranks : rank by.2.note.body ≡ rank j.note.body = ap (λ (x : Happening). rank x.note.body) same in
-          absurd (omega (arith, ranks, one, two))
+          absurd (omega arith)
       | inr (inr frame) ↦
-          let same : kinds.State frame.0 Joining frame.1 whys.Frame ≡ kinds.State shape.0 shape.1 shape.2 shape.3 = sym frame.3 ∙ shape.4 in
-          let is : shape.1 ≡ Joining = sym (state_parts same).0 in
-          ap (state_with device old) shape.4 ∙ ap (λ (b : Bool). if b then shape.1 else old) own ∙ is
+          let is = sym (state_parts (sym frame.3 ∙ shape.4)).0 in
+          ap (state_with device old) shape.4 ∙ ap (λ b. if b then shape.1 else old) own ∙ is
     ] in
     let rest : (h : Happening) → IsIn h at.1 → state_with device Joining h.note.body ≡ Joining = λ h i.
-    let inside : IsIn h coming = subst (λ l. IsIn h l) (sym at.2) (in_right h at.0 (g ∷ at.1) (inr i)) in
+    let inside : IsIn h coming = rw at.2 (in_right h at.0 (g ∷ at.1) (inr i)) in
     elim (said s hs coming now r h inside) [
       | inl quiet ↦ was_on device Joining h.note.body quiet
       | inr (inr frame) ↦ ap (state_with device Joining) frame.3 ∙ if_same (device.0 == (frame.0).0) Joining
       | inr (inl on) ↦
           let by = on.1 in
           let more = parted h at.1 i in
-          let whole : coming ≡ (at.0 ++ g ∷ more.0) ++ h ∷ more.1 = at.2 ∙ ap (λ (l : List Happening). at.0 ++ g ∷ l) more.2
+          let whole = at.2 ∙ ap (λ l. at.0 ++ g ∷ l) more.2
           ∙ sym (append_assoc at.0 (g ∷ more.0) (h ∷ more.1)) in
           let before = (m.are.founded (at.0 ++ g ∷ more.0) more.1 h whole).0 g (in_right g at.0 (g ∷ more.0) (inl refl)) in
           let first = event_first s hs now n by.1 j by.2 r.run.founded at_n by.4 j_now by.5 by.6 (joined_rank device j.note.body flags.1) in
-          let own_h : device.0 ≡ (by.0).0 = eqb-true device.0 (by.0).0 (sym (ap (is_turning device) by.3) ∙ on.0) in
+          let own_h = eqb-true device.0 (by.0).0 (sym (ap (is_turning device) by.3) ∙ on.0) in
           let h_now = m.are.of_now h inside in
           let placed : IsBefore (now ∷ 7 ∷ device.0 ∷ n ∷ []) (now ∷ 7 ∷ (by.0).0 ∷ by.1 ∷ []) =
           subst (λ q. IsBefore q (now ∷ 7 ∷ (by.0).0 ∷ by.1 ∷ [])) there.2
           (subst (λ b. IsBefore (place_of g) (now ∷ rank b ∷ key (members_in h) b)) by.3
-          (subst (λ (t : ℕ). IsBefore (place_of g) (t ∷ rank h.note.body ∷ key (members_in h) h.note.body)) h_now before)) in
+          (subst (λ t. IsBefore (place_of g) (t ∷ rank h.note.body ∷ key (members_in h) h.note.body)) h_now before)) in
           absurd (not_behind now device.0 n (by.0).0 by.1 own_h first placed)
     ] in
     ap (fold (λ state h. state_with device state h.note.body) z) at.2 ∙ ends_in device z Joining at.0 at.1 g sets rest
   where
     not_behind : (t d n o c : ℕ) → d ≡ o → c < n → IsBefore (t ∷ 7 ∷ d ∷ n ∷ []) (t ∷ 7 ∷ o ∷ c ∷ []) → ⊥
-    not_behind t d n o c e lt (inl a) = omega (arith, a)
-    not_behind t d n o c e lt (inr (x, inl a)) = omega (arith, a)
-    not_behind t d n o c e lt (inr (x, inr (y, inl a))) = omega (arith, a, e)
-    not_behind t d n o c e lt (inr (x, inr (y, inr (w, inl a)))) = omega (arith, a, lt)
+    not_behind t d n o c e lt (inl a) = omega arith
+    not_behind t d n o c e lt (inr (x, inl a)) = omega arith
+    not_behind t d n o c e lt (inr (x, inr (y, inl a))) = omega arith
+    not_behind t d n o c e lt (inr (x, inr (y, inr (w, inl a)))) = omega arith
     not_behind t d n o c e lt (inr (x, inr (y, inr (w, inr (v, none))))) = none
 
 -- ---- no frame has
@@ -386,33 +384,32 @@ module _ {s : Scenario} {hs coming : List Happening} {now : ℕ} {e : Waiting}
         | inr (inl on) ↦ inr on.0
         | inr (inr frame) ↦
             absurd (both_ways (is_joined_by device (frame.2).note.body)
-            (sym (ap (λ (b : Bool). b && is_joined_by device (frame.2).note.body)
-            (eq-eqb (time_of frame.2) now frame.5))
+            (sym (rw (eq-eqb (time_of frame.2) now frame.5))
             ∙ none_of (λ g. time_of g == now && is_joined_by device g.note.body) hs frame.2 none
             (numbered_in hs frame.1 frame.2 frame.4)) frame.6)
       ] in
       elim (cases_Bool (is_turned_on_at s device now)) [
         | inr off ↦
-            let same : earlier now (hs ++ coming) ≡ earlier now hs =
-            earlier_still now hs coming (λ z i. let at = m.are.of_now z i in omega (arith, at)) in
+            let same =
+            earlier_still now hs coming (λ z i. let at = m.are.of_now z i in omega arith) in
             let start : state_after s (earlier now hs) device ≡ Integrating =
-            ap (λ l. state_after s l device) (sym same) ∙ sym
-            (not_turned_on s (hs ++ coming) device now off) ∙ told.just.looking in
-            ap (λ (x : State). fold (λ state h. state_with device state h.note.body) x coming) start ∙ looking_on
-            device coming quiet
+            rw (sym same) (sym
+            (not_turned_on s (hs ++ coming) device now off) ∙ told.just.looking) in
+            rw start (looking_on
+            device coming quiet)
         | inl on ↦
             let by = told.turned on in
-            let seven : rank by.by.note.body ≡ 7 = turning_rank device by.by.note.body by.turning in
+            let seven = turning_rank device by.by.note.body by.turning in
             let there : IsIn by.by coming = elim (Rattle.run_law.proofs.runs.Places.in_parts by.by hs coming by.there) [
               | inr more ↦ more
-              | inl given ↦ (let low = given_low hs (ripe_more e) r.run.within by.by given by.at in absurd (omega (arith, low, seven)))
+              | inl given ↦ (let low = given_low hs (ripe_more e) r.run.within by.by given by.at in
+                  absurd (omega arith))
             ] in
             let at = parted by.by coming there in
             ap (fold (λ state h. state_with device state h.note.body) (state_after s (earlier now hs) device)) at.2
             ∙ ends_in device _ Integrating at.0 at.1 by.by
             (λ old. turning_state device old by.by.note.body by.turning) (λ h i.
-            elim (quiet h (subst (λ l. IsIn h l) (sym at.2)
-            (in_right h at.0 (by.by ∷ at.1) (inr i)))) [
+            elim (quiet h (rw at.2 (in_right h at.0 (by.by ∷ at.1) (inr i)))) [
               | inl still ↦ Rattle.world_law.proofs.devices.OwnRecords.keeps_state device Integrating h.note.body still
               | inr turning ↦ turning_state device Integrating h.note.body turning
             ])
@@ -428,21 +425,19 @@ module _ {s : Scenario} {hs coming : List Happening} {now : ℕ} {e : Waiting}
       let device = e.device in
       let f = λ (state : State) (h : Happening). state_with device state h.note.body in
       let low = given_low hs (ripe_more e) r.run.within in
-      let given : state_after s hs device ≡ (if has_joined_at hs device now then Joining else state_after s
-      (earlier now hs) device) =
+      let given =
       given_states device now _ hs (in_time_of s hs r.run.founded) r.past low in
-      let same : earlier now (hs ++ coming) ≡ earlier now hs =
-      earlier_still now hs coming (λ z i. let at = r.moving.are.of_now z i in omega (arith, at)) in
-      let looking : state_before s hs device now ≡ Integrating =
-      sym (ap (λ l. if is_turned_on_at s device now then Integrating else state_after s l device)
-      same) ∙ told.just.looking in
+      let same =
+      earlier_still now hs coming (λ z i. let at = r.moving.are.of_now z i in omega arith) in
+      let looking =
+      sym (rw same) ∙ told.just.looking in
       fold-append f _ hs coming
       ∙ elim (cases_Bool (has_joined_at hs device now)) [
         | inl joined ↦ told_joining _ told joined
-            ∙ sym (ap (λ (b : Bool). if b then Joining else state_before s hs device now) joined)
+            ∙ sym (rw joined)
         | inr none ↦
-            ap (λ (x : State). fold f x coming) (given ∙ ap
-            (λ (b : Bool). if b then Joining else state_after s (earlier now hs) device) none)
+            ap (λ x. fold f x coming) (given ∙ ap
+            (λ b. if b then Joining else state_after s (earlier now hs) device) none)
             ∙ told_looking none
-            ∙ sym looking ∙ sym (ap (λ (b : Bool). if b then Joining else state_before s hs device now) none)
+            ∙ sym looking ∙ sym (ap (λ b. if b then Joining else state_before s hs device now) none)
       ]

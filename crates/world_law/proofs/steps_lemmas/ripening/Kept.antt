@@ -1,16 +1,16 @@
 -- The device of a frame that is permanent, and tells it no time, is kept.
 use Rattle.world_law.proofs.{devices.Working.{HasRested, rested}, giving.GivenParts.up_to_place, runs.Settled.{frame_source, late_of}}
-use Rattle.world_law.proofs.steps_lemmas.Words.{HasDoneTask, no_task_at, ◌++◌, ◌+ℤ◌, ◌+◌, ◌-ℤ◌, ◌<ℤ◌, ◌<◌, ◌||◌, ◌∙◌, ◌∷◌, ◌≡◌, ◌≤ℤ◌, ◌≤◌, ◌⊎◌, AllByRecursion, AreClusters, Bool}
-use Rattle.world_law.proofs.steps_lemmas.Words.{ClockTask, Compressed, DeviceId, Happening, HasDoneFrom, HasSentFrom, HasTurnedOn, IsAlike, IsAtRest, IsBefore}
+use Rattle.world_law.proofs.steps_lemmas.Words.{HasDoneTask, no_task_at, ◌++◌, ◌+ℤ◌, ◌+◌, ◌||◌, ◌∙◌, ◌∷◌, ◌≡◌, ◌≤ℤ◌, ◌≤◌, ◌⊎◌, AllByRecursion, Bool}
+use Rattle.world_law.proofs.steps_lemmas.Words.{Compressed, DeviceId, Happening, HasDoneFrom, HasSentFrom, HasTurnedOn, IsAlike, IsAtRest, IsBefore}
 use Rattle.world_law.proofs.steps_lemmas.Words.{IsIn, IsKept, IsLeft, IsNoTaking, IsPending, IsWaiting, Judgement, List, Network, Node}
 use Rattle.world_law.proofs.steps_lemmas.Words.{NoteBody, Point, Scenario, Task, Units, Waiting, [], act_place, after_permanence, amount, ap, arith}
-use Rattle.world_law.proofs.steps_lemmas.Words.{before_behind, behind, both_ways, called, chain, changed_at, changes_adjustment, channel_of_link, correcting}
-use Rattle.world_law.proofs.steps_lemmas.Words.{doing, earlier, earlier_still, emitting, false, frames_taken, has_cleared}
-use Rattle.world_law.proofs.steps_lemmas.Words.{if◌then◌else◌, inl, inr, ints, is_cm, is_joined_by, is_timed, is_turned_on_at, length, master_of, moment_of}
+use Rattle.world_law.proofs.steps_lemmas.Words.{before_behind, behind, both_ways, called, chain, changed_at, changes_adjustment, channel_of_link}
+use Rattle.world_law.proofs.steps_lemmas.Words.{doing, earlier_still, emitting, false, frames_taken, has_cleared}
+use Rattle.world_law.proofs.steps_lemmas.Words.{inl, inr, ints, is_cm, is_joined_by, is_timed, length, master_of, moment_of}
 use Rattle.world_law.proofs.steps_lemmas.Words.{moves, natural, not, observation_window, point_at, never_self, pos}
-use Rattle.world_law.proofs.steps_lemmas.Words.{reading_for, refl, ripe_as, ripening, state_after, state_before, subst, sym, taken_in, task_place, time_of}
+use Rattle.world_law.proofs.steps_lemmas.Words.{reading_for, refl, ripe_as, ripening, state_before, sym, taken_in, task_place, time_of}
 use Rattle.compression.proofs.Times.{one_list_of_clusters}
-use Rattle.{std.proofs.Common.Contains, sync_state.specs.Standing.Standing, world_law.proofs.devices.Borne.tell_owned}
+use Rattle.{std.proofs.Common.Contains, world_law.proofs.devices.Borne.tell_owned}
 use Rattle.world_law.proofs.steps_lemmas.{hearing.Takings.frames_placed, ripening.Merely.own_skip}
 use Rattle.world_law.proofs.putting.{Bearing.{before_aside, changed_aside, earlier_aside, frames_aside, left_aside, still_aside}, Moving.{stays, turned_by}}
 use Rattle.world_law.proofs.steps_lemmas.{Words.{true, turned_aside, undone_alike, value_of, waiting_alike, ℕ}, ripening.Clustered.{old_or_open, open_later}}
@@ -59,14 +59,14 @@ module _ {M : Type 0} (stands : M → Network → DeviceId → Node → Type 0) 
       → HasRested s e.device k.node (changed_at (hs ++ coming) e.device k.up) k.up
   rests_yet k =
       let le : now ≤ k.up =
-      elim k.acted [ inl yet ↦ (let same = yet.0 in omega (arith, same)) | inr over ↦ (let next = over.0 in omega (arith, next)) ] in
+      elim k.acted [ inl yet ↦ (omega arith) | inr over ↦ (omega arith) ] in
       rested now k.worked le
       (λ b. let here = now ∷ 3 ∷ ripe_more e in
       never_self here (chain here (act_place now e.device) here (under_act now e.device.0 (ripe_more e)) b))
 
 done_alike : (node new : Node) (task : Task) → new.done ≡ node.done → new.emitted ≡ node.emitted → HasDoneTask node task → HasDoneTask new task
-done_alike node new (emitting sent) done emitted did = subst (λ (l : List Compressed). Contains l sent) (sym emitted) did
-done_alike node new (doing deed) done emitted did = subst (λ (l : List ClockTask). Contains l deed) (sym done) did
+done_alike node new (emitting sent) done emitted did = rw emitted did
+done_alike node new (doing deed) done emitted did = rw done did
 
 -- ---- its tasks
 
@@ -121,18 +121,17 @@ kept_next {stands} {s} {hs} {coming} {coming2} {now} {e} {machine} after base r 
     let rests = rests_yet stands machine r k in
     let a = alike_of c.same in
     let soon = in_time r in
-    let adjusted : new.standing.adjustment ≡ k.node.standing.adjustment = ap (λ (x : Standing). x.adjustment) c.same.standing in
+    let adjusted : new.standing.adjustment ≡ k.node.standing.adjustment = rw c.same.standing in
     let change = n.change in
     let done_so : HasDoneFrom s.network (s.reading e.device) e.device new (changed_at (hs ++ coming2) e.device k.up) k.up k.up = record {
       undone = λ deed u x from lt.
-          subst (λ (z : Units). pos (s.reading e.device x) <ℤ (value_of s.network deed -ℤ z.0)) (sym adjusted)
-          (rests.done.undone deed (undone_alike s.network e.device k.node new a u) x (omega (arith, from, change)) lt);
+          rw adjusted (rests.done.undone deed (undone_alike s.network e.device k.node new a u) x (omega arith) lt);
       done = λ deed there.
-          let x = rests.done.done deed (subst (λ (l : List ClockTask). Contains l deed) c.same.done there) in (
+          let x = rests.done.done deed (rw c.same.done at there) in (
             x.0,
-            omega (arith, x.1, change),
+            omega (arith, x.1),
             x.2,
-            subst (λ (z : Units). (value_of s.network deed -ℤ z.0) ≤ℤ pos (s.reading e.device x.0)) (sym adjusted) x.3,
+            rw adjusted x.3,
           );
     } in
     let sent_so : HasSentFrom s e.device new k.up k.up = record {
@@ -141,11 +140,11 @@ kept_next {stands} {s} {hs} {coming} {coming2} {now} {e} {machine} after base r 
         | inr later ↦ elim yet.stands [
           | inl now_is ↦
               let under = not_beyond r x (omega (arith, lt, now_is)) in
-              omega (arith, ints, under, later)
+              omega (arith, ints)
           | inr over ↦ absurd (both_ways (is_cm s.network e.device) over.1.just.other w.cm)
         ]
       ];
-      sent = λ sent there. rests.sent.sent sent (subst (λ (l : List Compressed). Contains l sent) c.same.emitted there);
+      sent = λ sent there. rests.sent.sent sent (rw c.same.emitted at there);
     } in
     let did_then : (task : Task) → HasDoneTask k.node task → HasDoneTask new task = λ task. done_alike k.node new task c.same.done c.same.emitted in
     record {
@@ -166,7 +165,7 @@ kept_next {stands} {s} {hs} {coming} {coming2} {now} {e} {machine} after base r 
             )
       ];
       told = λ over. elim yet.stands [
-        | inl same ↦ absurd (omega (arith, same, over))
+        | inl same ↦ absurd (omega arith)
         | inr told ↦ inr (inl (record { looking = sym n.before ∙ told.1.just.looking; other = told.1.just.other }))
       ];
       left = n.left;
@@ -174,15 +173,15 @@ kept_next {stands} {s} {hs} {coming} {coming2} {now} {e} {machine} after base r 
       worked = record {
         undone = done_so.undone;
         done = λ deed there.
-            let x = k.worked.done deed (subst (λ (l : List ClockTask). Contains l deed) c.same.done there) in (
+            let x = k.worked.done deed (rw c.same.done at there) in (
               x.0,
-              omega (arith, x.1, change),
+              omega (arith, x.1),
               stays here (task_place s.network x.0 e.device (doing deed)) x.2,
-              subst (λ (z : Units). (value_of s.network deed -ℤ z.0) ≤ℤ pos (s.reading e.device x.0)) (sym adjusted) x.3,
+              rw adjusted x.3,
             );
         unsent = sent_so.unsent;
         sent = λ sent there.
-            let x = k.worked.sent sent (subst (λ (l : List Compressed). Contains l sent) c.same.emitted there) in
+            let x = k.worked.sent sent (rw c.same.emitted at there) in
             (x.0, stays here (task_place s.network x.0 e.device (emitting sent)) x.1, x.2);
       };
       bare = λ other. (c.bare other ∙ (k.bare other).0, c.same.emitted ∙ (k.bare other).1);
@@ -191,19 +190,18 @@ kept_next {stands} {s} {hs} {coming} {coming2} {now} {e} {machine} after base r 
         begun = omega (arith, ints);
         last = refl;
         undone = λ task p x lt. elim (task_carried task c p) [
-          | inl it ↦ subst (λ z. pos (s.reading e.device x) <ℤ z) it.1 (k.ready.undone task it.0 x lt)
-          | inr later ↦ let under = not_beyond r x lt in omega (arith, ints, under, later)
+          | inl it ↦ rw it.1 at (k.ready.undone task it.0 x lt)
+          | inr later ↦ let under = not_beyond r x lt in omega (arith, ints)
         ];
         in_time = λ task p. elim (task_carried task c p) [
-          | inl it ↦ subst (λ z. pos (s.reading e.device now) <ℤ (z +ℤ s.network.precision.0)) it.1 (k.ready.in_time task it.0)
-          | inr later ↦ omega (arith, ints, soon, later)
+          | inl it ↦ rw it.1 at (k.ready.in_time task it.0)
+          | inr later ↦ omega (arith, ints)
         ];
       };
       still = λ same. n.still (k.still same);
       turned = λ on. n.turned (behind here) (turned_by r.moving (k.turned on));
       cleared = λ cycle there.
-          subst (λ (x : Standing). cycle < x.number) (sym c.same.standing)
-          (k.cleared cycle (subst (λ (l : List ClockTask). Contains l (correcting cycle)) c.same.done there));
+          rw c.same.standing (k.cleared cycle (rw c.same.done at there));
       phase = λ at p b. chain p here (behind here) (before_place p now more b) (before_behind here);
     }
 
@@ -241,9 +239,9 @@ with_point_waiting s e node p {sent} at points emitted some no_later w =
     let ow = observation_window s.network in
     let whole : pos 0 ≤ℤ ow = omega (arith, ints) in
     let old = one_list_of_clusters ow node.points in
-    let up = all_rec (λ q. q.reading ≤ℤ p.reading) node.points (λ q i. let le = no_later q i in omega (arith, ints, le, at)) in
+    let up = all_rec (λ q. q.reading ≤ℤ p.reading) node.points (λ q i. let le = no_later q i in omega (arith, ints)) in
     elim (old_or_open (length node.points) ow node.points old.0 w.clusters p w.cluster (omega arith) whole up old.1
-    (subst (λ ps. AreClusters ow ps w.clusters) points w.are) w.there) [
+    (rw points at w.are) w.there) [
       | inl there ↦
           inl (record {
             cm = w.cm;
@@ -252,11 +250,11 @@ with_point_waiting s e node p {sent} at points emitted some no_later w =
             cluster = w.cluster;
             there = there;
             is = w.is;
-            not_yet = λ given. w.not_yet (subst (λ (l : List Compressed). Contains l sent) (sym emitted) given);
+            not_yet = λ given. w.not_yet (rw emitted given);
           })
       | inr open_ ↦
           let later = open_later (pos (amount s.network.calc)) whole open_ in
-          inr (subst (λ (c : Compressed). (e.point.0 +ℤ pos 1) ≤ℤ c.at.0) (sym w.is) (omega (arith, ints, later, at, some)))
+          inr (rw w.is (omega (arith, ints)))
     ]
 
 module _ (s : Scenario) (hs coming : List Happening) (now : ℕ) (e : Waiting) where
@@ -272,17 +270,15 @@ module _ (s : Scenario) (hs coming : List Happening) (now : ℕ) (e : Waiting) w
       let moment = moment_of s e.device now in
       let same = same_by_role s.network e.device node moment ripening e.link e.point e.frame
       (is_cm s.network e.device) verdict role in
-      let new = called moment ripening (after_permanence node moment (channel_of_link s.network e.link) e.frame
-      e.point (ripe_as verdict)) in
       record {
         same = same;
         waiting = λ sent w.
             with_point_waiting s e node (point_at e.point.0 (master_of e.frame.members.0) e.frame.cycle) refl
             (points_by_role s.network e.device node moment ripening e.link e.point e.frame verdict
-            (subst (λ b. IsByRole b verdict) w.cm role))
+            (rw w.cm at role))
             same.emitted (calc_some r) (no_later w.cm) w;
         bare = λ other. points_not s.network e.device node moment ripening e.link e.point e.frame verdict
-            (subst (λ b. IsByRole b verdict) other role);
+            (rw other at role);
       }
 
 keep_of : (a b : Bool) → (a ≡ false) ⊎ (a ≡ b) → (not a || b) ≡ true
@@ -320,26 +316,23 @@ next_by_role {stands} {s} {hs} {coming} {now} {e} {machine} w verdict r k hears 
       still = quiet.1;
       goes_on = quiet.3;
     } in
-    let new = called (moment_of s device now) ripening (after_permanence k.node (moment_of s device now) (channel_of_link s.network e.link) e.frame e.point
-    (ripe_as verdict)) in
     let grown = is_grown s device k.node (moment_of s device now) ripening w e.link e.cause e.point e.frame verdict of_frame body role in
     let keep : is_timed k.node.standing.state ≡ true
     → (not (has_cleared s (hs ++ coming) device k.up k.up) || has_cleared s (hs ++ coming) device k.up (time_of w)) ≡ true =
-    grind (arith, keep_of, yet.stands, has_cleared, device, cleared_told) in
+    grind (arith, keep_of, yet.stands, has_cleared, cleared_told) in
     let a = tell_owned s (hs ++ w ∷ coming) (hs ++ coming) device k.up (own_skip device k.up hs coming w quiet.1) in
-    let same_earlier : earlier now (hs ++ coming) ≡ earlier now (hs ++ w ∷ coming) =
-    earlier_still now hs coming (λ z i. let z_now = r.moving.are.of_now z i in omega (arith, z_now))
+    let same_earlier =
+    earlier_still now hs coming (λ z i. omega arith)
     ∙ sym (earlier_still now hs (w ∷ coming) (λ z i. elim i [
-      | inl same ↦ (let t : time_of z ≡ time_of w = ap time_of same in omega (arith, t, at))
-      | inr b ↦ let z_now = r.moving.are.of_now z b in omega (arith, z_now)
+      | inl same ↦ (let t : time_of z ≡ time_of w = ap time_of same in omega arith)
+      | inr b ↦ omega arith
     ])) in
     record {
       left = left_grown hs first keep grown k.left;
       change = a.change;
       before =
-          ap (λ l. if is_turned_on_at s device now then Rattle.sync_state.specs.declared.state.State.TheVariants.Integrating
-          else state_after s l device) same_earlier;
+          rw same_earlier;
       still = still_aside s hs [] coming w device now quiet.1;
-      turned = λ frontier2 it. turned_aside s hs [] coming w device it (ap (λ l. state_after s l device) same_earlier);
+      turned = λ frontier2 it. turned_aside s hs [] coming w device it (rw same_earlier);
       frames = frames_placed s hs [] coming w device (λ z. ap (taken_in device z) body) (λ h i. sooner_of r w h at i);
     }

@@ -5,7 +5,7 @@ use Rattle.world_law.{proofs.devices.OwnRecords.{changes_no_other, earlier_no, e
 use Rattle.world_law.proofs.steps_lemmas.Words.{◌++◌, ◌∙◌, ◌∷◌, ◌≡◌, Bool, DeviceId, Happening, IsIn, List, Network, None, NoteBody, Option, Scenario, Units}
 use Rattle.world_law.proofs.steps_lemmas.Words.{[], adjustment_with, after_last, after_more, ap, append_assoc, bears_on, behind_yes, cases_lt}
 use Rattle.world_law.proofs.steps_lemmas.Words.{changes_adjustment, cons_option, cycle_after, earlier, false, filter, filter_map, filter_map-append, fold}
-use Rattle.world_law.proofs.steps_lemmas.Words.{hearing_by, if◌then◌else◌, inl, inr, is_joined_by, keeps_adjustment, moves, moves_no_other, nat_lt}
+use Rattle.world_law.proofs.steps_lemmas.Words.{hearing_by, inl, inr, is_joined_by, keeps_adjustment, moves, moves_no_other, nat_lt}
 use Rattle.run_law.specs.declared.note.NoteBody.TheVariants as kinds
 
 -- the record does not bear on the device, or it is of a state
@@ -44,18 +44,19 @@ mere_point device h other m = gives_no_point device h other m
 pub fold_rest : {B : Type 0} (f : B → Happening → B) (z : B) (xs zs : List Happening) → ((h : Happening) → IsIn h zs → (b : B) → f b h ≡ b)
     → fold f z (xs ++ zs) ≡ fold f z xs
 fold_rest f z [] [] same = refl
-fold_rest {B} f z [] (y ∷ zs) same = ap (λ (b : B). fold f b zs) (same y (inl refl) z) ∙ fold_rest f z [] zs (λ h i. same h (inr i))
+fold_rest {B} f z [] (y ∷ zs) same = ap (λ b. fold f b zs) (same y (inl refl) z) ∙ fold_rest f z [] zs
+    (λ h i. same h (inr i))
 fold_rest f z (x ∷ xs) zs same = fold_rest f (f z x) xs zs same
 
 pub filter_rest : {X : Type 0} (p : X → Bool) (xs zs : List X) → ((x : X) → IsIn x zs → p x ≡ false) → filter p (xs ++ zs) ≡ filter p xs
 filter_rest p [] [] none = refl
 filter_rest {X} p [] (z ∷ zs) none =
-    ap (λ (b : Bool). if b then z ∷ filter p zs else filter p zs) (none z (inl refl)) ∙ filter_rest p [] zs (λ x i. none x (inr i))
-filter_rest {X} p (x ∷ xs) zs none = ap (λ (l : List X). if p x then x ∷ l else l) (filter_rest p xs zs none)
+    rw (none z (inl refl)) (filter_rest p [] zs (λ x i. none x (inr i)))
+filter_rest {X} p (x ∷ xs) zs none = rw (filter_rest p xs zs none)
 
 pub maps_rest : {X Y : Type 0} (f : X → Option Y) (xs zs : List X) → ((x : X) → IsIn x zs → f x ≡ None) → filter_map f (xs ++ zs) ≡ filter_map f xs
 maps_rest f [] [] none = refl
-maps_rest {X} {Y} f [] (z ∷ zs) none = ap (λ (o : Option Y). cons_option o (filter_map f zs)) (none z (inl refl)) ∙ maps_rest f [] zs (λ x i. none x (inr i))
+maps_rest {X} {Y} f [] (z ∷ zs) none = rw (none z (inl refl)) (maps_rest f [] zs (λ x i. none x (inr i)))
 maps_rest {X} {Y} f (x ∷ xs) zs none = ap (cons_option (f x)) (maps_rest f xs zs none)
 
 -- behind the one that passes
@@ -63,7 +64,7 @@ pub behind_it : {X : Type 0} (p : X → Bool) (xs zs : List X) (w : X) → p w �
 behind_it {X} p xs zs w yes_it none =
     ap (after_last p) (sym (append_assoc xs (w ∷ []) zs))
     ∙ after_more p (xs ++ w ∷ []) zs none
-    ∙ ap (λ (l : List X). l ++ zs) (behind_yes p xs w yes_it)
+    ∙ (rw (behind_yes p xs w yes_it))
 
 -- what is mapped of one more
 pub maps_one : {X Y : Type 0} (f : X → Option Y) (xs : List X) (x : X) → filter_map f (xs ++ x ∷ []) ≡ filter_map f xs ++ option_to_list (f x)

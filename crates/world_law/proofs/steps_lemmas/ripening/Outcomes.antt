@@ -83,12 +83,12 @@ module _ (s : Scenario) (hs coming coming2 : List Happening) (now : ℕ) (e : Wa
       → IsAllOfIt s hs coming2 (now ∷ 3 ∷ ripe_more e)
   permanent_all w verdict r hears so after z there at front back y whole before none due own =
       let inside : (h : Happening) → IsIn h front → IsBefore (place_of h) (now ∷ 3 ∷ ripe_more e) → ⊥ = λ h i.
-      after h (subst (λ l. IsIn h l) (sym whole) (in_left h front back i)) in
+      after h (rw whole (in_left h front back i)) in
       elim (kind_at s (hs ++ front) (time_of y) (members_in y) now y.note.body (ripe_more e) own) [
         | inl p ↦ (
           z,
           there,
-          at ∙ p.at ∙ sym (ap (λ b. time_of y ∷ rank b ∷ key (members_in y) b) p.is),
+          at ∙ p.at ∙ sym (rw p.is),
         )
         | inr d ↦
             let h = is_here now (time_of y) d.device.0 (amount d.point) d.becomes.frame.members.0 d.link.0 d.cause e
@@ -126,28 +126,27 @@ pub drop_fresh : {s : Scenario} {hs coming : List Happening} {now : ℕ} {e : Wa
     → IsPermanent s (hs ++ f) e.device now e.link e.cause e.frame e.point) (y : Happening) → IsIn y coming
     → now ∷ 13 ∷ e.device.0 ∷ e.link.0 ∷ e.cause ∷ [] ≡ place_of y → ⊥
 drop_fresh {s} {hs} {coming} {now} {e} r permanent y i at =
-    let here = now ∷ 3 ∷ ripe_more e in
     let of = place_drop (time_of y) (members_in y) now e.device.0 e.link.0 e.cause y.note.body at in
-    let device : of.0 ≡ e.device = ap (λ (n : ℕ). let x : DeviceId = record { 0 = n } in x) of.5 in
-    let link : of.1 ≡ e.link = ap (λ (n : ℕ). let x : LinkId = record { 0 = n } in x) of.6 in
-    let body : y.note.body ≡ kinds.Dropped e.device e.link e.cause of.3 =
-    of.4 ∙ ap (λ (d : DeviceId). kinds.Dropped d of.1 of.2 of.3) device ∙ ap (λ (l : LinkId). kinds.Dropped e.device l of.2 of.3) link
-    ∙ ap (λ (c : ℕ). kinds.Dropped e.device e.link c of.3) of.7 in
+    let device : of.0 ≡ e.device = ap (λ n. (record { 0 = n })) of.5 in
+    let link : of.1 ≡ e.link = ap (λ n. (record { 0 = n })) of.6 in
+    let body =
+    of.4 ∙ ap (λ d. kinds.Dropped d of.1 of.2 of.3) device ∙ ap (λ l. kinds.Dropped e.device l of.2 of.3) link
+    ∙ ap (λ c. kinds.Dropped e.device e.link c of.3) of.7 in
     let part = parted y coming i in
     let by = r.moving.are.by part.0 part.1 y part.2 in
     let y_now = r.moving.are.of_now y i in
-    let under : IsBefore by.0 here = by.3 in
     let own = subst (λ t. IsOwnSource s (hs ++ part.0) t (members_in y) (kinds.Dropped e.device e.link e.cause of.3) by.0) y_now
     (subst (λ b. IsOwnSource s (hs ++ part.0) (time_of y) (members_in y) b by.0) body by.1) in
     elim own [
       | inl a ↦
           let same = some_same a.1.putting r.it.arrival _ a.1.there (numbered_front hs part.0 e.cause r.it.arrival r.it.there) in
           no_launch s a.1.putting (time_of a.1.putting) a.1.putting.note.body e.device e.link r.it.awaited.from r.it.awaited.clock _
-          (ap (λ (h : Happening). h.note.body) same ∙ r.it.awaited.arrived) a.1.arrives.put
+          (rw same r.it.awaited.arrived) a.1.arrives.put
       | inr (inl p) ↦
           let both = same_place p.1.permanent (permanent part.0) in
-          let is_here : by.0 ≡ here = p.2 ∙ ap (λ u. now ∷ 3 ∷ e.device.0 ∷ amount u ∷ p.1.frame.members.0 ∷ e.link.0 ∷ e.cause ∷ []) both.1
-          ∙ ap (λ (f : Pcf). now ∷ 3 ∷ e.device.0 ∷ amount e.point ∷ f.members.0 ∷ e.link.0 ∷ e.cause ∷ []) both.0 in
-          never_self here (subst (λ q. IsBefore q here) is_here by.3)
-      | inr (inr d) ↦ grind (arith, under, no_higher, ripe_more, here)
+          let is_here = p.2 ∙ ap (λ u. now ∷ 3 ∷ e.device.0 ∷ amount u ∷ p.1.frame.members.0 ∷ e.link.0 ∷ e.cause ∷ [])
+          both.1
+          ∙ ap (λ f. now ∷ 3 ∷ e.device.0 ∷ amount e.point ∷ f.members.0 ∷ e.link.0 ∷ e.cause ∷ []) both.0 in
+          never_self (now ∷ 3 ∷ ripe_more e) (rw is_here at by.3)
+      | inr (inr d) ↦ grind (arith, no_higher, ripe_more)
     ]

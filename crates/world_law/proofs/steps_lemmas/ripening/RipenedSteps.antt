@@ -9,9 +9,9 @@ use Rattle.world_law.proofs.putting.{PutShown.{change_of, pair_put, same_record}
 use Rattle.world_law.proofs.steps_lemmas.Words.{no_task_at, ◌++◌, ◌+◌, ◌<◌, ◌∙◌, ◌∷◌, ◌≡◌, ◌≤ℤ◌, ◌≤◌, ◌⊎◌, AreOfNetwork}
 use Rattle.world_law.proofs.steps_lemmas.Words.{ArePutIn, AreSettled, AreWaiting, Bool, ComesFirst, DeviceId, Down, Happening}
 use Rattle.world_law.proofs.steps_lemmas.Words.{IsAllOfIt, IsBefore, IsDue, IsFounded, IsHeld, IsIn, IsInRange, IsKept, IsNoTaking}
-use Rattle.world_law.proofs.steps_lemmas.Words.{IsOfMaster, IsOne, IsParentOf, IsPermanent, IsPutIn, IsSet, IsSource, IsUnfollowed}
+use Rattle.world_law.proofs.steps_lemmas.Words.{IsOfMaster, IsOne, IsParentOf, IsPermanent, IsSet, IsSource, IsUnfollowed}
 use Rattle.world_law.proofs.steps_lemmas.Words.{IsWaitingFor, IsWithout, Joining, Judgement, LinkId, List, Network, Node, Note}
-use Rattle.world_law.proofs.steps_lemmas.Words.{NoteBody, Option, Pcf, Reason, Ripe, Scenario, Some, Stands, StandsBehind, Units}
+use Rattle.world_law.proofs.steps_lemmas.Words.{NoteBody, Reason, Ripe, Scenario, Some, Stands, StandsBehind, Units}
 use Rattle.world_law.proofs.steps_lemmas.Words.{Up, Waiting, Way, World, [], amount, ap, are_past, arith}
 use Rattle.world_law.proofs.steps_lemmas.Words.{bears_on, before_behind, behind, both_ways, comes_first, due_of, eq-eqb}
 use Rattle.world_law.proofs.steps_lemmas.Words.{false, happenings, held_aside, in_left, in_right, inl, inr}
@@ -77,24 +77,23 @@ ripens_too : {s : Scenario} {hs : List Happening} {now : ℕ} (e : Waiting) {f :
     → ripe_place now f ≡ ripe_place now e → IsRipening s hs now f.device f.link f.cause f.point
 ripens_too {s} {hs} {now} e {f} p it at =
     let same = same_places at in
-    let d : e.device.0 ≡ f.device.0 = sym same.1 in
-    let l : e.link.0 ≡ f.link.0 = sym same.2 in
-    let c : e.cause ≡ f.cause = sym same.3 in
-    let device : e.device ≡ f.device = ap (λ (n : ℕ). let x : DeviceId = record { 0 = n } in x) d in
-    let link : e.link ≡ f.link = ap (λ (n : ℕ). let x : LinkId = record { 0 = n } in x) l in
-    let q : IsPermanent s hs f.device now f.link f.cause e.frame e.point = subst (λ n. IsPermanent s hs f.device now f.link n e.frame e.point) c
-    (subst (λ x. IsPermanent s hs f.device now x e.cause e.frame e.point) link
-    (subst (λ x. IsPermanent s hs x now e.link e.cause e.frame e.point) device p)) in
-    let arrival : it.arrival ≡ q.arrival = some_same it.arrival q.arrival _ it.there q.there in
-    let frame : f.frame ≡ e.frame = some_same f.frame e.frame _ it.awaited.of_frame (ap (λ (h : Happening). h.frame) arrival ∙ q.of_frame) in
-    let bodies : kinds.Arrived f.device f.link it.awaited.from it.awaited.clock ≡ kinds.Arrived f.device f.link q.from q.clock =
-    sym it.awaited.arrived ∙ ap (λ (h : Happening). h.note.body) arrival ∙ q.arrived in
+    let d = sym same.1 in
+    let l = sym same.2 in
+    let c = sym same.3 in
+    let device : e.device ≡ f.device = rw d in
+    let link : e.link ≡ f.link = rw l in
+    let q : IsPermanent s hs f.device now f.link f.cause e.frame e.point = rw c at (rw link at (rw device at p)) in
+    let arrival = some_same it.arrival q.arrival _ it.there q.there in
+    let frame = some_same f.frame e.frame _ it.awaited.of_frame (rw arrival q.of_frame) in
+    let bodies =
+    sym it.awaited.arrived ∙ ap (λ h. h.note.body) arrival ∙ q.arrived in
     let clock : it.awaited.clock ≡ q.clock = cc in
-    let point : e.point ≡ f.point = same_units e.point f.point (q.at_point
+    let point = same_units e.point f.point (q.at_point
     ∙ ap (λ h. Rattle.drift_clock.specs.transparent.Points.point_of (pos (s.reading f.device (time_of h))) q.clock s.network.dmax.0) (sym arrival)
-    ∙ ap (λ (n : ℕ). Rattle.drift_clock.specs.transparent.Points.point_of (pos (s.reading f.device (time_of it.arrival))) n s.network.dmax.0) (sym clock)
+    ∙ ap (λ n. Rattle.drift_clock.specs.transparent.Points.point_of (pos (s.reading f.device (time_of it.arrival))) n
+    s.network.dmax.0) (sym clock)
     ∙ sym it.awaited.at_point) in
-    record { frame = e.frame; permanent = subst (λ u. IsPermanent s hs f.device now f.link f.cause e.frame u) point q }
+    record { frame = e.frame; permanent = rw point at q }
 
 pub waiting_ripe : {s : Scenario} {hs coming : List Happening} {now : ℕ} {e : Waiting}
     {waiting : List Waiting} (new : List Waiting) → IsRipe s hs coming now e
@@ -111,7 +110,7 @@ waiting_ripe {s} {hs} {now} {e} new r are without =
             | inr yet ↦ are.later f was.0 t x yet
             | inl place ↦
                 let time : t ≡ now = (same_places place).0 in
-                was.1 (subst (λ n. ripe_place n f ≡ ripe_place now e) time place)
+                was.1 (rw time at place)
           ];
       sound = λ f i. are.sound f ((without f).0 i).0;
       all = λ f it sound not.
@@ -143,14 +142,12 @@ ripened_behind : {C M : Type 0} {reading : C → ℕ → ℕ} {stands : M → Ne
     (ripe_place world.now e)
 ripened_behind {stands} {s} {world} {notes} {e} {after} {machines} waiting {settled} c r set without room are known
     kept others =
-    let hs = happenings s.network notes in
-    let now = world.now in
     let more = ripe_more e in
     stands_on c machines world.shown room are known
-    (devices_then c e.device (λ other not. no_task_at s.network now other 3 more (inl (omega arith))) set
+    (devices_then c e.device (λ other not. no_task_at s.network world.now other 3 more (inl (omega arith))) set
     (inl kept)
     others)
-    (wires_still c (λ two. omega (arith, two))) (ports_still c (λ eight. omega (arith, eight)))
+    (wires_still c (λ two. omega arith)) (ports_still c (λ eight. omega arith))
     (waiting_ripe waiting r c.waiting without) (shown_still c (omega arith))
 
 -- ---- its device is one of the network
@@ -164,11 +161,9 @@ waits_within s hs e it founded range =
   where
     by_way : (way : Way) → IsReceiver s.network e.device e.link way → e.device.0 < length s.network.device
     by_way Up v =
-        subst (λ (d : DeviceId). d.0 < length s.network.device) v.is
-        (in_all (IsLinkInRange s.network) s.network.link e.link.0 v.joint range.links v.there).parent
+        rw v.is at (in_all (IsLinkInRange s.network) s.network.link e.link.0 v.joint range.links v.there).parent
     by_way Down v =
-        subst (λ (d : DeviceId). d.0 < length s.network.device) v.is
-        (in_all (IsLinkInRange s.network) s.network.link e.link.0 v.joint range.links v.there).child
+        rw v.is at (in_all (IsLinkInRange s.network) s.network.link e.link.0 v.joint range.links v.there).child
 
 pub in_network : {s : Scenario} {hs coming : List Happening} {now : ℕ} {e : Waiting}
     → IsRipe s hs coming now e → e.device.0 < length s.network.device
@@ -180,12 +175,12 @@ frame_is : {s : Scenario} {hs : List Happening} (front : List Happening) {coming
     {now : ℕ} {e : Waiting} → IsRipe s hs coming now e
     → frame_from (hs ++ front) e.cause ≡ Some e.frame
 frame_is {hs} front {e} r =
-    ap (λ (o : Option Happening). Rattle.std.proofs.Common.option_and_then (λ h. h.frame) o) (numbered_front hs front e.cause r.it.arrival r.it.there)
-    ∙ r.it.awaited.of_frame
+    rw (numbered_front hs front e.cause r.it.arrival r.it.there)
+    r.it.awaited.of_frame
 
 module _ (s : Scenario) (hs coming : List Happening) (now : ℕ) (e : Waiting) where
   few_cause : IsRipe s hs coming now e → e.cause ≤ length hs
-  few_cause r = let lt = numbered_within hs e.cause r.it.arrival r.it.there in omega (arith, lt)
+  few_cause r = let lt = numbered_within hs e.cause r.it.arrival r.it.there in omega arith
 
   permanent_in : (r : IsRipe s hs coming now e) (f : List Happening)
       → IsPermanent s (hs ++ f) e.device now e.link e.cause e.frame e.point
@@ -205,8 +200,8 @@ module _ (s : Scenario) (hs coming : List Happening) (now : ℕ) (e : Waiting) w
 here_place : (t now : ℕ) (m : ℕ) (e : Waiting) (verdict : Judgement) (body : NoteBody) → body ≡ kinds.Permanent e.device e.link e.cause e.point verdict
     → m ≡ e.frame.members.0 → t ≡ now → t ∷ rank body ∷ key m body ≡ now ∷ 3 ∷ ripe_more e
 here_place t now m e verdict body is members at =
-    ap (λ (u : ℕ). u ∷ rank body ∷ key m body) at ∙ ap (λ b. now ∷ rank b ∷ key m b) is
-    ∙ ap (λ (n : ℕ). now ∷ 3 ∷ e.device.0 ∷ amount e.point ∷ n ∷ e.link.0 ∷ e.cause ∷ []) members
+    rw at (ap (λ b. now ∷ rank b ∷ key m b) is
+    ∙ ap (λ n. now ∷ 3 ∷ e.device.0 ∷ amount e.point ∷ n ∷ e.link.0 ∷ e.cause ∷ []) members)
 
 role_by : (cm : Bool) (verdict : Judgement) → IsKindOf cm (ripe_as verdict)
     → is_last (kinds.Permanent (record { 0 = 0 }) (record { 0 = 0 }) 0 (record { 0 = pos 0 }) verdict) ≡ true → IsByRole cm verdict
@@ -273,14 +268,14 @@ module _ {C M : Type 0} (reading : C → ℕ → ℕ) (stands : M → Network �
       let room = x.room in
       let is_in = in_network x.r in
       ripened_behind waiting x.c x.r x.set x.without
-      (omega (arith, long, parts_length, room))
+      (omega arith)
       (one_by one last all)
       (known_aside hs front back w
-      (λ device le. moves_no_other device w.note.body (misses device (λ same. omega (arith, same, le, is_in))))
-      (subst (λ (l : List Happening). AreOfNetwork s (hs ++ l)) parts old.known)) kept
+      (λ device le. moves_no_other device w.note.body (misses device (λ same. omega arith)))
+      (rw parts at old.known)) kept
       (λ device m ne held. held_aside s hs front back w device (misses device ne) one.at
       (frames_aside s hs front back w device (misses device ne) (none device))
-      (subst (λ l. IsHeld stands s hs l (behind (now ∷ 3 ∷ ripe_more e)) now device m) parts held))
+      (rw parts at held))
 
   -- ---- the frame is collected, or heard
 
@@ -301,17 +296,17 @@ module _ {C M : Type 0} (reading : C → ℕ → ℕ) (stands : M → Network �
       let back = shown.back in
       let w = record_of s.network hs front now body in
       let r : IsRipe s hs (front ++ back) now e =
-      subst (λ l. IsRipe s hs l now e) shown.parts x.r in
+      rw shown.parts at x.r in
       let k : IsKept stands s hs (front ++ back) (now ∷ 3 ∷ ripe_more e) now e.device machine =
-      subst (λ l. IsKept stands s hs l here now e.device machine) shown.parts x.k in
+      rw shown.parts at x.k in
       let a = answered stands s hs (front ++ back) now e machine after (ripe_as verdict) r k x.master x.has in
       let kind = outcome_kind s.network e.device k.node.standing.state k.node.standing.adjustment.0 k.node.points e.frame
       e.point.0 (ripe_as verdict) a.outcome in
       let role = role_by (is_cm s.network e.device) verdict kind last in
-      let of_frame : w.frame ≡ Some e.frame = frame_is front r in
+      let of_frame = frame_is front r in
       let members : members_in w ≡ e.frame.members.0 =
-      ap (λ (o : Option Pcf). Rattle.std.specs.Option.option_map_or (λ f. f.members.0) o 0) of_frame in
-      let place : place_of w ≡ here = here_place now now (members_in w) e verdict body refl members refl in
+      rw of_frame in
+      let place = here_place now now (members_in w) e verdict body refl members refl in
       let high = high_now r in
       let under : (z : Happening) → IsIn z front → IsBefore (place_of z) here → ⊥ = λ z i.
       r.moving.are.after z (in_left z front back i) in
@@ -365,9 +360,9 @@ module _ {C M : Type 0} (reading : C → ℕ → ℕ) (stands : M → Network �
       let back = shown.back in
       let w = record_of s.network hs front now body in
       let r : IsRipe s hs (front ++ back) now e =
-      subst (λ l. IsRipe s hs l now e) shown.parts x.r in
+      rw shown.parts at x.r in
       let k : IsKept stands s hs (front ++ back) (now ∷ 3 ∷ ripe_more e) now e.device machine =
-      subst (λ l. IsKept stands s hs l here now e.device machine) shown.parts x.k in
+      rw shown.parts at x.k in
       let a = answered stands s hs (front ++ back) now e machine after (ripe.Dropped reason) r k x.master
       x.has in
       let high = high_now r in
@@ -394,7 +389,7 @@ module _ {C M : Type 0} (reading : C → ℕ → ℕ) (stands : M → Network �
       let after_all : (z : Happening) → IsIn z (front ++ w ∷ back) → IsBefore (place_of z) here → ⊥ = λ z i b.
       elim (placed_high now front back w high z i) [
         | inl same ↦ not_before_high now (ripe_more e) w refl (omega arith)
-            (subst (λ h. IsBefore (place_of h) here) same b)
+            (rw same at b)
         | inr h ↦ not_before_high now (ripe_more e) z h.0 h.1 b
       ] in
       subst Behind (sym (done ∙ shown.shows))
@@ -423,17 +418,16 @@ module _ {C M : Type 0} (reading : C → ℕ → ℕ) (stands : M → Network �
       let v_body = kinds.State e.device Joining n whys.Frame in
       let few = few_cause s hs world.settled now e r in
       let w = record_of s.network hs [] now body in
-      let of_frame : w.frame ≡ Some e.frame = frame_is [] r in
+      let of_frame = frame_is [] r in
       let members : members_in w ≡ e.frame.members.0 =
-      ap (λ (o : Option Pcf). Rattle.std.specs.Option.option_map_or (λ f. f.members.0) o 0) of_frame in
-      let place : place_of w ≡ here = here_place now now (members_in w) e judgements.Integrates body refl members refl in
+      rw of_frame in
+      let place = here_place now now (members_in w) e judgements.Integrates body refl members refl in
       let shown_at : place_of (settled_as s.network hs now body) ≡ here =
       ap place_of (sym (same_record s.network hs [] now body few)) ∙ place in
       let q = two_shown s.network hs now body e.device Joining whys.Frame few (omega arith)
       (λ z i b. r.moving.are.after z i (subst (λ q. IsBefore (place_of z) q) shown_at b))
       (causes_given r.moving (omega arith)) put.1
-      (subst (λ c. IsPutIn (settled_as s.network hs now (kinds.State e.device Joining (c + 1) whys.Frame)) put.0 put.2.0)
-      (length_is s notes) put.2.1) in
+      (rw (length_is s notes) at put.2.1) in
       let v = change_of s.network hs now body q.mid e.device Joining whys.Frame in
       let a = answered stands s hs world.settled now e machine after ripe.Integrates r k x.master x.has in
       let high = high_now r in
@@ -457,9 +451,9 @@ module _ {C M : Type 0} (reading : C → ℕ → ℕ) (stands : M → Network �
       } in
       let p : IsPair s 3 (ripe_more e) q = record {
         one = one;
-        no_event = λ r1. omega (arith, r1);
+        no_event = λ r1. omega arith;
         low = omega arith;
-        acts = λ six. absurd (omega (arith, six));
+        acts = λ six. absurd (omega arith);
         is_of = refl;
         follows = inl refl;
         changes = λ there. (refl, (w, there, eq-eqb e.device.0 e.device.0 refl));
@@ -467,11 +461,11 @@ module _ {C M : Type 0} (reading : C → ℕ → ℕ) (stands : M → Network �
       let then_ = pair_put s.network hs now body q.mid e.device Joining whys.Frame q.back in
       let high_one : (z : Happening) → IsIn z (w ∷ (q.mid ++ q.back)) → (z ≡ w)
       ⊎ ((time_of z ≡ now) × (4 ≤ rank z.note.body)) = λ z i.
-      placed_high now [] world.settled w high z (subst (λ l. IsIn z (w ∷ l)) (sym q.parts) i) in
+      placed_high now [] world.settled w high z (rw q.parts i) in
       let after_all : (z : Happening) → IsIn z then_ → IsBefore (place_of z) here → ⊥ = λ z i b.
       elim (placed_back [] (w ∷ q.mid) q.back v z i) [
         | inl same ↦ not_before_high now (ripe_more e) v refl (omega arith)
-            (subst (λ h. IsBefore (place_of h) here) same b)
+            (rw same at b)
         | inr more ↦ elim (high_one z more) [
           | inl same ↦ not_under (subst (λ h. IsBefore (place_of h) here) same b)
           | inr h ↦ not_before_high now (ripe_more e) z h.0 h.1 b
@@ -487,23 +481,22 @@ module _ {C M : Type 0} (reading : C → ℕ → ℕ) (stands : M → Network �
       let stays_out : (device : DeviceId) → (device.0 ≡ e.device.0 → ⊥) → bears_on device v_body ≡ false = λ device ne.
       ne_eqb device.0 e.device.0 ne in
       let far_off : (device : DeviceId) → length s.network.device ≤ device.0 → device.0 ≡ e.device.0 → ⊥ = λ device le same.
-      omega (arith, same, le, is_in) in
+      omega arith in
       subst Behind (sym (put.2.2 ∙ q.shows))
       (ripened_behind waiting x.c r x.set x.without
-      (omega (arith, long, same_parts, one_more, room))
+      (omega arith)
       (two_by p
       (permanent_all s hs world.settled then_ now e k.node w judgements.Integrates r a.hears a.outcome after_all
       w (inl refl) place))
       (known_aside hs (w ∷ q.mid) q.back v
       (λ device le. moves_no_other device v_body (stays_out device (far_off device le)))
-      (subst (λ (l : List Happening). AreOfNetwork s (hs ++ w ∷ l)) q.parts
-      (known_aside hs [] world.settled w (λ device le. moves_no_other device body (misses device (far_off device le))) old.known)))
+      (rw q.parts at (known_aside hs [] world.settled w (λ device le. moves_no_other device body
+      (misses device (far_off device le))) old.known)))
       (joined_kept q.mid q.back w v r k a old.precise refl of_frame refl
       q.parts refl refl q.none)
       (λ device m ne held. held_aside s hs (w ∷ q.mid) q.back v device (stays_out device ne) refl
       (frames_aside s hs (w ∷ q.mid) q.back v device (stays_out device ne) (λ z. refl))
-      (subst (λ l. IsHeld stands s hs (w ∷ l) (behind here) now device m) q.parts
-      (held_aside s hs [] world.settled w device (misses device ne) refl
+      (rw q.parts at (held_aside s hs [] world.settled w device (misses device ne) refl
       (frames_aside s hs [] world.settled w device (misses device ne) (λ z. refl)) held))))
 
   -- ---- whatever becomes of it
@@ -542,12 +535,9 @@ ripened_step {C} {M} reading stands s world notes e machine after result machine
     let start = ripening_first e i reached first in
     let c = start.0 in
     let r = start.1 in
-    let is_in = in_network r in
-    let held = c.devices e.device is_in in
-    let same : held.0 ≡ machine = some_same held.0 machine _ held.1 at in
-    let own : IsHeld stands s hs world.settled (world.now ∷ 3 ∷ ripe_more e) world.now e.device machine =
-    subst (λ m. IsHeld stands s hs world.settled (world.now ∷ 3 ∷ ripe_more e) world.now e.device m) same held.2 in
-    elim own [
+    let held = c.devices e.device (in_network r) in
+    let same = some_same held.0 machine _ held.1 at in
+    elim (rw same at held.2) [
       | inr out ↦ absurd (both_ways (is_broken s e.device world.now) r.sound out.broken)
       | inl k ↦
           by_result reading stands s world notes e machine after machines waiting result settled (record {

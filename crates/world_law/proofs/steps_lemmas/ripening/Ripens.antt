@@ -8,7 +8,7 @@ use Rattle.world_law.proofs.steps_lemmas.Words.{List, Node, None, NoteBody, Poin
 use Rattle.world_law.proofs.steps_lemmas.Words.{cases_Bool, cases_int, cases_lt, cycle_in, ends_stretch, eqb-true, false, founded_at}
 use Rattle.world_law.proofs.steps_lemmas.Words.{in_parts, inl, inr, ints, is_broken, key, master_of, members_in, moment_of, natural, no_higher, numbered_in}
 use Rattle.world_law.proofs.steps_lemmas.Words.{numbered_parts, place_of, point_at, point_by, point_of, points_of, pos, rank, refl, ripe_place, same_device}
-use Rattle.world_law.proofs.steps_lemmas.Words.{◌++◌, ◌+ℤ◌, ◌+◌, ◌-◌, ◌<ℤ◌, ◌<◌, ◌^◌, ◌∙◌, ◌∷◌, ◌≡◌, ◌≤ℤ◌, ◌≤◌, Bool, Compressed, DeviceId, Happening}
+use Rattle.world_law.proofs.steps_lemmas.Words.{◌++◌, ◌+ℤ◌, ◌+◌, ◌-◌, ◌<ℤ◌, ◌<◌, ◌^◌, ◌∙◌, ◌∷◌, ◌≡◌, ◌≤ℤ◌, ◌≤◌, Compressed, DeviceId, Happening}
 use Rattle.world_law.proofs.{Words.{in_left, is_at_source, parted, true}, acts.NoActs.turning_stretch, putting.Moving.off_source}
 use Rattle.world_law.proofs.{frames.Proper.{HasCome, IsSound, has_come, is_sound, link_of, received}, steps_lemmas.ripening.Merely.IsMere}
 use Rattle.world_law.specs.source.Sources.{IsRipening}
@@ -35,14 +35,14 @@ pub given_low : (hs : List Happening) {now : ℕ} (more : List ℕ)
 given_low hs {now} more within h i at =
     elim (no_higher (time_of h) (rank h.note.body) now 3 (key (members_in h) h.note.body) more
     (inr (within h i))) [
-      | inl lt ↦ absurd (omega (arith, lt, at))
+      | inl lt ↦ absurd (omega arith)
       | inr same ↦ same.1
     ]
 
 not_late : (t now k : ℕ) (ws more w0 : List ℕ) → w0 ≡ t ∷ k ∷ ws → t ≡ now → 3 < k → IsBefore w0 (now ∷ 3 ∷ more) → ⊥
-not_late t now k ws more w0 e at late b = elim (subst (λ q. IsBefore q (now ∷ 3 ∷ more)) e b) [
-  | inl lt ↦ omega (arith, lt, at)
-  | inr c ↦ elim c.1 [ inl lt ↦ omega (arith, lt, late) | inr d ↦ let same = d.0 in omega (arith, same, late) ]
+not_late t now k ws more w0 e at late b = elim (rw e at b) [
+  | inl lt ↦ omega arith
+  | inr c ↦ elim c.1 [ inl lt ↦ omega arith | inr d ↦ let same = d.0 in omega arith ]
 ]
 
 module _ (s : Scenario) (hs front : List Happening) where
@@ -56,7 +56,7 @@ module _ (s : Scenario) (hs front : List Happening) where
         | inl given ↦
             let six : rank h.note.body ≡ 6 = ap rank body in
             let le = low h (numbered_in hs cause h given) (it.same_time ∙ at) in
-            omega (arith, six, le)
+            omega arith
         | inr more ↦ absurd (let bad : true ≡ false = ap is_at_source (sym body) ∙ off h more in cc)
       ]
 
@@ -87,7 +87,7 @@ all_late {s} {hs} {coming} {now} {more} m within y i =
     let by = m.are.by split.0 split.1 y split.2 in
     let due = (m.are.founded split.0 split.1 y split.2).1 in
     late_kind s hs split.0 now (time_of y) (members_in y) more y.note.time y.note.body by.0 (given_low hs more within)
-    (λ z j. off_source m z (subst (λ l. IsIn z l) (sym split.2) (in_left z split.0 (y ∷ split.1) j))) (off_source m y i)
+    (λ z j. off_source m z (rw split.2 (in_left z split.0 (y ∷ split.1) j))) (off_source m y i)
     (m.are.of_now y i) refl by.1 due.cause by.3
 
 -- so it says nothing to a device but of its state
@@ -128,8 +128,8 @@ pub sooner_of : {s : Scenario} {hs coming : List Happening} {now : ℕ} {e : Wai
     → IsRipe s hs coming now e → (w h : Happening) → time_of w ≡ now → IsIn h (hs ++ coming)
     → time_of h ≤ time_of w
 sooner_of {hs} {coming} r w h at i = elim (in_parts h hs coming i) [
-  | inl given ↦ let past = r.past h given in omega (arith, past, at)
-  | inr more ↦ let same = r.moving.are.of_now h more in omega (arith, same, at)
+  | inl given ↦ let past = r.past h given in omega arith
+  | inr more ↦ let same = r.moving.are.of_now h more in omega arith
 ]
 
 -- ---- what came
@@ -151,7 +151,7 @@ point_late : (reading clock : ℕ) (dmax point : Units) → point.0 ≡ point_of
     → pos reading ≤ℤ point.0
 point_late reading clock dmax point at le some =
     let whole = natural dmax.0 some in
-    omega (arith, ints, at, le, whole)
+    omega (arith, ints)
 
 pub arrived_before : {s : Scenario} {hs : List Happening} {e : Waiting} (it : IsWaitingFor s hs e)
     → IsInRange s.network → Rattle.run_law.specs.runs.Runs.IsFounded place_of (IsDue s) hs
@@ -161,7 +161,7 @@ arrived_before {s} {hs} {e} it range founded =
     let clock = (sound_of it c).clock in
     let least = range.dmax.least in
     point_late (s.reading e.device (time_of it.arrival)) it.awaited.clock s.network.dmax e.point it.awaited.at_point
-    (subst (λ n. n ≤ amount s.network.dmax) (sym c.shows) clock) (omega (arith, ints, least))
+    (rw c.shows clock) (omega (arith, ints))
 
 -- ---- when its reading comes to it
 
@@ -171,24 +171,24 @@ first_reach reading v from (suc n) le =
     elim (cases_int (pos (reading from)) v) [
       | inr here ↦ (
         from,
-        record { from_on = omega (arith, ints); reached = here; not_before = λ x ge lt. absurd (omega (arith, ints, ge, lt)) },
+        record { from_on = omega (arith, ints); reached = here; not_before = λ x ge lt. absurd (omega (arith, ints)) },
         omega arith,
       )
       | inl below ↦
           let moved : from + suc n ≡ (from + 1) + n = omega arith in
-          let more = first_reach reading v (from + 1) n (subst (λ (x : ℕ). v ≤ℤ pos (reading x)) moved le) in
+          let more = first_reach reading v (from + 1) n (rw moved at le) in
           let bound = more.2 in
           let start = more.1.from_on in (
             more.0,
             record {
-              from_on = omega (arith, ints, start);
+              from_on = omega (arith, ints);
               reached = more.1.reached;
               not_before = λ x ge lt. elim (cases_lt from x) [
-                | inl past ↦ more.1.not_before x (omega (arith, ints, past)) lt
-                | inr no_later ↦ let same : from ≡ x = omega (arith, ints, ge, no_later) in subst (λ (y : ℕ). pos (reading y) <ℤ v) same below
+                | inl past ↦ more.1.not_before x (omega (arith, ints)) lt
+                | inr no_later ↦ let same : from ≡ x = omega (arith, ints) in rw same at below
               ];
             },
-            omega (arith, bound),
+            omega arith,
           )
     ]
 
@@ -225,12 +225,12 @@ module _ {s : Scenario} {hs : List Happening} (frontier : List ℕ) (now : ℕ) 
         | inr over ↦
             let t0 = time_of it.arrival in
             let n = x - t0 in
-            let whole : x ≡ t0 + n = omega (arith, from) in
+            let whole : x ≡ t0 + n = omega arith in
             let reach = first_reach (s.reading e.device) e.point.0 t0 n
-            (subst (λ (y : ℕ). e.point.0 ≤ℤ pos (s.reading e.device y)) whole over) in
+            (rw whole at over) in
             let bound = reach.2 in
-            let sooner : reach.0 < now = omega (arith, bound, whole, lt) in
-            let correct = correct_before s e.device reach.0 now (omega (arith, sooner)) sound in
+            let sooner : reach.0 < now = omega arith in
+            let correct = correct_before s e.device reach.0 now (omega arith) sound in
             absurd (first (ripe_place reach.0 e) (IsSource.ripening reach.0 e.device e.link e.cause e.point
             (ripening_at s hs e reach.0 it reach.1 correct))
             (later reach.0 (ripening_at s hs e reach.0 it reach.1 correct)) (inl sooner))
@@ -240,9 +240,9 @@ module _ {s : Scenario} {hs : List Happening} (frontier : List ℕ) (now : ℕ) 
       → is_broken s e.device now ≡ false → time_of it.arrival ≤ now → e.point.0 ≤ℤ pos (s.reading e.device now)
       → IsReach (s.reading e.device) (pos (time_of it.arrival)) e.point.0 (pos now)
   reach_by later sound le reached = record {
-    from_on = omega (arith, ints, le);
+    from_on = omega (arith, ints);
     reached = reached;
-    not_before = λ x ge lt. below_by later sound x (omega (arith, ints, ge)) (omega (arith, ints, lt));
+    not_before = λ x ge lt. below_by later sound x (omega (arith, ints)) (omega (arith, ints));
   }
 
 pub below : (s : Scenario) (hs coming : List Happening) (now : ℕ) (e : Waiting) (r : IsRipe s hs coming now e) (x : ℕ)
@@ -261,11 +261,11 @@ module _ {s : Scenario} {hs coming : List Happening} {now : ℕ} {e : Waiting}
   not_beyond x lt =
       let t0 = time_of r.it.arrival in
       elim (cases_lt x t0) [
-        | inr from ↦ let under = below s hs coming now e r x from lt in omega (arith, ints, under)
+        | inr from ↦ let under = below s hs coming now e r x from lt in omega (arith, ints)
         | inl sooner ↦
             let fell = r.steady.never_falls x t0 (omega (arith, sooner)) in
             let late = arrived_before r.it r.range r.run.founded in
-            omega (arith, ints, fell, late)
+            omega (arith, ints)
       ]
 
   -- and it is now less than a precision beyond it
@@ -276,18 +276,16 @@ module _ {s : Scenario} {hs coming : List Happening} {now : ℕ} {e : Waiting}
       let le = r.past r.it.arrival (numbered_in hs e.cause r.it.arrival r.it.there) in
       elim (cases_lt (time_of r.it.arrival) now) [
         | inl lt ↦
-            let under = below s hs coming now e r (now - 1) (omega (arith, lt)) (omega (arith, lt)) in
+            let under = below s hs coming now e r (now - 1) (omega arith) (omega arith) in
             let jump = r.steady.no_jump (now - 1) in
-            let same : now - 1 + 1 ≡ now = omega (arith, lt) in
+            let same : now - 1 + 1 ≡ now = omega arith in
             let jumped : s.reading e.device now < s.reading e.device (now - 1) + amount s.network.precision =
-            subst (λ (n : ℕ). s.reading e.device n < s.reading e.device (now - 1) + amount s.network.precision) same
-            jump in
-            omega (arith, ints, under, jumped, whole)
+            rw same at jump in
+            omega (arith, ints)
         | inr ge ↦
-            let same : time_of r.it.arrival ≡ now = omega (arith, le, ge) in
-            let late = subst (λ (n : ℕ). pos (s.reading e.device n) ≤ℤ e.point.0) same
-            (arrived_before r.it r.range r.run.founded) in
-            omega (arith, ints, late, some)
+            let same : time_of r.it.arrival ≡ now = omega arith in
+            let late = rw same at (arrived_before r.it r.range r.run.founded) in
+            omega (arith, ints)
       ]
 
 -- ---- all that it has collected and sent is no later
@@ -304,13 +302,15 @@ by_permanence : (device : DeviceId) (h : Happening) (p : Point) (body : NoteBody
 by_permanence device h p (kinds.Permanent other link cause point verdict) e =
     elim (cases_Bool (Rattle.std.specs.Prelude.◌==◌ device.0 other.0)) [
       | inl own ↦
-          let is : Some (point_at point.0 (master_of (members_in h)) (cycle_in h)) ≡ Some p =
-          sym (ap (λ (b : Bool). Rattle.std.specs.Prelude.if◌then◌else◌ b (Some (point_at point.0 (master_of (members_in h)) (cycle_in h))) None) own) ∙ e in
+          let is =
+          sym (ap (λ b. Rattle.std.specs.Prelude.if◌then◌else◌ b
+          (Some (point_at point.0 (master_of (members_in h)) (cycle_in h))) None) own) ∙ e in
           let same : point_at point.0 (master_of (members_in h)) (cycle_in h) ≡ p = cc in
-          (other, link, cause, point, verdict, refl, eqb-true device.0 other.0 own, sym (ap (λ (q : Point). q.reading) same))
+          (other, link, cause, point, verdict, refl, eqb-true device.0 other.0 own, sym (ap (λ q. q.reading) same))
       | inr misses ↦
-          absurd (let bad : None ≡ Some p =
-          sym (ap (λ (b : Bool). Rattle.std.specs.Prelude.if◌then◌else◌ b (Some (point_at point.0 (master_of (members_in h)) (cycle_in h))) None) misses)
+          absurd (let bad =
+          sym (ap (λ b. Rattle.std.specs.Prelude.if◌then◌else◌ b
+          (Some (point_at point.0 (master_of (members_in h)) (cycle_in h))) None) misses)
           ∙ e in cc)
     ]
 by_permanence device h p other e = absurd cc
@@ -323,11 +323,11 @@ less_amount : (a b : Units) → pos 0 ≤ℤ b.0 → amount a ≤ amount b → a
 less_amount a b some le = grind (arith, unsigned_abs, amount, natural, ints)
 
 points_before : (now a b : ℕ) (xs ys : List ℕ) (d c : ℕ) → d ≡ c → IsBefore (now ∷ 3 ∷ d ∷ a ∷ xs) (now ∷ 3 ∷ c ∷ b ∷ ys) → a ≤ b
-points_before now a b xs ys d c e (inl lt) = absurd (omega (arith, lt))
-points_before now a b xs ys d c e (inr (t, inl lt)) = absurd (omega (arith, lt))
-points_before now a b xs ys d c e (inr (t, inr (r, inl lt))) = absurd (omega (arith, lt, e))
-points_before now a b xs ys d c e (inr (t, inr (r, inr (same, inl lt)))) = omega (arith, lt)
-points_before now a b xs ys d c e (inr (t, inr (r, inr (same, inr (eq, more))))) = omega (arith, eq)
+points_before now a b xs ys d c e (inl lt) = absurd (omega arith)
+points_before now a b xs ys d c e (inr (t, inl lt)) = absurd (omega arith)
+points_before now a b xs ys d c e (inr (t, inr (r, inl lt))) = absurd (omega arith)
+points_before now a b xs ys d c e (inr (t, inr (r, inr (same, inl lt)))) = omega arith
+points_before now a b xs ys d c e (inr (t, inr (r, inr (same, inr (eq, more))))) = omega arith
 
 module _ (s : Scenario) (hs coming : List Happening) (now : ℕ) where
   pub points_no_later : {e : Waiting} (r : IsRipe s hs coming now e)
@@ -342,27 +342,24 @@ module _ (s : Scenario) (hs coming : List Happening) (now : ℕ) where
         | inr more ↦ absurd (no_late_point h.note.body of.0 of.1 of.2 of.3 of.4 (late h more) of.5)
         | inl given ↦
             let due = (founded_at s hs h r.run.founded given).due in
-            let c = subst (λ b. IsCaused s (founded_at s hs h r.run.founded given).front h.note.time b)
-            of.5 due.cause in
-            let same : of.0 ≡ e.device = same_device of.0 e.device (sym of.6) in
+            let c = rw of.5 at due.cause in
             let reached =
-            subst (λ (d : DeviceId). of.3.0 ≤ℤ pos (s.reading d (time_of h))) same c.permanent.reached.reached in
+            rw (same_device of.0 e.device (sym of.6)) at c.permanent.reached.reached in
             let le = r.past h given in
             let is = of.7 in
             let late_point = arrived_before r.it r.range r.run.founded in
             elim (cases_lt (time_of h) now) [
-              | inl lt ↦ let under = not_beyond r (time_of h) lt in omega (arith, ints, is, reached, under)
+              | inl lt ↦ let under = not_beyond r (time_of h) lt in omega (arith, ints)
               | inr ge ↦
-                  let at : time_of h ≡ now = omega (arith, le, ge) in
-                  let before : IsBefore (place_of h) (now ∷ 3 ∷ ripe_more e) = r.run.within h given in
+                  let before = r.run.within h given in
                   let placed : IsBefore (now ∷ 3 ∷ of.0.0 ∷ amount of.3 ∷ members_in h ∷ of.1.0 ∷ of.2 ∷ [])
                   (now ∷ 3 ∷ ripe_more e) =
-                  grind (arith, key, members_in, h, of.5, h.note.body, before) in
+                  grind (arith, key, members_in, of.5, h.note.body) in
                   let amounts = points_before now (amount of.3) (amount e.point) (members_in h ∷ of.1.0 ∷ of.2 ∷ [])
                   (e.frame.members.0 ∷ e.link.0 ∷ e.cause ∷ [])
                   of.0.0 e.device.0 (sym of.6) placed in
-                  let less = less_amount of.3 e.point (omega (arith, ints, late_point)) amounts in
-                  omega (arith, ints, is, less)
+                  let less = less_amount of.3 e.point (omega (arith, ints)) amounts in
+                  omega (arith, ints)
             ]
       ]
 
@@ -372,7 +369,7 @@ module _ (s : Scenario) (hs coming : List Happening) (now : ℕ) where
       let x = sent.sent c there in
       let reached = x.2 in
       let under = not_beyond r x.0 x.1 in
-      omega (arith, ints, reached, under)
+      omega (arith, ints)
 
   -- ---- so it may be permanent
 
@@ -399,11 +396,11 @@ module _ (s : Scenario) (hs coming : List Happening) (now : ℕ) where
         from_below = master;
         not_before = λ before.
             let last = natural node.last.time.0 ready.begun in
-            let lt : amount node.last.time < now = omega (arith, ints, last, before) in
+            let lt : amount node.last.time < now = omega (arith, ints) in
             let under = not_beyond r (amount node.last.time) lt in
             let read = ready.last in
-            omega (arith, ints, read, under);
-        from_zero = omega (arith, ints, late);
+            omega (arith, ints);
+        from_zero = omega (arith, ints);
         after_points = all_of (λ p. p.reading ≤ℤ e.point.0) node.points points;
         after_emitted = λ k d lt. emitted (get_or node.emitted k d)
             (Rattle.std.proofs.lemmas.List.Elements.All-contains_itself node.emitted k d lt);

@@ -1,16 +1,16 @@
 -- An event befalls before all else of its instant: the world stands again.
-use Rattle.world_law.proofs.runs.{Settled.{AreSettled, coming_of}, Worlds.run_to}
+use Rattle.world_law.proofs.runs.{Settled.{coming_of}, Worlds.run_to}
 use Rattle.{run_law.{proofs.law.FirstPlaces.numbered_next, specs.runs.DueRecords.{EndsAt, IsScenarioRun}}, world_law.specs.steps.Steps.{AppliedStep, FitsWorld}}
 use Rattle.{run_law.proofs.runs.{NetworkRuns.one_more, Places.{before_next_time, before_of_time}}, world_law.proofs.runs.Firsts.{numbered_more, numbered_still}}
-use Rattle.{std.{proofs.lemmas.{List.length_push, Option.slice_get_within}, specs.List.Contains}, world_law.proofs.giving.Storing.stored_still}
+use Rattle.{std.{proofs.lemmas.{List.length_push, Option.slice_get_within}}, world_law.proofs.giving.Storing.stored_still}
 use Rattle.{tte_units.proofs.general_lemmas.Lists.{pushed as get_more}, world_law.specs.world.Outcomes.{also_befell, ends_world}}
-use Rattle.world_law.{proofs.{giving.GivenParts.up_to_place, steps_lemmas.steps.AppliedParts.wires_apply}, specs.world.World.{AreInOrder, AreStored, IsFromEnd}}
+use Rattle.world_law.{proofs.{giving.GivenParts.up_to_place, steps_lemmas.steps.AppliedParts.wires_apply}, specs.world.World.{AreInOrder, IsFromEnd}}
 use Rattle.world_law.{proofs.runs.Applies.{line_before, run_goes_on_by_event, same_length}, specs.source.Applying.{MayBefall, note_of_event, place_of_event}}
-use Rattle.world_law.proofs.steps_lemmas.Words.{◌&&◌, ◌++◌, ◌+◌, ◌<◌, ◌==◌, ◌||◌, ◌↔◌, ◌∙◌, ◌∷◌, ◌≡◌, ◌≤ℤ◌, ◌≤◌, ◌⊎◌, AreAtPorts, AreOfNetwork, AreOnWires, both_ways}
-use Rattle.world_law.proofs.steps_lemmas.Words.{AreComing, AreUntold, AreWaiting, Befell, Bool, Contains-push, Contains-push_cases, DeviceId, Event, Happening}
-use Rattle.world_law.proofs.steps_lemmas.Words.{IsBefore, IsEventBody, IsHeld, IsIn, IsOnWire, LinkId, List, Network, Node, OnWire, Scenario, Some, Units, What}
+use Rattle.world_law.proofs.steps_lemmas.Words.{◌++◌, ◌+◌, ◌<◌, ◌==◌, ◌↔◌, ◌∙◌, ◌∷◌, ◌≡◌, ◌≤◌, ◌⊎◌, AreOfNetwork, both_ways}
+use Rattle.world_law.proofs.steps_lemmas.Words.{AreComing, AreUntold, Befell, Bool, Contains-push, Contains-push_cases, DeviceId, Event, Happening}
+use Rattle.world_law.proofs.steps_lemmas.Words.{IsBefore, IsEventBody, IsIn, IsOnWire, LinkId, List, Network, Node, OnWire, Scenario, Some, Units, What}
 use Rattle.world_law.proofs.steps_lemmas.Words.{[], amount, ap, append-nil, arith, before_behind, behind, cases_Bool, chain, clock_place, false}
-use Rattle.world_law.proofs.steps_lemmas.Words.{happening, happenings, has_outcome, if◌then◌else◌, in_left, in_parts, in_right, inl, inr, ints, length}
+use Rattle.world_law.proofs.steps_lemmas.Words.{happening, happenings, has_outcome, in_left, in_parts, in_right, inl, inr, ints, length}
 use Rattle.world_law.proofs.steps_lemmas.Words.{never_self, numbered_within, place_of, pos, refl, scenario, slice_get, some_same, subst, sym, time_of}
 use Rattle.world_law.proofs.steps_lemmas.{Words.{true, turns_on, unsigned_abs, ℕ}, steps.AppliedDevices.{IsApplying, event_moves, held_apply}}
 use Rattle.world_law.proofs.steps_lemmas.steps.AppliedParts.{IsBefalling, agree_before, before_others, nothing_due, ports_apply, turned_more, waiting_apply}
@@ -28,13 +28,13 @@ ended_then : (past : List Event) (event : Event) (now : ℕ) (time : Units) → 
 ended_then past event now time at running = (
   λ ends. elim (Contains-push_cases past event (record { time = time; what = events.End }) ends) [
     | inl old ↦ absurd (running time old)
-    | inr new ↦ (ap (λ (e : Event). ends_world e.what) new, ap (λ (e : Event). e.time.0) (sym new) ∙ at)
+    | inr new ↦ (ap (λ e. ends_world e.what) new, ap (λ e. e.time.0) (sym new) ∙ at)
   ],
   λ it.
       let what = is_end event.what it.0 in
-      let same : event ≡ record { time = time; what = events.End } = ap (λ (w : What). let e : Event = record { time = event.time; what = w } in e) what
-      ∙ ap (λ (z : _). let e : Event = record { time = record { 0 = z }; what = events.End } in e) (at ∙ sym it.1) in
-      subst (λ (e : Event). Contains (past ++ event ∷ []) e) same (Contains-push past event),
+      let same : event ≡ record { time = time; what = events.End } = rw what
+      (rw (at ∙ sym it.1)) in
+      rw (sym same) (Contains-push past event),
 )
 
 -- ---- what is pending
@@ -44,8 +44,7 @@ told_once number what e i = grind (arith, has_outcome)
 
 told_there : (number : ℕ) (what : What) → has_outcome what ≡ true → IsIn (record { number = number; what = what }) (also_befell number what)
 told_there number what out =
-    subst (λ (b : Bool). IsIn {N = Befell} (record { number = number; what = what }) (if b then record { number = number; what = what } ∷ [] else [])) (sym out)
-    (inl refl)
+    rw out (inl refl)
 
 -- it has the highest number
 one_more_in_order : (befell : List Befell) (x : Befell) → AreInOrder befell → ((e : Befell) → IsIn e befell → e.number < x.number)
@@ -54,7 +53,7 @@ one_more_in_order [] x order less = (λ f i. absurd i, tt)
 one_more_in_order (e ∷ befell) x order less = (
   λ f i. elim (in_parts f befell (x ∷ []) i) [
     | inl old ↦ order.0 f old
-    | inr (inl same) ↦ subst (λ (g : Befell). e.number < g.number) (sym same) (less e (inl refl))
+    | inr (inl same) ↦ rw same (less e (inl refl))
     | inr (inr none) ↦ absurd none
   ],
   one_more_in_order befell x order.1 (λ g i. less g (inr i)),
@@ -81,9 +80,9 @@ untold_apply {hs} {now} number line {pending} {befell} ev what untold early numb
         let same = told_once number what e new in (
           line,
           ev,
-          record { there = numbered_next hs [] ev e.number (ap (λ (x : Befell). x.number) same ∙ number_is); same_time = at },
+          record { there = numbered_next hs [] ev e.number (rw same number_is); same_time = at },
           is
-              ∙ ap (λ (w : What). kinds.Event line w) (sym (ap (λ (x : Befell). x.what) same)),
+              ∙ ap (λ w. kinds.Event line w) (sym (rw same)),
         )
   ];
   all = λ open_ n l w h it body out. elim (numbered_more hs ev h n it.there) [
@@ -92,17 +91,15 @@ untold_apply {hs} {now} number line {pending} {befell} ev what untold early numb
       | inr told ↦ absurd (never_self (now ∷ 2 ∷ []) (early (now ∷ 2 ∷ []) (untold.done told n h (record { there = there; same_time = it.same_time }))))
     ]
     | inr new ↦
-        let says : kinds.Event line what ≡ kinds.Event l w = sym is ∙ ap (λ (x : Happening). x.note.body) new.1 ∙ body in
         let same : what ≡ w = cc in
-        let count : number ≡ n = number_is ∙ sym new.0 in
-        subst (λ (k : ℕ). IsIn (record { number = k; what = w }) (befell ++ also_befell number what)) count
-        (subst (λ (x : What). IsIn (record { number = number; what = x }) (befell ++ also_befell number what)) same
-        (in_right _ befell (also_befell number what) (told_there number what (ap has_outcome same ∙ out))))
+        let count = number_is ∙ sym new.0 in
+        rw (sym count) (rw (sym same) (in_right _ befell (also_befell number what)
+        (told_there number what (ap has_outcome same ∙ out))))
   ];
   in_order = also_in_order number what befell untold.in_order (λ e i.
       let was = untold.real e i in
       let lt = numbered_within hs e.number was.1 was.2.there in
-      omega (arith, lt, number_is));
+      omega arith);
 }
 
 -- ---- devices of the network
@@ -111,21 +108,23 @@ of_network : (s : Scenario) (hs : List Happening) (now : ℕ) (what : What) (dev
     → length s.network.device ≤ device.0 → turns_on device what ≡ false
 of_network s hs now (events.On other) device may le =
     Rattle.std.proofs.lemmas.Bool.false_from_ne_true (device.0 == other.0)
-    (λ same. let at = Rattle.std.proofs.lemmas.Bool.eqb-true device.0 other.0 same in let lt = may.0 in absurd (omega (arith, at, lt, le)))
+    (λ same. let at = Rattle.std.proofs.lemmas.Bool.eqb-true device.0 other.0 same in let lt = may.0 in
+    absurd (omega arith))
 of_network s hs now other device may le = refl
 
 known_apply : (network : Network) (f g : DeviceId → ℕ → ℕ) (past : List Event) (event : Event) (hs : List Happening) (now : ℕ) (ev : Happening)
     → FitsWorld (scenario network f past) hs now event.what → IsEventBody ev.note.body
     → AreOfNetwork (scenario network f past) (hs ++ []) → AreOfNetwork (scenario network g (past ++ event ∷ [])) ((hs ++ ev ∷ []) ++ [])
 known_apply network f g past event hs now ev may is known = record {
-  unmoved = λ device le h i. elim (in_parts h hs (ev ∷ []) (subst (λ l. IsIn h l) (append-nil (hs ++ ev ∷ [])) i)) [
-    | inl old ↦ known.unmoved device le h (subst (λ l. IsIn h l) (sym (append-nil hs)) old)
-    | inr (inl e) ↦ event_moves device h.note.body (subst (λ (x : Happening). IsEventBody x.note.body) (sym e) is)
+  unmoved = λ device le h i. elim (in_parts h hs (ev ∷ []) (rw (append-nil (hs ++ ev ∷ [])) at i)) [
+    | inl old ↦ known.unmoved device le h (rw (append-nil hs) old)
+    | inr (inl e) ↦ event_moves device h.note.body (rw e is)
     | inr (inr none) ↦ absurd none
   ];
   never_on =
-      λ device le t. turned_more network f g past event t device ∙ ap (λ (b : Bool). b || (turns_on device event.what && amount event.time == t))
-      (known.never_on device le t) ∙ ap (λ (b : Bool). b && amount event.time == t) (of_network (scenario network f past) hs now event.what device may le);
+      λ device le t. turned_more network f g past event t device ∙
+      (rw (known.never_on device le t)
+      ((rw (of_network (scenario network f past) hs now event.what device may le))));
 }
 
 pub no_coming : (hs coming : List Happening) (s : Scenario) (frontier : List ℕ) (now : ℕ)
@@ -146,8 +145,8 @@ under_two : (now line : ℕ) → IsBefore (now ∷ 1 ∷ line ∷ []) (now ∷ 2
 under_two now line = inr (refl, inl (omega arith))
 
 no_clock : (now : ℕ) (device : DeviceId) → IsBefore (clock_place now device) (now ∷ 2 ∷ []) → ⊥
-no_clock now device (inl lt) = omega (arith, lt)
-no_clock now device (inr (e, inl lt)) = omega (arith, lt)
+no_clock now device (inl lt) = omega arith
+no_clock now device (inr (e, inl lt)) = omega arith
 no_clock now device (inr (e, inr (two, none))) = none
 
 pub applied_step : {C M : Type 0} (reading : C → ℕ → ℕ) (stands : M → Network → DeviceId → Node → Type 0) → AppliedStep reading stands
@@ -163,26 +162,26 @@ applied_step {C} {M} reading stands network f g past event world notes clocks ma
     let ev = happening network hs note in
     let js = hs ++ ev ∷ [] in
     let at : amount event.time ≡ now = ap unsigned_abs time_is in
-    let back : js ≡ happenings network (notes ++ note ∷ []) = sym (one_more network notes note) in
+    let back = sym (one_more network notes note) in
     let empty = no_coming hs world.settled s old.frontier now old.are early in
     let over = old.of_now in
     let sooner : (h : Happening) → IsIn h hs → (time_of h < now) ⊎ ((time_of h ≡ now) × IsEventBody h.note.body) = λ h i. before_others h now
     (early (place_of h) (old.run.within h i)) in
-    let long : length notes ≡ length hs = same_length network notes in
-    let number : length notes + 1 ≡ length hs + 1 = ap (λ k. k + 1) long in
+    let long = same_length network notes in
+    let number : length notes + 1 ≡ length hs + 1 = rw long in
     let running_so : (u : Units) → EndsAt past u → ⊥ = λ u ends. (both_ways _ running ((old.ended u).0 ends).0) in
     let place = place_of_event past event in
     let here = now ∷ 1 ∷ (length past + 1) ∷ [] in
-    let place_is : place ≡ here = ap (λ (n : ℕ). n ∷ 1 ∷ (length past + 1) ∷ []) at in
+    let place_is : place ≡ here = rw at in
     let agree = λ (t : ℕ) (lt : t < now). agree_before network f g past event now t at reads lt in
     let befalls : MayBefall network f g past event old.frontier notes = record {
-      begun = omega (arith, ints, time_is);
-      agree = λ t lt. agree t (omega (arith, lt, at));
+      begun = omega (arith, ints);
+      agree = λ t lt. agree t (omega arith);
       running = running_so;
-      in_order = λ i e get. let le = old.befallen.past i e get in omega (arith, le, at);
+      in_order = λ i e get. let le = old.befallen.past i e get in omega arith;
       told = old.befallen.told;
-      none_left = λ p b. old.of_now p (subst (λ (n : ℕ). IsBefore p (n ∷ [])) at b);
-      sooner = λ h i. elim (sooner h i) [ inl lt ↦ inl (omega (arith, lt, at)) | inr it ↦ inr it.1 ];
+      none_left = λ p b. old.of_now p (rw at at b);
+      sooner = λ h i. elim (sooner h i) [ inl lt ↦ inl (omega arith) | inr it ↦ inr it.1 ];
     } in
     let run : IsScenarioRun r (behind here) (notes ++ note ∷ []) = subst (λ q. IsScenarioRun r (behind q) (notes ++ note ∷ [])) place_is
     (run_goes_on_by_event network f g past event old.frontier notes befalls old.run) in
@@ -212,21 +211,23 @@ applied_step {C} {M} reading stands network f g past event world notes clocks ma
           let le = old.befallen.past i e was in
           let few = slice_get_within past i e was in (
             le,
-            chain (amount e.time ∷ 1 ∷ (i + 1) ∷ []) here (behind here) (line_before (amount e.time) now (i + 1) (length past + 1) le (omega (arith, few)))
+            chain (amount e.time ∷ 1 ∷ (i + 1) ∷ []) here (behind here)
+                (line_before (amount e.time) now (i + 1) (length past + 1) le (omega arith))
                 (before_behind here),
           )
       | inr new ↦
-          let same : amount e.time ≡ now = ap (λ (x : Event). amount x.time) (sym new.1) ∙ at in (
-            omega (arith, same),
+          let same : amount e.time ≡ now = rw (sym new.1) at in (
+            omega arith,
             subst (λ p. IsBefore p (behind here))
-                (sym (ap (λ (n : ℕ). n ∷ 1 ∷ (i + 1) ∷ []) same ∙ ap (λ k. now ∷ 1 ∷ (k + 1) ∷ []) new.0)) (before_behind here),
+                (sym (ap (λ n. n ∷ 1 ∷ (i + 1) ∷ []) same ∙ ap (λ k. now ∷ 1 ∷ (k + 1) ∷ []) new.0))
+                (before_behind here),
           )
     ] in
     let here_two = under_two now (length past + 1) in
     let two = now ∷ 2 ∷ [] in
     let due = nothing_due network g past event js now at in
     let on : (p : List ℕ) → IsBefore p (behind here) → IsBefore p two = λ p b. elim (up_to_place p here b) [
-      | inl e ↦ subst (λ q. IsBefore q two) (sym e) here_two
+      | inl e ↦ rw e here_two
       | inr lt ↦ chain p here two lt here_two
     ] in
     let none_now : (e : OnWire) → IsIn e world.wires → (it : IsOnWire s hs e) → time_of it.putting ≡ now → ⊥ = λ e i it put_at.
@@ -244,60 +245,53 @@ applied_step {C} {M} reading stands network f g past event world notes clocks ma
       steady = steady;
       precise = old.precise;
       frontier = two;
-      run = run_to (notes ++ note ∷ []) two run (subst (λ l. AreSettled r l [] (behind here) two now) back due)
+      run = run_to (notes ++ note ∷ []) two run (rw back at due)
           (λ w source waits b. waits b)
           (λ z i. absurd i) on;
       of_now = λ p b. before_of_time p now (2 ∷ []) b;
       not_later = λ p b. before_next_time p now (2 ∷ []) b;
       limit = old.limit;
-      lines = let was = old.lines in omega (arith, was, pushed);
-      given = let was = old.given in omega (arith, was, pushed_notes);
+      lines = let was = old.lines in omega (arith, pushed);
+      given = let was = old.given in omega arith;
       ended = λ time. ended_then past event now time time_is running_so;
       befallen = record {
         past = λ i e get. (before_here i e get).0;
         told = λ i e get. on (amount e.time ∷ 1 ∷ (i + 1) ∷ []) (before_here i e get).1;
         begun = λ i e get. elim (get_more past event e i get) [
           | inl was ↦ old.befallen.begun i e was
-          | inr new ↦ subst (λ (x : Event). pos 0 ≤ℤ x.time.0) new.1 (omega (arith, ints, time_is))
+          | inr new ↦ rw (sym new.1) (omega (arith, ints, time_is))
         ];
         sent = λ i e link octets get what. elim (get_more past event e i get) [
           | inl was ↦ old.befallen.sent i e link octets was what
-          | inr new ↦ sent_by s hs now event.what link octets may (ap (λ (x : Event). x.what) new.1 ∙ what)
+          | inr new ↦ sent_by s hs now event.what link octets may (rw new.1 what)
         ];
       };
       clocks = clocks_are;
       broken = broken_are;
       ways = ways;
-      room = let empty_length : length world.settled ≡ 0 = ap length empty in omega (arith, room, pushed_notes, empty_length);
+      room = let empty_length : length world.settled ≡ 0 = ap length empty in omega arith;
       known =
-          subst (λ (l : List Happening). AreOfNetwork r (happenings network (notes ++ note ∷ []) ++ l)) (sym empty)
-          (subst (λ (l : List Happening). AreOfNetwork r (l ++ [])) back
-          (known_apply network f g past event hs now ev may tt (subst (λ (l : List Happening). AreOfNetwork s (hs ++ l)) empty old.known)));
+          rw empty (rw back at (known_apply network f g past event hs now ev may tt (rw empty at old.known)));
       devices = λ device lt.
           let k = old.devices device lt in
           let then_ = been.still device k.0 k.1 in (
             then_.0,
             then_.1,
-            subst (λ l. IsHeld stands r (happenings network (notes ++ note ∷ [])) l (now ∷ 2 ∷ []) now device then_.0) (sym empty)
-                (subst (λ l. IsHeld stands r l [] (now ∷ 2 ∷ []) now device then_.0) back
-                (held_apply stands network f g past event hs old.frontier now (length notes + 1) ev then_.0 applying
-                (subst (λ l. IsHeld stands s hs l old.frontier now device k.0) empty k.2) then_.2 may)),
+            rw empty (rw back at (held_apply stands network f g past event hs old.frontier now (length notes + 1) ev
+                then_.0 applying
+                (rw empty at k.2) then_.2 may)),
           );
       early = λ fresh p b. b;
-      untold = subst (λ l. AreUntold l (now ∷ 2 ∷ []) now true (world.befell ++ also_befell (length notes + 1) event.what)) back
-          (untold_apply (length notes + 1) (length past + 1) ev event.what old.untold early number at refl);
+      untold = rw back at (untold_apply (length notes + 1) (length past + 1) ev event.what old.untold early
+          number at refl);
       wires =
-          subst (λ l. AreOnWires r l (now ∷ 2 ∷ []) now true world.wires) back
-          (wires_apply m none_now old.forward old.wires);
+          rw back at (wires_apply m none_now old.forward old.wires);
       ports =
-          subst (λ l. AreAtPorts r l (now ∷ 2 ∷ []) world.ports) back (ports_apply m old.ports);
+          rw back at (ports_apply m old.ports);
       waiting =
-          subst (λ l. AreWaiting r l (now ∷ 2 ∷ []) now waiting) back
-          (waiting_apply waiting m old.waiting waits);
-      stored = subst (λ l. AreStored l world.stored) back
-          (stored_still ev (λ device vl. refl) old.stored);
+          rw back at (waiting_apply waiting m old.waiting waits);
+      stored = rw back at (stored_still ev (λ device vl. refl) old.stored);
       are =
-          subst (λ l. AreComing r (happenings network (notes ++ note ∷ [])) l two now) (sym empty)
-          (subst (λ l. AreComing r l [] two now) back (coming_of due on (λ z i. absurd i)));
-      shown = λ device lt ended. (λ b. absurd (no_clock now device b), λ less. absurd (omega (arith, less)));
+          rw empty (rw back at (coming_of due on (λ z i. absurd i)));
+      shown = λ device lt ended. (λ b. absurd (no_clock now device b), λ less. absurd (omega arith));
     }

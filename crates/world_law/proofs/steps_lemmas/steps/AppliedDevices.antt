@@ -3,18 +3,18 @@ use Rattle.world_law.proofs.devices.Working.{worked_by}
 use Rattle.world_law.proofs.devices.Working.{rested}
 use Rattle.world_law.proofs.{devices.Befalls.{is_turned_on, stands_still}, rows.AtHand.{frames_alike, frames_end}}
 use Rattle.world_law.{proofs.devices.{Borne.other_comes, TurnedOn.fold_still}, specs.{steps.Steps.FitsWorld, world.{Outcomes.befallen_node, World.IsCalledBy}}}
-use Rattle.world_law.proofs.steps_lemmas.Words.{◌&&◌, ◌++◌, ◌+◌, ◌-ℤ◌, ◌<ℤ◌, ◌<◌, ◌==◌, ◌||◌, ◌∙◌, ◌∷◌, ◌≡◌, ◌≤ℤ◌, ◌≤◌, ◌⊎◌, Bool, ClockTask, Compressed}
+use Rattle.world_law.proofs.steps_lemmas.Words.{◌&&◌, ◌++◌, ◌+◌, ◌-ℤ◌, ◌<◌, ◌==◌, ◌||◌, ◌∙◌, ◌∷◌, ◌≡◌, ◌≤ℤ◌, ◌≤◌, ◌⊎◌, Bool, ClockTask, Compressed}
 use Rattle.world_law.proofs.steps_lemmas.Words.{DeviceId, Event, Happening, HasDoneFrom, HasSentFrom, Integrating, IsBefore, IsDeedOf, IsEventBody, IsHeld}
-use Rattle.world_law.proofs.steps_lemmas.Words.{IsIn, IsKept, IsLeft, IsNoTaking, IsOut, IsPending, IsReadyAt, IsUndone, IsWaiting, List, Network, Node, None}
-use Rattle.world_law.proofs.steps_lemmas.Words.{NoteBody, Off, Scenario, Some, State, Synchronised, Task, Units, What, [], act_place, acts_before}
+use Rattle.world_law.proofs.steps_lemmas.Words.{IsIn, IsKept, IsLeft, IsNoTaking, IsOut, IsPending, IsReadyAt, IsUndone, IsWaiting, List, Network, Node}
+use Rattle.world_law.proofs.steps_lemmas.Words.{NoteBody, Off, Scenario, Some, State, Task, Units, What, [], act_place, acts_before}
 use Rattle.world_law.proofs.steps_lemmas.Words.{adjustment_after, adjustment_with, amount, and_right, ap, append-nil, arith, bears_on, both_ways, cases_Bool, changed_at}
-use Rattle.world_law.proofs.steps_lemmas.Words.{changes_adjustment, correcting, cycle_in, dispatching, doing, earlier, emitting, eq-eqb, false}
-use Rattle.world_law.proofs.steps_lemmas.Words.{filter, fold, frames_taken, if◌then◌else◌, in_parts, inl, inr, ints, is_broken, is_timed, is_turned_on_at}
-use Rattle.world_law.proofs.steps_lemmas.Words.{last_or, length, moves, never_self, next_is_up_to, not, not_turned_on, numbered, option_map_or, pos}
-use Rattle.world_law.proofs.steps_lemmas.Words.{rank_of_call, reading_for, refl, same_before, scenario, sending, state_after, state_with, subst, sym}
+use Rattle.world_law.proofs.steps_lemmas.Words.{correcting, cycle_in, dispatching, doing, earlier, emitting, eq-eqb, false}
+use Rattle.world_law.proofs.steps_lemmas.Words.{fold, frames_taken, if◌then◌else◌, in_parts, inl, inr, ints, is_broken, is_timed, is_turned_on_at}
+use Rattle.world_law.proofs.steps_lemmas.Words.{length, moves, never_self, next_is_up_to, not, not_turned_on, numbered, pos}
+use Rattle.world_law.proofs.steps_lemmas.Words.{reading_for, refl, same_before, scenario, sending, state_after, state_with, subst, sym}
 use Rattle.world_law.proofs.steps_lemmas.Words.{time_of, true, turns_on}
 use Rattle.world_law.proofs.steps_lemmas.{Words.{up_to, value_of, waiting_alike, whole, ℕ}, steps.{AppliedParts.{broken_more, turned_more}, Passed.no_task}}
-use Rattle.std.{proofs.lemmas.Bool.and_from, specs.List.Contains}
+use Rattle.std.{proofs.lemmas.Bool.and_from}
 use Rattle.run_law.{proofs.scenario.Devices.on_by, specs.{machines.Answers.node_turned_on, scenario.Hypothesis.breaks_at}}
 use Rattle.net_plan.specs.declared.event.What.TheVariants as events
 use Rattle.run_law.specs.declared.note.NoteBody.TheVariants as notes
@@ -35,26 +35,26 @@ broken_so on node = record node { broken = true; standing = record node.standing
 pub node_breaks : (on : Bool) (what : What) (device : DeviceId) (node : Node) → breaks_at device.0 what ≡ true → node.broken ≡ false
     → befallen_node on what device node ≡ broken_so on node
 node_breaks on (events.Break other) device node it sound =
-    ap (λ (b : Bool). if b then broken_so on node else node) (and_from (other.0 == device.0) (not node.broken) it (ap not sound))
+    rw (and_from (other.0 == device.0) (not node.broken) it (ap not sound))
 node_breaks on other device node it sound = absurd cc
 
 pub node_on : (on : Bool) (what : What) (device : DeviceId) (node : Node) → turns_on device what ≡ true → node.broken ≡ false
     → befallen_node on what device node ≡ node_turned_on node
 node_on on (events.On other) device node it sound =
-    ap (λ (b : Bool). if b then node_turned_on node else node) (and_from (device.0 == other.0) (not node.broken) it (ap not sound))
+    rw (and_from (device.0 == other.0) (not node.broken) it (ap not sound))
 node_on on other device node it sound = absurd cc
 
 pub node_stays : (on : Bool) (what : What) (device : DeviceId) (node : Node) → breaks_at device.0 what ≡ false → turns_on device what ≡ false
     → befallen_node on what device node ≡ node
-node_stays on (events.Break other) device node sound off = ap (λ (b : Bool). if (b && not node.broken) then broken_so on node else node) sound
-node_stays on (events.On other) device node sound off = ap (λ (b : Bool). if (b && not node.broken) then node_turned_on node else node) off
+node_stays on (events.Break other) device node sound off = rw sound
+node_stays on (events.On other) device node sound off = rw off
 node_stays on other device node sound off = refl
 
 pub node_out : (on : Bool) (what : What) (device : DeviceId) (node : Node) → node.broken ≡ true → befallen_node on what device node ≡ node
 node_out on (events.Break other) device node out =
-    ap (λ (b : Bool). if b then broken_so on node else node) (and_right (other.0 == device.0) (not node.broken) (ap not out))
+    rw (and_right (other.0 == device.0) (not node.broken) (ap not out))
 node_out on (events.On other) device node out =
-    ap (λ (b : Bool). if b then node_turned_on node else node) (and_right (device.0 == other.0) (not node.broken) (ap not out))
+    rw (and_right (device.0 == other.0) (not node.broken) (ap not out))
 node_out on other device node out = refl
 
 -- ---- records of events bear on no device
@@ -90,20 +90,20 @@ pub record IsOnlyEvents (hs : List Happening) (now : ℕ) (ev : Happening) : Typ
 
 module _ {hs : List Happening} {now : ℕ} {ev : Happening} (m : IsOnlyEvents hs now ev) where
   each_past : (h : Happening) → IsIn h hs → time_of h ≤ now
-  each_past h i = elim (m.sooner h i) [ inl lt ↦ omega (arith, lt) | inr same ↦ let at = same.0 in omega (arith, at) ]
+  each_past h i = elim (m.sooner h i) [ inl lt ↦ omega arith | inr same ↦ let at = same.0 in omega arith ]
 
   with_event : (h : Happening) → IsIn h ((hs ++ ev ∷ []) ++ [])
       → (time_of h < now) ⊎ ((time_of h ≡ now) × IsEventBody h.note.body)
   with_event h i =
-      elim (in_parts h hs (ev ∷ []) (subst (λ l. IsIn h l) (append-nil (hs ++ ev ∷ [])) i)) [
+      elim (in_parts h hs (ev ∷ []) (rw (append-nil (hs ++ ev ∷ [])) at i)) [
         | inl old ↦ m.sooner h old
-        | inr (inl e) ↦ inr (ap time_of e ∙ m.at, subst (λ (x : Happening). IsEventBody x.note.body) (sym e) m.is)
+        | inr (inl e) ↦ inr (ap time_of e ∙ m.at, rw e m.is)
         | inr (inr none) ↦ absurd none
       ]
 
   same_earlier : earlier now ((hs ++ ev ∷ []) ++ []) ≡ earlier now hs
   same_earlier =
-      ap (earlier now) (append-nil (hs ++ ev ∷ [])) ∙ same_before now hs ev (let at = m.at in omega (arith, at))
+      ap (earlier now) (append-nil (hs ++ ev ∷ [])) ∙ same_before now hs ev (let at = m.at in omega arith)
 
 -- what is up to the time is what is before it, for what events do not change
 up_to_before : {B : Type 0} (step : B → Happening → B) (z : B) (hs : List Happening) (now : ℕ)
@@ -112,7 +112,7 @@ up_to_before : {B : Type 0} (step : B → Happening → B) (z : B) (hs : List Ha
 up_to_before step z hs now sooner same =
     ap (fold step z) (sym (next_is_up_to now hs))
     ∙ fold_still step now (now + 1) (omega arith) hs
-    (λ h i from lt b. elim (sooner h i) [ inl less ↦ absurd (omega (arith, from, less)) | inr at ↦ same b h at.1 ]) z
+    (λ h i from lt b. elim (sooner h i) [ inl less ↦ absurd (omega arith) | inr at ↦ same b h at.1 ]) z
 
 module _ (s : Scenario) (hs : List Happening) (now : ℕ) (device : DeviceId)
     (sooner : ((h : Happening) → IsIn h hs → (time_of h < now) ⊎ ((time_of h ≡ now) × IsEventBody h.note.body))) where
@@ -147,9 +147,9 @@ module _ (network : Network) (device : DeviceId) (node : Node) where
 
   no_deed : (deed : ClockTask) → IsDeedOf network device (node_turned_on node) deed
       → IsDeedOf network device node deed
-  no_deed (sending cycle) own = absurd (let bad : Integrating ≡ Synchronised = own.1 in cc)
-  no_deed (correcting cycle) own = absurd (let bad : None ≡ Some cycle = own in cc)
-  no_deed (dispatching row cycle) own = absurd (let bad : Integrating ≡ Synchronised = own.0 in cc)
+  no_deed (sending cycle) own = absurd (let bad = own.1 in cc)
+  no_deed (correcting cycle) own = absurd (let bad = own in cc)
+  no_deed (dispatching row cycle) own = absurd (let bad = own.0 in cc)
 
 module _ (network : Network) (device : DeviceId) (node : Node) where
   pub turned_on_less : HasNoMore network device node (node_turned_on node)
@@ -163,13 +163,13 @@ module _ (network : Network) (device : DeviceId) (node : Node) where
       → IsWaiting network device new sent → IsWaiting network device node sent
   waiting_less {new} a w =
       waiting_alike network device node new a.points
-      (λ c there. subst (λ (l : List Compressed). Contains l c) (sym a.emitted) there) w
+      (λ c there. rw a.emitted there) w
 
   pending_less : {new : Node} (task : Task) → HasNoMore network device node new → IsPending network device new task
       → IsPending network device node task × (reading_for network node task ≡ reading_for network new task)
   pending_less (emitting sent) a p = ((sym a.broken ∙ p.0, waiting_less a p.1), refl)
   pending_less (doing deed) a p =
-      ((sym a.broken ∙ p.0, undone_less a p.1), ap (λ (u : Units). value_of network deed -ℤ u.0) (sym a.adjustment))
+      ((sym a.broken ∙ p.0, undone_less a p.1), rw (sym a.adjustment))
 
 -- ---- the device is kept
 
@@ -217,43 +217,38 @@ module _ {M : Type 0} (stands : M → Network → DeviceId → Node → Type 0) 
             (over.1 (now ∷ 2 ∷ []) (inr (refl, inl (omega arith))))
       ]
       in
-      let rests = rested now k.worked (omega (arith, up))
+      let rests = rested now k.worked (omega arith)
       (λ b. late_act now device (m.early (act_place now device) b)) in
       let change : changed_at (js ++ []) device now ≡ changed_at (hs ++ []) device k.up =
-      ap (λ (l : List Happening). option_map_or time_of
-      (last_or None (filter (λ h. changes_adjustment device h.note.body) l)) 0)
-      (same_earlier m.events ∙ sym (ap (earlier now) (append-nil hs))) ∙ ap
-      (λ n. changed_at (hs ++ []) device n) (sym up) in
+      rw (same_earlier m.events ∙ sym (ap (earlier now) (append-nil hs))) (rw (sym up)) in
       let only = with_event m.events in
       let past_all = each_past m.events in
-      let left_so : IsLeft r (js ++ []) device now new =
+      let left_so =
       other_comes hs [] ev (event_bears device ev.note.body m.events.is)
-      (subst (λ l. IsLeft r l device now new) (sym (append-nil hs)) (left up)) in
+      (rw (append-nil hs) (left up)) in
       let done_so : HasDoneFrom network (r.reading device) device new (changed_at (js ++ []) device now) now now =
       record {
         undone = λ deed u x from lt.
             let before = rests.done.undone deed (undone_less network device k.node a u) x
-            (omega (arith, from, change)) (omega (arith, lt, up)) in
-            subst (λ n. pos n <ℤ (value_of network deed -ℤ new.standing.adjustment.0))
-            (m.reads device x (omega (arith, lt)))
-            (subst (λ (w : Units). pos (f device x) <ℤ (value_of network deed -ℤ w.0)) (sym a.adjustment) before);
+            (omega arith) (omega arith) in
+            rw (sym (m.reads device x (omega (arith, lt)))) (rw (sym a.adjustment) at before);
         done = λ deed there.
-            let x = rests.done.done deed (subst (λ (l : List ClockTask). Contains l deed) a.done there) in (
+            let x = rests.done.done deed (rw a.done at there) in (
               x.0,
-              omega (arith, x.1, change),
-              omega (arith, x.2, up),
+              omega (arith, x.1),
+              omega (arith, x.2),
               subst (λ n. (value_of network deed -ℤ new.standing.adjustment.0) ≤ℤ pos n)
-                  (m.reads device x.0 (omega (arith, x.2, up)))
-                  (subst (λ (w : Units). (value_of network deed -ℤ w.0) ≤ℤ pos (f device x.0)) (sym a.adjustment) x.3),
+                  (m.reads device x.0 (omega (arith, x.2)))
+                  (subst (λ w. (value_of network deed -ℤ w.0) ≤ℤ pos (f device x.0)) (sym a.adjustment) x.3),
             );
       } in
       let sent_so : HasSentFrom r device new now now = record {
         unsent =
-            λ c w x lt. subst (λ n. pos n <ℤ c.at.0) (m.reads device x (omega (arith, lt)))
-            (rests.sent.unsent c (waiting_less network device k.node a w) x (omega (arith, lt, up)));
+            λ c w x lt. rw (m.reads device x (omega (arith, lt))) at (rests.sent.unsent c
+            (waiting_less network device k.node a w) x (omega arith));
         sent = λ c there.
-            let x = rests.sent.sent c (subst (λ (l : List Compressed). Contains l c) a.emitted there) in
-            (x.0, omega (arith, x.1, up), subst (λ n. c.at.0 ≤ℤ pos n) (m.reads device x.0 (omega (arith, x.1, up))) x.2);
+            let x = rests.sent.sent c (rw a.emitted at there) in
+            (x.0, omega (arith, x.1), rw (m.reads device x.0 (omega (arith, x.1, up))) at x.2);
       } in
       record {
         node = new;
@@ -261,39 +256,38 @@ module _ {M : Type 0} (stands : M → Network → DeviceId → Node → Type 0) 
         sound = sound;
         up = now;
         acted = inl (refl, λ task b acts. absurd (late_act now device (acts_before network now device task (now ∷ 2 ∷ []) b)));
-        told = λ over. absurd (let bad : now ≡ now + 1 = over in omega (arith, bad));
+        told = λ over. absurd (let bad = over in omega arith);
         left = left_so;
         taken =
             a.taken ∙ k.taken ∙ ap (λ l. frames_taken (scenario network f past) l device)
             (append-nil hs)
             ∙ frames_alike (scenario network f past) r hs device now (λ x. refl) (m.reads device) past_all
-            ∙ sym (ap (λ l. frames_taken r l device) (append-nil js)
-            ∙ frames_end r hs ev device (event_takes device ev.note.body m.events.is)
-            (λ h i. let early = past_all h i in let at = m.events.at in omega (arith, early, at)));
-        worked = worked_by {s = r} {device = device} {node = new} {changed = changed_at (js ++ []) device now} {t = now} (now ∷ 2 ∷ []) (record { done = done_so; sent = sent_so }) (λ x task lt. inl lt);
+            ∙ sym (rw (append-nil js)
+            (frames_end r hs ev device (event_takes device ev.note.body m.events.is)
+            (λ h i. let early = past_all h i in let at = m.events.at in omega arith)));
+        worked = worked_by (now ∷ 2 ∷ []) (record { done = done_so; sent = sent_so }) (λ x task lt. inl lt);
         bare = λ other. (a.points ∙ (k.bare other).0, a.emitted ∙ (k.bare other).1);
         ready = ready_less f g new (m.reads device) k.ready a.last
             (λ task p. pending_less network device k.node task a p);
         still = λ same h i at. elim (only h
-            i) [ inl lt ↦ absurd (omega (arith, lt, at)) | inr it ↦ inl (event_moves device h.note.body it.1) ];
+            i) [ inl lt ↦ absurd (omega arith) | inr it ↦ inl (event_moves device h.note.body it.1) ];
         turned = λ on. record {
-          off = ap (λ l. state_after r l device) (same_earlier m.events) ∙ off up on;
+          off = rw (same_earlier m.events) (off up on);
           number = number;
           event = ev;
           befell = record { there = m.there; same_time = m.events.at };
           turned = λ b. absurd (never_self (now ∷ 2 ∷ []) b);
         };
         cleared =
-            λ cycle there. subst (λ n. cycle < n) (sym a.number)
-            (k.cleared cycle (subst (λ (l : List ClockTask). Contains l (correcting cycle)) a.done there));
+            λ cycle there. rw a.number (k.cleared cycle (rw a.done at there));
         phase =
-            λ at p b. m.early p (k.phase (ap (λ (w : _). w.time.0) (sym a.last) ∙ at) p
-            (subst (λ c. IsBefore p (now ∷ rank_of_call c ∷ [])) a.phase b));
+            λ at p b. m.early p (k.phase (rw (sym a.last) at) p
+            (rw a.phase at b));
       }
     where
       late_act : (now : ℕ) (device : DeviceId) → IsBefore (act_place now device) (now ∷ 2 ∷ []) → ⊥
-      late_act now device (inl lt) = omega (arith, lt)
-      late_act now device (inr (e, inl lt)) = omega (arith, lt)
+      late_act now device (inl lt) = omega arith
+      late_act now device (inr (e, inl lt)) = omega arith
       late_act now device (inr (e, inr (two, none))) = none
 
   -- ---- a broken one stays out, and one that breaks is out from then on
@@ -344,12 +338,12 @@ module _ {M : Type 0} (stands : M → Network → DeviceId → Node → Type 0) 
       let s = scenario network f past in
       let only : (h : Happening) → IsIn h (hs ++ []) → (time_of h < now)
       ⊎ ((time_of h ≡ now) × IsEventBody h.note.body) = λ h i. m.events.sooner h
-      (subst (λ l. IsIn h l) (append-nil hs) i) in
+      (rw (append-nil hs) at i) in
       let on = is_turned_on_at s device now in
       let broken = broken_more network f g past event now device m.at ∙ ap
-      (λ (b : Bool). b || breaks_at device.0 event.what) k.broken in
-      let still = subst (λ (n : Node). stands after network device n) (node_out on event.what device k.node k.shows)
-      (been k.node k.is (λ turns. absurd (both_ways (is_broken s device now)
+      (λ b. b || breaks_at device.0 event.what) k.broken in
+      let still = rw (node_out on event.what device k.node k.shows) at (been k.node k.is
+      (λ turns. absurd (both_ways (is_broken s device now)
       (subst (FitsWorld s hs now) turns fits).2 k.broken))) in
       inr (out_so after k.node m still broken k.shows
       (k.state ∙ state_up_to s (hs ++ []) now device only ∙ ap
@@ -381,26 +375,24 @@ module _ {M : Type 0} (stands : M → Network → DeviceId → Node → Type 0) 
       sound = k.left.counted.broken ∙ ap (is_broken s device) is_at ∙ k.sound
 
       left : IsLeft s hs device now k.node
-      left = subst (λ l. IsLeft s l device now k.node) (append-nil hs)
-          (subst (λ n. IsLeft s (hs ++ []) device n k.node) is_at k.left)
+      left = rw (append-nil hs) at (rw is_at at k.left)
 
       -- it is off where it is turned on
       off : event.what ≡ events.On device → k.node.standing.state ≡ Off
       off turns = left.state ∙ (subst (FitsWorld s hs now) turns fits).1
 
       same_off : is_turned_on_at s device now ≡ true → state_after s (earlier now hs) device ≡ Off
-      same_off on = let it = k.turned on in ap (λ l. state_after s (earlier now l) device)
-          (sym (append-nil hs)) ∙ it.off
+      same_off on = let it = k.turned on in rw (sym (append-nil hs)) it.off
 
       broken_as : breaks_at device.0 event.what ≡ false → is_broken s device now ≡ is_broken r device now
       broken_as stays =
-          sym (broken_more network f g past event now device m.at ∙ ap (λ (b : Bool). is_broken s device now || b)
+          sym (broken_more network f g past event now device m.at ∙ ap (λ b. is_broken s device now || b)
           stays ∙ none_or (is_broken s device now))
 
       turned_as : turns_on device event.what ≡ false → is_turned_on_at s device now ≡ is_turned_on_at r device now
       turned_as not_on =
           sym (turned_more network f g past event now device ∙ ap
-          (λ (b : Bool). is_turned_on_at s device now || (b && amount event.time == now)) not_on
+          (λ b. is_turned_on_at s device now || (b && amount event.time == now)) not_on
           ∙ none_or (is_turned_on_at s device now))
 
       goes_out : breaks_at device.0 event.what ≡ true → IsOut stands r (hs ++ ev ∷ []) [] (now ∷ 2 ∷ []) now device
@@ -408,39 +400,37 @@ module _ {M : Type 0} (stands : M → Network → DeviceId → Node → Type 0) 
       goes_out breaks =
           let on = is_turned_on_at s device now in
           let new = broken_so on k.node in
-          let is = subst (λ (n : Node). stands after network device n)
-          (node_breaks on event.what device k.node breaks sound) (been k.node k.is off) in
+          let is = rw (node_breaks on event.what device k.node breaks sound) at (been k.node k.is off) in
           let broken =
-          broken_more network f g past event now device m.at ∙ ap (λ (b : Bool). is_broken s device now || b) breaks
+          broken_more network f g past event now device m.at ∙ ap (λ b. is_broken s device now || b) breaks
           ∙ or_true (is_broken s device now) in
-          out_so {device = device} after {node = k.node} new m is broken refl
+          out_so after new m is broken refl
           (elim (cases_Bool on) [
-            | inl was ↦ ap (λ (b : Bool). if b then Off else k.node.standing.state) was ∙ sym (same_off was)
-            | inr off_then ↦ ap (λ (b : Bool). if b then Off else k.node.standing.state) off_then ∙ left.state
-                ∙ not_turned_on s hs device now off_then
+            | inl was ↦ rw was (sym (same_off was))
+            | inr off_then ↦ rw off_then (left.state
+                ∙ not_turned_on s hs device now off_then)
           ])
           left.counted.adjustment k.ready refl k.phase
 
       comes_on : turns_on device event.what ≡ true → breaks_at device.0 event.what ≡ false → IsKept stands r
           (hs ++ ev ∷ []) [] (now ∷ 2 ∷ []) now device after
       comes_on on stays =
-          let is = subst (λ (n : Node). stands after network device n)
-          (node_on (is_turned_on_at s device now) event.what device k.node on sound)
-          (been k.node k.is off) in
+          let is = rw (node_on (is_turned_on_at s device now) event.what device k.node on sound) at (been k.node k.is
+          off) in
           let state = off (on_by device event.what on) in
-          let time_is : (amount event.time == now) ≡ true = eq-eqb (amount event.time) now m.at in
-          let turned : is_turned_on_at r device now ≡ true = turned_more network f g past event now device
-          ∙ ap (λ (b : Bool). is_turned_on_at s device now || (b && amount event.time == now)) on ∙ ap
-          (λ (b : Bool). is_turned_on_at s device now || b)
+          let time_is = eq-eqb (amount event.time) now m.at in
+          let turned = turned_more network f g past event now device
+          ∙ ap (λ b. is_turned_on_at s device now || (b && amount event.time == now)) on ∙ ap
+          (λ b. is_turned_on_at s device now || b)
           time_is ∙ or_true (is_turned_on_at s device now) in
           let was_off : is_turned_on_at s device now ≡ true → ⊥ = λ was.
-          (let bad : Off ≡ Integrating = sym state ∙ left.state ∙ ap
-          (λ (b : Bool). if b then Integrating else state_after s (earlier now hs) device) was in cc)
+          (let bad = sym state ∙ left.state ∙ ap
+          (λ b. if b then Integrating else state_after s (earlier now hs) device) was in cc)
           in
           kept_less after m k (turned_on_less network device k.node)
           is (sym (broken_as stays) ∙ k.sound)
           (λ up. is_turned_on network f g past (past ++ event
-          ∷ []) {hs = hs} {device = device} {t = now} {node = k.node} m.reads (each_past m.events) (broken_as
+          ∷ []) m.reads (each_past m.events) (broken_as
           stays) turned
           (ap is_timed state) left)
           (λ up now_on. elim (cases_Bool (is_turned_on_at s device now))
@@ -449,9 +439,8 @@ module _ {M : Type 0} (stands : M → Network → DeviceId → Node → Type 0) 
       goes_on : breaks_at device.0 event.what ≡ false → turns_on device event.what ≡ false → IsKept stands r
           (hs ++ ev ∷ []) [] (now ∷ 2 ∷ []) now device after
       goes_on stays not_on =
-          let is = subst (λ (n : Node). stands after network device n)
-          (node_stays (is_turned_on_at s device now) event.what device k.node stays not_on)
-          (been k.node k.is off) in
+          let is = rw (node_stays (is_turned_on_at s device now) event.what device k.node stays not_on) at (been k.node
+          k.is off) in
           kept_less after m k (itself network device k.node) is
           (sym (broken_as stays) ∙ k.sound)
           (λ up. stands_still network f g past (past ++ event ∷ []) hs device now k.node m.reads (each_past m.events)

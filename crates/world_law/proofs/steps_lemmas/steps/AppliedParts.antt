@@ -7,7 +7,7 @@ use Rattle.world_law.proofs.steps_lemmas.Words.{◌&&◌, ◌++◌, ◌+◌, ◌
 use Rattle.world_law.proofs.steps_lemmas.Words.{AtPort, Bool, DeviceId, Event, Gives, Happening, IsBefore, IsCaused, IsEventBody, IsIn, IsOnWire, IsOwnSource}
 use Rattle.world_law.proofs.steps_lemmas.Words.{IsPermanent, IsWaitingFor, LinkId, List, Network, NoteBody, OnWire, Scenario, Some, Units, Waiting, [], amount}
 use Rattle.world_law.proofs.steps_lemmas.Words.{ap, arith, behind, cases_lt, false, filter_no, filter_yes, inl, inr, ints, is_broken, is_turned_on_at, length}
-use Rattle.world_law.proofs.steps_lemmas.Words.{list_any, members_in, nat_le, numbered, numbered_in, or_none, own_time, place_of, point_of, port_place, pos}
+use Rattle.world_law.proofs.steps_lemmas.Words.{list_any, members_in, nat_le, numbered, numbered_in, or_none, own_time, place_of, port_place}
 use Rattle.world_law.proofs.steps_lemmas.Words.{rank, refl, ripe_place, scenario, subst, sym, time_of, true, turns_on, way_from, wire_place, ℕ}
 use Rattle.world_law.specs.world.World.{IsForward}
 use Rattle.run_law.specs.declared.judgement.Why.TheVariants as whys
@@ -29,7 +29,7 @@ pub record IsBefalling (network : Network) (f g : DeviceId → ℕ → ℕ) (pas
 
 low_rank : (body : NoteBody) → rank body < 2 → IsEventBody body
 low_rank (notes.Event line what) few = tt
-low_rank other few = absurd (omega (arith, few))
+low_rank other few = absurd (omega arith)
 
 pub before_others : (h : Happening) (now : ℕ) → IsBefore (place_of h) (now ∷ 2 ∷ []) → (time_of h < now) ⊎ ((time_of h ≡ now) × IsEventBody h.note.body)
 before_others h now (inl lt) = inl lt
@@ -61,7 +61,7 @@ wires_apply {hs} {frontier} {now} {ev} m earlier_all forward are = record {
             arrives = arrives_same it.putting e.device e.link e.at e.signal (m.agree (time_of it.putting) lt)
                 (omega arith) it.arrives;
           },
-          λ open_ at. (let bad = at in omega (arith, bad, lt)),
+          λ open_ at. (omega arith),
           λ b. was.2 (worked e b),
         )
         | inr same ↦ absurd (earlier_all e i it same.0)
@@ -75,14 +75,14 @@ wires_apply {hs} {frontier} {now} {ev} m earlier_all forward are = record {
               let back = arrives_same a.putting device link t a.signal
               (agree_back (m.agree (time_of a.putting) lt)) (omega arith) a.arrives in
               are.all t device link cause (record { putting = a.putting; there = there; signal = a.signal; arrives = back })
-              (λ open_ at. (let bad = at in omega (arith, bad, lt))) (λ b. not (m.early _ b))
+              (λ open_ at. (omega arith)) (λ b. not (m.early _ b))
         ]
       ];
 }
   where
     worked : (e : OnWire) → IsBefore (wire_place e) (now ∷ 2 ∷ []) → IsBefore (wire_place e) frontier
     worked e (inl lt) = m.over (wire_place e) (inl lt)
-    worked e (inr (t, inl few)) = absurd (omega (arith, few))
+    worked e (inr (t, inl few)) = absurd (omega arith)
     worked e (inr (t, inr (r, none))) = absurd none
 
 -- ---- ports
@@ -112,7 +112,7 @@ ports_apply {network} {f} {g} {past} {event} {hs} {frontier} {now} {ev} m are = 
                 there = numbered_still hs ev it.giving e.cause it.there;
                 gave = record {
                   gives = it.gave.gives;
-                  held = it.gave.held ∙ ap (λ n. time_of it.giving + n) held;
+                  held = it.gave.held ∙ (rw held);
                   of_frame = it.gave.of_frame;
                   read = it.gave.read ∙ a.reads e.device (time_of it.giving) (omega arith);
                 };
@@ -122,7 +122,7 @@ ports_apply {network} {f} {g} {past} {event} {hs} {frontier} {now} {ev} m are = 
       ];
   all = λ t device link cause d not.
       elim (numbered_more hs ev d.giving cause d.there) [
-        | inr new ↦ absurd (not_event ev device link (subst (λ (h : Happening). Gives network h.note.body device link) (sym new.1) d.gives)
+        | inr new ↦ absurd (not_event ev device link (rw new.1 d.gives)
             (subst IsEventBody (sym m.ev_is) tt))
         | inl there ↦ elim (m.sooner d.giving (numbered_in hs cause d.giving there)) [
           | inr same ↦ absurd (not_event d.giving device link d.gives same.1)
@@ -130,7 +130,7 @@ ports_apply {network} {f} {g} {past} {event} {hs} {frontier} {now} {ev} m are = 
               let held = hold_same network f g past (past ++ event ∷ []) (time_of d.giving) (time_of d.giving) link (way_from network device link)
               (m.agree (time_of d.giving) lt) (omega arith) in
               are.all t device link cause
-              (record { giving = d.giving; there = there; gives = d.gives; held = d.held ∙ ap (λ n. time_of d.giving + n) (sym held) })
+              (record { giving = d.giving; there = there; gives = d.gives; held = d.held ∙ (rw (sym held)) })
               (λ b. not (m.early _ b))
         ]
       ];
@@ -141,7 +141,7 @@ ports_apply {network} {f} {g} {past} {event} {hs} {frontier} {now} {ev} m are = 
 
     worked : (e : AtPort) → IsBefore (port_place e) (now ∷ 2 ∷ []) → IsBefore (port_place e) frontier
     worked e (inl lt) = m.over (port_place e) (inl lt)
-    worked e (inr (t, inl few)) = absurd (omega (arith, few))
+    worked e (inr (t, inl few)) = absurd (omega arith)
     worked e (inr (t, inr (r, none))) = absurd none
 
 -- ---- what waits
@@ -160,7 +160,7 @@ permanent_to {n} {f} {g} {events} {more} js {t} {device} a p there =
       arrived = p.arrived;
       of_frame = p.of_frame;
       waits = p.waits;
-      at_point = p.at_point ∙ ap (λ r. point_of (pos r) p.clock n.dmax.0) (a.reads device (time_of p.arrival) (omega (arith, ints, from)));
+      at_point = p.at_point ∙ (rw (a.reads device (time_of p.arrival) (omega (arith, ints))));
       reached = reach_same n f g events more t device a (omega arith) p.reached;
       correct = sym (broken_same t device a (omega arith)) ∙ p.correct;
     }
@@ -171,7 +171,7 @@ no_arrival network h body device link from clock e arrived is = subst IsEventBod
 
 ripe_early : (now t : ℕ) (e : Waiting) → IsBefore (ripe_place t e) (now ∷ 2 ∷ []) → t < now
 ripe_early now t e (inl lt) = lt
-ripe_early now t e (inr (same, inl few)) = absurd (omega (arith, few))
+ripe_early now t e (inr (same, inl few)) = absurd (omega arith)
 ripe_early now t e (inr (same, inr (r, none))) = absurd none
 
 or_assoc : (a b c : Bool) → (a || (b || c)) ≡ ((a || b) || c)
@@ -180,7 +180,7 @@ or_assoc false b c = refl
 
 any_more : {X : Type 0} (q : X → Bool) (xs : List X) (x : X) → list_any q (xs ++ x ∷ []) ≡ (list_any q xs || q x)
 any_more q [] x = or_none (q x)
-any_more q (y ∷ xs) x = ap (λ (b : Bool). q y || b) (any_more q xs x) ∙ or_assoc (q y) (list_any q xs) (q x)
+any_more q (y ∷ xs) x = rw (any_more q xs x) (or_assoc (q y) (list_any q xs) (q x))
 
 module _ (network : Network) (f g : DeviceId → ℕ → ℕ) (past : List Event) (event : Event) (now : ℕ)
     (device : DeviceId) where
@@ -205,7 +205,6 @@ pub waiting_apply : {network : Network} {f g : DeviceId → ℕ → ℕ} {past :
     ∷ [])) e.device now ≡ false))) → AreWaiting (scenario network g (past ++ event ∷ [])) (hs ++ ev ∷ [])
     (now ∷ 2 ∷ []) now new
 waiting_apply {network} {f} {g} {past} {event} {hs} {now} {ev} new m are kept =
-    let more = past ++ event ∷ [] in
     record {
       real = λ e i.
           let it = are.real e ((kept e).0 i).0 in
@@ -225,7 +224,7 @@ waiting_apply {network} {f} {g} {past} {event} {hs} {now} {ev} new m are kept =
                     of_frame = w.of_frame;
                     waits = w.waits;
                     at_point = w.at_point
-                        ∙ ap (λ r. point_of (pos r) w.clock network.dmax.0) (a.reads e.device (time_of it.arrival) (omega arith));
+                        ∙ (rw (a.reads e.device (time_of it.arrival) (omega arith)));
                   };
                 }
           ];
@@ -233,7 +232,8 @@ waiting_apply {network} {f} {g} {past} {event} {hs} {now} {ev} new m are kept =
           let lt = ripe_early now t e b in
           let p = x.permanent in
           elim (numbered_more hs ev p.arrival e.cause p.there) [
-            | inr fresh ↦ no_arrival network ev p.arrival.note.body e.device e.link p.from p.clock (ap (λ (h : Happening). h.note.body) fresh.1) p.arrived
+            | inr fresh ↦ no_arrival network ev p.arrival.note.body e.device e.link p.from p.clock (rw fresh.1)
+                p.arrived
                 (subst IsEventBody (sym m.ev_is) tt)
             | inl there ↦
                 are.later e ((kept e).0 i).0 t
@@ -247,7 +247,7 @@ waiting_apply {network} {f} {g} {past} {event} {hs} {now} {ev} new m are kept =
       all = λ e it sound not.
           elim (numbered_more hs ev it.arrival e.cause it.there) [
             | inr fresh ↦ absurd (no_arrival network ev it.arrival.note.body e.device e.link it.awaited.from it.awaited.clock
-                (ap (λ (h : Happening). h.note.body) fresh.1) it.awaited.arrived (subst IsEventBody (sym m.ev_is) tt))
+                (rw fresh.1) it.awaited.arrived (subst IsEventBody (sym m.ev_is) tt))
             | inl there ↦ elim (m.sooner it.arrival (numbered_in hs e.cause it.arrival there)) [
               | inr same ↦ absurd (no_arrival network it.arrival it.arrival.note.body e.device e.link it.awaited.from it.awaited.clock refl it.awaited.arrived
                   same.1)
@@ -264,7 +264,7 @@ waiting_apply {network} {f} {g} {past} {event} {hs} {now} {ev} new m are kept =
                       of_frame = w.of_frame;
                       waits = w.waits;
                       at_point = w.at_point
-                          ∙ ap (λ r. point_of (pos r) w.clock network.dmax.0) (sym (a.reads e.device (time_of it.arrival) (omega arith)));
+                          ∙ (rw (sym (a.reads e.device (time_of it.arrival) (omega arith))));
                     };
                   } in
                   let here = first_false (is_broken (scenario network f past) e.device now) (breaks_at e.device.0 event.what)
@@ -304,8 +304,8 @@ pub nothing_due : (network : Network) (g : DeviceId → ℕ → ℕ) (past : Lis
 nothing_due network g past event js now at = none_to_come (λ front y not due worked.
     let s = scenario network g (past ++ event ∷ []) in
     let own = own_time s (js ++ front) (time_of y) (members_in y) y.note.body worked.0 worked.1 in
-    let here = subst (λ q. IsOwnSource s (js ++ front) (time_of y) (members_in y) y.note.body q) own.2 worked.1 in
-    elim (subst (λ q. IsBefore q (now ∷ 2 ∷ [])) own.2 worked.3) [
+    let here = rw own.2 at worked.1 in
+    elim (rw own.2 at worked.3) [
       | inl lt ↦ not (inl lt)
       | inr (e_at, inl few) ↦ not
           (event_there network g past event (js ++ front) y now at e_at

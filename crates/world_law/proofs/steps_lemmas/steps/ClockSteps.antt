@@ -1,14 +1,14 @@
 -- The clock of a device is shown at the end.
 use Rattle.world_law.proofs.{devices.Shown.{all_past, held_shows}, giving.GivenParts.up_to_place, putting.Putting.{IsPutting, held_put, known_put, settled_put}}
 use Rattle.world_law.{proofs.{giving.Given.device_in, runs.Settled.late_of}, specs.world.Calls.IsStateOf}
-use Rattle.world_law.proofs.steps_lemmas.Words.{◌++◌, ◌+◌, ◌<◌, ◌↔◌, ◌∙◌, ◌∷◌, ◌≡◌, ◌≤◌, AreOfNetwork, ArePutIn, DeviceId, Happening, IsBefore, IsHeld}
+use Rattle.world_law.proofs.steps_lemmas.Words.{◌++◌, ◌+◌, ◌<◌, ◌↔◌, ◌∙◌, ◌∷◌, ◌≡◌, ◌≤◌, ArePutIn, DeviceId, Happening, IsBefore, IsHeld}
 use Rattle.world_law.proofs.steps_lemmas.Words.{IsMoving, IsOwnSource, IsSource, List, Network, Node, Note, NoteBody, Scenario, [], no_task_at, adjustment_after}
 use Rattle.world_law.proofs.steps_lemmas.Words.{ComesFirst, Some, Stands, State, Units, World, both_ways, length, slice_get}
 use Rattle.world_law.proofs.steps_lemmas.Words.{ap, arith, at_least, behind, cases_lt, clock_place, comes_first, false}
 use Rattle.world_law.proofs.steps_lemmas.Words.{device_still, happenings, inl, inr, is_at_source, key, members_in}
 use Rattle.world_law.proofs.steps_lemmas.Words.{rank, refl, settled_as, some_same, stands_on, state_after, subst, sym, second}
 use Rattle.world_law.proofs.steps_lemmas.Words.{StandsBehind, due_of, record_of, time_of, true, units_of, up_to, ℕ, ports_still, waiting_still, wires_still}
-use Rattle.world_law.{proofs.putting.PutShown.same_record, specs.world.World.IsDueAs}
+use Rattle.world_law.{proofs.putting.PutShown.same_record}
 use Rattle.run_law.specs.declared.judgement.Why.TheVariants as whys
 use Rattle.run_law.specs.declared.note.NoteBody.TheVariants as kinds
 
@@ -22,15 +22,14 @@ clock_own s js t m other device now o = grind arith
 -- what is late is at its source where it is a clock's
 last_rank : (body : NoteBody) → 14 ≤ rank body → is_at_source body ≡ true
 last_rank (kinds.Clock other reading adjustment state) late = refl
-last_rank other late = absurd (omega (arith, late))
+last_rank other late = absurd (omega arith)
 
 -- so nothing is to come where a clock comes first
 none_coming : {s : Scenario} {hs : List Happening} (coming : List Happening) {now : ℕ}
     (device : DeviceId) → IsMoving s hs coming now 14 (device.0 ∷ []) → coming ≡ []
 none_coming [] device m = refl
 none_coming (y ∷ coming) {now} device m =
-    let after = m.are.after y (inl refl) in
-    let late = at_least y now 14 (device.0 ∷ []) (m.are.of_now y (inl refl)) after in
+    let late = at_least y now 14 (device.0 ∷ []) (m.are.of_now y (inl refl)) (m.are.after y (inl refl)) in
     absurd (both_ways _ (late_of m.are y (inl refl)) (last_rank y.note.body late))
 
 pub nothing_put : (now : ℕ) (network : Network) (hs : List Happening) (body : NoteBody) (settled : List Happening)
@@ -63,25 +62,25 @@ clock_step {C} {M} reading stands s world notes device machine state adjustment 
     let more = device.0 ∷ [] in
     let here = now ∷ 14 ∷ more in
     let waits : IsBefore here old.frontier → ⊥ = λ b. let less = (old.shown device lt ended).0 b in omega
-    (arith, less, shown) in
+    arith in
     let c = comes_first old 14 more (inr (refl, inl (omega arith))) refl waits first in
     let empty = none_coming world.settled device c.moving in
-    let moving : IsMoving s hs [] now 14 more = subst (λ l. IsMoving s hs l now 14 more) empty c.moving in
-    let body : NoteBody = kinds.Clock device (units_of (s.reading device now)) adjustment state in
+    let moving : IsMoving s hs [] now 14 more = rw empty at c.moving in
+    let body = kinds.Clock device (units_of (s.reading device now)) adjustment state in
     let w = record_of s.network hs [] now body in
     let m2 = old.devices device lt in
-    let machine_is : m2.0 ≡ machine = some_same m2.0 machine _ m2.1 there in
+    let machine_is = some_same m2.0 machine _ m2.1 there in
     let shows = held_shows stands s hs world.settled old.frontier now device m2.0 m2.2 (old.untold.done c.told)
     (all_past reading stands s world notes old) old.befallen in
-    let is = stood shows.0 (subst (λ (x : M). stands x s.network device shows.0) machine_is shows.1) in
+    let is = stood shows.0 (rw (sym machine_is) shows.1) in
     let at_end = device_in s.network device lt in
-    let due : IsDueAs s (hs ++ []) w = due_of s hs [] now body (record {
+    let due = due_of s hs [] now body (record {
       is = at_end.0;
       there = at_end.1;
       ends = (old.ended (units_of now)).1 (ended, refl);
       reads = refl;
-      adjusted = is.1 ∙ shows.2.adjustment ∙ ap (λ (l : List Happening). adjustment_after s (up_to now (hs ++ l)) device) empty;
-      in_state = is.0 ∙ shows.2.state ∙ ap (λ (l : List Happening). state_after s (up_to now (hs ++ l)) device) empty;
+      adjusted = is.1 ∙ shows.2.adjustment ∙ ap (λ l. adjustment_after s (up_to now (hs ++ l)) device) empty;
+      in_state = is.0 ∙ shows.2.state ∙ ap (λ l. state_after s (up_to now (hs ++ l)) device) empty;
     }) in
     let p : IsPutting s hs [] [] now 14 more w = record {
       one = record {
@@ -94,24 +93,21 @@ clock_step {C} {M} reading stands s world notes device machine state adjustment 
         fresh = λ y i same. i;
         mine = refl;
         here = IsSource.ending (units_of now) device at_end.0 at_end.1 ((old.ended (units_of now)).1 (ended, refl));
-        aside = λ x j other same hears. let six : 14 ≡ 6 = ap second same in omega (arith, six);
+        aside = λ x j other same hears. let six : 14 ≡ 6 = ap second same in omega arith;
       };
       late = omega arith;
       idle = tt;
       own = λ zs y y_due few at own.
           let it = clock_own s (hs ++ zs) (time_of y) (members_in y) y.note.body device now own in
-          ap (λ (l : List ℕ). now ∷ l) (sym it.1) ∙ ap (λ (n : ℕ). n ∷ rank y.note.body ∷ key (members_in y) y.note.body) (sym it.0);
+          rw (sym it.1) (ap (λ n. n ∷ rank y.note.body ∷ key (members_in y) y.note.body) (sym it.0));
     } in
-    let all : settled ≡ w ∷ [] = nothing_put now s.network hs body settled
-    (subst (λ l. ArePutIn s.network hs now (body ∷ []) l settled) empty put)
-    ∙ ap (λ (h : Happening). h ∷ []) (sym (same_record s.network hs [] now body (omega arith))) in
+    let all = nothing_put now s.network hs body settled
+    (rw empty at put)
+    ∙ ap (λ h. h ∷ []) (sym (same_record s.network hs [] now body (omega arith))) in
     let room = first.room in
-    subst (λ (l : List Happening). StandsBehind reading stands s
-    (record world { early = false; settled = l; shown = world.shown + 1 }) notes here)
-    (sym all)
-    (stands_on c world.machines (world.shown + 1) (omega (arith, room))
+    rw all (stands_on c world.machines (world.shown + 1) (omega arith)
     (settled_put p)
-    (known_put hs [] [] w tt (subst (λ (l : List Happening). AreOfNetwork s (hs ++ l)) empty old.known))
+    (known_put hs [] [] w tt (rw empty at old.known))
     (λ d within.
     let k = c.devices d within in (
       k.0,
@@ -120,7 +116,7 @@ clock_step {C} {M} reading stands s world notes device machine state adjustment 
           (subst (λ l. IsHeld stands s hs l (behind here) now d k.0) empty
           (device_still c (no_task_at s.network now d 14 more (inr (omega arith))) k.2)),
     ))
-    (wires_still c (λ two. omega (arith, two)))
-    (ports_still c (λ eight. omega (arith, eight)))
-    (waiting_still c (λ three. omega (arith, three)))
+    (wires_still c (λ two. omega arith))
+    (ports_still c (λ eight. omega arith))
+    (waiting_still c (λ three. omega arith))
     (λ d within over. shown_more now world.shown device d shown))

@@ -3,20 +3,20 @@ use Rattle.world_law.proofs.putting.{Moving.{goes_by, settled_moves}, Putting.{I
 use Rattle.world_law.specs.steps.Steps.{departure_bodies, departure_now}
 use Rattle.world_law.proofs.steps_lemmas.Words.{due_of, one_shown, put_length, record_of, waiting_still, wires_still}
 use Rattle.world_law.proofs.steps_lemmas.Words.{◌++◌, ◌+◌, ◌<◌, ◌∙◌, ◌∷◌, ◌≡◌, ◌≤◌, AreOfNetwork, ArePutIn, AreSettled, AtPort, Bool}
-use Rattle.world_law.proofs.steps_lemmas.Words.{ComesFirst, DeviceId, Happening, IsBefore, IsHeld, IsIn, IsMoving, IsSource, IsWithout, List, Network}
+use Rattle.world_law.proofs.steps_lemmas.Words.{ComesFirst, DeviceId, Happening, IsHeld, IsIn, IsMoving, IsSource, IsWithout, List, Network}
 use Rattle.world_law.proofs.steps_lemmas.Words.{Node, Note, Scenario, Stands, StandsBehind, World, [], no_task_at, ap}
 use Rattle.world_law.proofs.steps_lemmas.Words.{append_assoc, arith, behind, cases_Bool, cause_of, comes_first}
 use Rattle.world_law.proofs.steps_lemmas.Words.{false, device_still, happenings, if◌then◌else◌, in_left, in_right, inl, inr}
 use Rattle.world_law.proofs.steps_lemmas.Words.{is_broken, length, members_in, never_self, numbers_end, parted, second}
-use Rattle.world_law.proofs.steps_lemmas.Words.{place_of, port_place, ports_move, rank, refl, stands_on, subst, sym, time_of}
+use Rattle.world_law.proofs.steps_lemmas.Words.{port_place, ports_move, refl, stands_on, sym, time_of}
 use Rattle.world_law.{proofs.steps_lemmas.Words.{true, units_of, ℕ}, specs.world.Outcomes.departure_body}
-use Rattle.world_law.proofs.steps_lemmas.steps.Outcomes.{body_cause, body_caused, body_idle, body_key, body_own, departs_now, few_cause}
+use Rattle.world_law.proofs.steps_lemmas.steps.Outcomes.{body_cause, body_caused, body_idle, body_own, departs_now, few_cause}
 use Rattle.world_law.proofs.steps_lemmas.steps.Outcomes.{nothing_of_broken, outcome_at, own_there}
 
 -- ---- the source is first
 
 port_at : (e : AtPort) (now : ℕ) → e.at ≡ now → port_place e ≡ now ∷ 8 ∷ e.device.0 ∷ e.link.0 ∷ e.cause ∷ []
-port_at e now at = ap (λ (t : ℕ). t ∷ 8 ∷ e.device.0 ∷ e.link.0 ∷ e.cause ∷ []) at
+port_at e now at = rw at
 
 module _ {C M : Type 0} (reading : C → ℕ → ℕ) (stands : M → Network → DeviceId → Node → Type 0) (s : Scenario)
     (world : World C M) (notes : List Note) (e : AtPort) where
@@ -47,9 +47,9 @@ module _ {C M : Type 0} (reading : C → ℕ → ℕ) (stands : M → Network �
       → IsHeld stands s hs_of settled (behind port_here) world.now device machine) → HasLeft ports settled
   left_behind ports {old} i at first without room are known kept =
       let more = e.device.0 ∷ e.link.0 ∷ e.cause ∷ [] in
-      let c = leaving {old = old} i at first in
+      let c = leaving i at first in
       let less : IsWithout port_place port_here world.ports ports =
-      subst (λ q. IsWithout port_place q world.ports ports) (port_at e world.now at) without in
+      rw (port_at e world.now at) at without in
       stands_on c world.machines world.shown room are known
       (λ device lt.
       let k = c.devices device lt in (
@@ -57,8 +57,8 @@ module _ {C M : Type 0} (reading : C → ℕ → ℕ) (stands : M → Network �
         k.1,
         kept device k.0 (device_still c (no_task_at s.network world.now device 8 more (inr (omega arith))) k.2),
       ))
-      (wires_still c (λ two. omega (arith, two))) (ports_move (goes_by s hs_of port_here) ports c.ports less)
-      (waiting_still c (λ three. omega (arith, three))) (shown_still c (omega arith))
+      (wires_still c (λ two. omega arith)) (ports_move (goes_by s hs_of port_here) ports c.ports less)
+      (waiting_still c (λ three. omega arith)) (shown_still c (omega arith))
 
   -- ---- nothing comes of it, where its device is broken
 
@@ -67,9 +67,8 @@ module _ {C M : Type 0} (reading : C → ℕ → ℕ) (stands : M → Network �
       → IsWithout port_place (port_place e) world.ports ports → is_broken s e.device world.now ≡ true
       → settled ≡ world.settled → HasLeft ports settled
   cut_off ports settled {old} i at first without broken same =
-      let c = leaving {old = old} i at first in
-      subst (λ (l : List Happening). HasLeft ports l) (sym same)
-      (left_behind ports {settled = world.settled} {old = old} i at first without old.room
+      let c = leaving i at first in
+      rw same (left_behind ports i at first without old.room
       (settled_moves c.moving
       (λ front back y whole before none due own. absurd (nothing_of_broken s (hs_of ++ front)
       world.now (time_of y) (members_in y) e
@@ -92,19 +91,16 @@ module _ {C M : Type 0} (reading : C → ℕ → ℕ) (stands : M → Network �
       let it = (old.ports.real e i).0 in
       let is = departure_now s e now in
       let body = departure_body e is in
-      let c = leaving {old = old} i at first in
-      let few : cause_of body ≤ length hs = subst (λ n. n ≤ length hs) (sym (body_cause e is)) (few_cause it) in
+      let c = leaving i at first in
+      let few : cause_of body ≤ length hs = rw (body_cause e is) (few_cause it) in
       let q = one_shown s.network hs now body few put in
       let front = q.front in
       let back = q.back in
       let w = record_of s.network hs front now body in
       let moving : IsMoving s hs (front ++ back) now 8 more =
-      subst (λ l. IsMoving s hs l now 8 more)
-      q.parts c.moving in
+      rw q.parts at c.moving in
       let idle = body_idle e is in
       let departs = departs_now front now it at sound in
-      let key_is : place_of w ≡ now ∷ rank body ∷ more =
-      ap (λ (l : List ℕ). now ∷ rank body ∷ l) (body_key (members_in w) e is) in
       let p : IsPutting s hs front back now 8 more w = record {
         one = record {
           moving = moving;
@@ -116,22 +112,21 @@ module _ {C M : Type 0} (reading : C → ℕ → ℕ) (stands : M → Network �
           fresh = λ y there same.
               let split = parted y back there in
               let whole : front ++ back ≡ (front ++ split.0) ++ y ∷ split.1 =
-              ap (λ (l : List Happening). front ++ l) split.2
+              ap (λ l. front ++ l) split.2
               ∙ sym (append_assoc front split.0 (y ∷ split.1)) in
               let by = moving.are.by (front ++ split.0) split.1 y whole in
               let y_now = moving.are.of_now y (in_right y front back there) in
               let from = own_there (front ++ split.0) now (members_in w) is it old.run.founded (time_of y)
               (members_in y) y.note.body by.0
               (λ z inside. let z_now = moving.are.of_now z
-              (subst (λ l. IsIn z l) (sym whole)
-              (in_left z (front ++ split.0) (y ∷ split.1) inside)) in omega (arith, y_now, z_now)) same
+              (rw whole (in_left z (front ++ split.0) (y ∷ split.1) inside)) in omega arith) same
               by.1 in
-              never_self here (subst (λ q. IsBefore q here) from by.3);
+              never_self here (rw from at by.3);
           mine = body_own (members_in w) e is departs;
           here =
               IsSource.departing now e.device e.link e.cause
               (record { giving = departs.giving; there = departs.there; gives = departs.gives; held = departs.held });
-          aside = λ x j device same hears. let six : 8 ≡ 6 = ap second same in omega (arith, six);
+          aside = λ x j device same hears. let six : 8 ≡ 6 = ap second same in omega arith;
         };
         late = omega arith;
         idle = idle;
@@ -142,13 +137,12 @@ module _ {C M : Type 0} (reading : C → ℕ → ℕ) (stands : M → Network �
       let long = put_length front back w in
       let same_length : length world.settled ≡ length (front ++ back) = ap length q.parts in
       let room = first.room in
-      subst (λ (l : List Happening). HasLeft ports l) (sym (last ∙ q.shows))
-      (left_behind ports {settled = front ++ w ∷ back} {old = old} i at first without
-      (omega (arith, long, same_length, room))
+      rw (last ∙ q.shows) (left_behind ports i at first without
+      (omega arith)
       (settled_put p)
-      (known_put hs front back w idle (subst (λ (l : List Happening). AreOfNetwork s (hs ++ l)) q.parts old.known))
+      (known_put hs front back w idle (rw q.parts at old.known))
       (λ device machine k. held_put front back w idle refl
-      (subst (λ l. IsHeld stands s hs l (behind here) now device machine) q.parts k)))
+      (rw q.parts at k)))
 
   abbrev ArePutUnless : List Happening → Bool → Type 0
   ArePutUnless settled broken = ArePutIn s.network hs_of world.now
@@ -161,8 +155,8 @@ module _ {C M : Type 0} (reading : C → ℕ → ℕ) (stands : M → Network �
       → HasLeft ports settled
   left_step ports settled old i at first without put =
       elim (cases_Bool (is_broken s e.device world.now)) [
-        | inl broken ↦ cut_off ports settled {old = old} i at first without broken
-            (subst (λ b. ArePutUnless settled b) broken put)
-        | inr sound ↦ gone_out ports settled {old = old} i at first without sound
-            (subst (λ b. ArePutUnless settled b) sound put)
+        | inl broken ↦ cut_off ports settled i at first without broken
+            (rw broken at put)
+        | inr sound ↦ gone_out ports settled i at first without sound
+            (rw sound at put)
       ]

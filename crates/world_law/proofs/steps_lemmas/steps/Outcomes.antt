@@ -5,8 +5,8 @@ use Rattle.world_law.{proofs.{frames.Masters.parent_true, steps_lemmas.Words.{ti
 use Rattle.world_law.proofs.steps_lemmas.Words.{◌++◌, ◌||◌, ◌∙◌, ◌∷◌, ◌≡◌, ◌≤◌, AtPort, Bool, DeviceId, Dispatches, Gives, Happening, IsCaused, both_ways}
 use Rattle.world_law.proofs.steps_lemmas.Words.{IsDue, IsFounded, IsOwnSource, Launch, LinkId, List, None, NoteBody, Scenario, Some, Units, [], amount, ap}
 use Rattle.world_law.proofs.steps_lemmas.Words.{arith, by_number, cause_of, earlier, earlier_still, false, filter, inl, inr, is_accepted}
-use Rattle.world_law.proofs.steps_lemmas.Words.{is_broken, is_cut, is_parent_of, is_relay, key, last_in, last_or, launched, length, link_at}
-use Rattle.world_law.proofs.steps_lemmas.Words.{nat_lt, not, numbered, numbered_prefix, numbered_within, place_of, rank, refl, second, some_same, subst, sym}
+use Rattle.world_law.proofs.steps_lemmas.Words.{is_broken, is_cut, is_parent_of, is_relay, key, last_in, launched, length, link_at}
+use Rattle.world_law.proofs.steps_lemmas.Words.{nat_lt, not, numbered, numbered_prefix, numbered_within, place_of, rank, refl, second, some_same, sym}
 use Rattle.run_law.specs.declared.judgement.Why.TheVariants as whys
 use Rattle.run_law.specs.declared.note.NoteBody.TheVariants as kinds
 
@@ -48,7 +48,7 @@ pub departs_now : {s : Scenario} {hs : List Happening} (zs : List Happening) (no
 departs_now zs now it at sound = grind (arith, numbered_within, numbered_prefix, nat_lt, amount, is_cut, way_from)
 
 pub few_cause : {s : Scenario} {hs : List Happening} {e : AtPort} → IsAtPort s hs e → e.cause ≤ length hs
-few_cause {hs} {e} it = let lt = numbered_within hs e.cause it.giving it.there in omega (arith, lt)
+few_cause {hs} {e} it = let lt = numbered_within hs e.cause it.giving it.there in omega arith
 
 -- what departs by that record at that place departs so
 pub departs_so : {s : Scenario} {hs : List Happening} (zs : List Happening) {now : ℕ} {e : AtPort}
@@ -87,13 +87,13 @@ module _ {s : Scenario} {hs : List Happening} (zs : List Happening) (now : ℕ) 
   outcome_at (kinds.Left device link cause clock) w here o time is c =
       let p = same_port e now t device link cause (sym here ∙ o) in
       let so = departs_so zs it (departs_now zs now it at sound)
-      (moved p (subst (λ n. Departs s (hs ++ zs) device n link cause (leaves clock)) is c)) in
-      ap (λ x. now ∷ rank (departure_body e x) ∷ key m (departure_body e x)) so ∙ sym here ∙ o
+      (moved p (rw is at c)) in
+      rw so (sym here ∙ o)
   outcome_at (kinds.Lost device link cause) w here (inl o) time is c =
       let p = same_port e now t device link cause (sym here ∙ o.0) in
       let so = departs_so zs it (departs_now zs now it at sound) (moved p o.1) in
-      ap (λ x. now ∷ rank (departure_body e x) ∷ key m (departure_body e x)) so ∙ ap (ranked 9)
-      (sym here ∙ o.0)
+      rw so (ap (ranked 9)
+      (sym here ∙ o.0))
   outcome_at (kinds.Dropped device link cause reason) w here (inr (inr o)) time is c =
       grind (arith, same_port, departs_so, departs_now, moved, rank, key)
   outcome_at (kinds.Lost device link cause) w here (inr o) time is c = absurd (grind arith)
@@ -110,9 +110,8 @@ module _ (s : Scenario) (js : List Happening) (now t members : ℕ) (e : AtPort)
   nothing_of_broken (kinds.Left device link cause clock) w broken here o time is c = grind (arith, same_port, moved)
   nothing_of_broken (kinds.Lost device link cause) w broken here (inl o) time is c = grind (arith, same_port, moved)
   nothing_of_broken (kinds.Dropped device link cause reason) w broken here (inr (inr o)) time is c =
-      let p = same_port e now t device link cause (sym here ∙ o.0) in
-      let d = moved p o.1 in
-      let bad : true ≡ false = sym broken ∙ d.correct in cc
+      let d = moved (same_port e now t device link cause (sym here ∙ o.0)) o.1 in
+      cc
   nothing_of_broken (kinds.Lost device link cause) w broken here (inr o) time is c = grind arith
   nothing_of_broken (kinds.Dropped device link cause reason) w broken here (inl o) time is c = grind arith
   nothing_of_broken (kinds.Dropped device link cause reason) w broken here (inr (inl o)) time is c = grind arith
@@ -129,7 +128,7 @@ no_launch s h t (kinds.Arrived relay by cause clock) device link x g e = cc
 no_launch s h t other device link x g e = g
 
 not_awaited : (a b : Bool) → a ≡ true → b ≡ true → (not a || not b) ≡ true → ⊥
-not_awaited a b x y e = both_ways _ (ap (λ (c : Bool). not c || not b) x ∙ ap not y) e
+not_awaited a b x y e = both_ways _ (rw x (ap not y)) e
 
 -- what a relay waits for it does not give to the link by which that came
 not_both_ways : (s : Scenario) (device : DeviceId) (link : LinkId) (body : NoteBody) (from clock : ℕ) → body ≡ kinds.Arrived device link from clock
@@ -154,19 +153,17 @@ not_dispatched : {s : Scenario} {hs : List Happening} (zs : List Happening) {e :
     → e.link ≡ link → e.cause ≡ cause → Dispatches s (hs ++ zs) device t link cause vl cycle → ⊥
 not_dispatched {s} {hs} zs it {t} {device} {link} founded late by on from d =
     elim d.at_hand [
-      | inl sender ↦ let none : numbered hs 0 ≡ Some it.giving = ap (numbered hs) (sym (from ∙ sender.1)) ∙ it.there in cc
+      | inl sender ↦ cc
       | inr took ↦
-          let same = earlier_still t hs zs late in
-          let last = subst (λ (l : List Happening). last_or None (filter (λ h. is_accepted device d.entry.row.vl h.note.body) l) ≡ Some took.1.taken) same
-          took.1.last in
+          let last = rw (earlier_still t hs zs late) at took.1.last in
           elim (last_in None (filter (λ h. is_accepted device d.entry.row.vl h.note.body) (earlier t hs)) took.1.taken last) [
             | inl none ↦ cc
             | inr i ↦
                 let there = in_filter _ hs took.1.taken (in_filter _ (earlier t hs) took.1.taken i) in
                 let at = by_number s hs took.1.taken founded there in
-                let giving : it.giving ≡ took.1.taken = some_same it.giving took.1.taken _ it.there (ap (numbered hs) (from ∙ took.1.number) ∙ at) in
-                subst (λ b. Gives s.network b device link) took.1.is
-                (gives_it it took.1.taken device link giving by on)
+                let giving = some_same it.giving took.1.taken _ it.there
+                (ap (numbered hs) (from ∙ took.1.number) ∙ at) in
+                rw took.1.is at (gives_it it took.1.taken device link giving by on)
           ]
     ]
 
@@ -185,11 +182,11 @@ module _ {s : Scenario} {hs : List Happening} (zs : List Happening) (now m : ℕ
       ∷ key members body → IsOwnSource s (hs ++ zs) t members body w
       → w ≡ now ∷ 8 ∷ e.device.0 ∷ e.link.0 ∷ e.cause ∷ []
   own_there (kinds.Left device link cause clock) w late place o =
-      o ∙ sym (ap (ranked 8) (sym (ap (λ (l : List ℕ). now ∷ rank (departure_body e is) ∷ l) (body_key m e is))
+      o ∙ sym (ap (ranked 8) (sym (ap (λ l. now ∷ rank (departure_body e is) ∷ l) (body_key m e is))
       ∙ place))
   own_there (kinds.Lost device link cause) w late place o =
       let at : now ∷ 8 ∷ e.device.0 ∷ e.link.0 ∷ e.cause ∷ [] ≡ t ∷ 8 ∷ device.0 ∷ link.0 ∷ cause
-      ∷ [] = ap (ranked 8) (sym (ap (λ (l : List ℕ). now ∷ rank (departure_body e is) ∷ l) (body_key m e is))
+      ∷ [] = ap (ranked 8) (sym (ap (λ l. now ∷ rank (departure_body e is) ∷ l) (body_key m e is))
       ∙ place) in
       let p = same_port e now t device link cause at in
       elim o [
@@ -197,12 +194,11 @@ module _ {s : Scenario} {hs : List Happening} (zs : List Happening) (now m : ℕ
         | inr (inl d) ↦ absurd (not_dispatched zs it founded late p.by p.on p.from d.2)
         | inr (inr l) ↦
             let giving = is_giving zs it cause l.1.event p.from l.1.is.there in
-            absurd (subst (λ b. Gives s.network b device link) l.1.sends
-            (gives_it it l.1.event device link giving p.by p.on))
+            absurd (rw l.1.sends at (gives_it it l.1.event device link giving p.by p.on))
       ]
   own_there (kinds.Dropped device link cause reason) w late place o =
       let at : now ∷ 8 ∷ e.device.0 ∷ e.link.0 ∷ e.cause ∷ [] ≡ t ∷ 8 ∷ device.0 ∷ link.0 ∷ cause
-      ∷ [] = ap (ranked 8) (sym (ap (λ (l : List ℕ). now ∷ rank (departure_body e is) ∷ l) (body_key m e is))
+      ∷ [] = ap (ranked 8) (sym (ap (λ l. now ∷ rank (departure_body e is) ∷ l) (body_key m e is))
       ∙ place) in
       let p = same_port e now t device link cause at in
       elim o [
@@ -212,9 +208,8 @@ module _ {s : Scenario} {hs : List Happening} (zs : List Happening) (now m : ℕ
             (gives_it it a.1.putting device link giving p.by p.on) a.1.arrives.put)
         | inr (inl r) ↦
             let x = r.1.permanent in
-            let giving = is_giving zs it cause x.arrival p.from x.there in
             absurd (not_both_ways s device link x.arrival.note.body x.from x.clock x.arrived
-            (gives_it it x.arrival device link giving p.by p.on) x.waits)
+            (gives_it it x.arrival device link (is_giving zs it cause x.arrival p.from x.there) p.by p.on) x.waits)
         | inr (inr d) ↦ d.0 ∙ sym at
       ]
   own_there other w late place o = absurd (grind (arith, other_kind, second))

@@ -5,7 +5,7 @@ use Rattle.world_law.proofs.{acts.{Acting.{IsUnmoved, cleared_on, had_come_befor
 use Rattle.world_law.{proofs.{giving.GivenParts.no_later_events, runs.Worlds.nothing_settled_is_all}, specs.source.First.NoSourceBefore}
 use Rattle.world_law.{proofs.devices.Passes.passes_if, specs.{device.Own.IsStill, steps.Steps.PassedStep, world.{Moves.{NothingBefore, StandsAt}, World.way_now}}}
 use Rattle.world_law.proofs.steps_lemmas.Words.{◌++◌, ◌+◌, ◌-◌, ◌<ℤ◌, ◌<◌, ◌^◌, ◌∙◌, ◌∷◌, ◌≡◌, ◌≤ℤ◌, ◌≤◌, AreComing, DeviceId, Down, Happening, both_ways}
-use Rattle.world_law.proofs.steps_lemmas.Words.{HasDoneFrom, HasSentFrom, HaveBefallen, IsBefore, IsHeld, IsIn, IsKept, IsLeft, IsOut, IsPending, IsReadyAt}
+use Rattle.world_law.proofs.steps_lemmas.Words.{HasDoneFrom, HasSentFrom, HaveBefallen, IsBefore, IsHeld, IsIn, IsKept, IsOut, IsPending, IsReadyAt}
 use Rattle.world_law.proofs.steps_lemmas.Words.{IsSteady, LinkId, List, Network, Node, Note, Scenario, Some, Stands, Task, Up, Way, World, []}
 use Rattle.world_law.proofs.steps_lemmas.Words.{act_place, acts_before, adjustment_after, all_up_to, amount, ap, append-nil, are_past, arith, cases_Bool}
 use Rattle.world_law.proofs.steps_lemmas.Words.{cases_int, cases_lt, change_still, changed_at, doing, emitting, false, filter_map, happenings, has_cleared}
@@ -23,7 +23,7 @@ ways_stay t link way b le = grind (arith, last_or, filter_map, no_later_events)
 nothing_full : (s : Scenario) (hs : List Happening) (t : ℕ) → AreComing s hs [] (t ∷ []) t
 nothing_full s hs t = coming_of {from = t ∷ []} (none_to_come (λ front y not due worked.
     let at = own_time s (hs ++ front) (time_of y) (members_in y) y.note.body worked.0 worked.1 in
-    not (inl (earlier_time (time_of y) t (at.0 ∷ at.1) (subst (λ q. IsBefore q (t ∷ [])) at.2 worked.3)))))
+    not (inl (earlier_time (time_of y) t (at.0 ∷ at.1) (rw at.2 at worked.3)))))
     (λ p b. b) (λ z i. absurd i)
 
 in_past : {C M : Type 0} {reading : C → ℕ → ℕ} {stands : M → Network → DeviceId → Node → Type 0} {s : Scenario}
@@ -43,12 +43,11 @@ pub passed_but_devices : {C M : Type 0} {reading : C → ℕ → ℕ} {stands : 
 passed_but_devices {stands} {s} {world} {notes} t old settled lt few running none first devices =
     let hs = happenings s.network notes in
     let now = world.now in
-    let are : AreComing s hs [] old.frontier now = subst (λ l. AreComing s hs l old.frontier now) settled old.are in
-    let next : now + 1 ≤ t = omega (arith, lt) in
+    let are : AreComing s hs [] old.frontier now = rw settled at old.are in
     let over : (p : List ℕ) → IsBefore p old.frontier → IsBefore p (t ∷ []) = λ p b. before_later_time p
-    (now + 1) t next (old.not_later p b) in
+    (now + 1) t (omega arith) (old.not_later p b) in
     let told : world.pending ≡ false = elim (cases_Bool world.pending) [ inr closed ↦ closed | inl open_ ↦ absurd (none.befell open_ (inl lt)) ] in
-    let le : now ≤ t = omega (arith, lt) in (
+    let le : now ≤ t = omega arith in (
       record {
         same = old.same;
         range = old.range;
@@ -68,12 +67,12 @@ passed_but_devices {stands} {s} {world} {notes} t old settled lt few running non
           λ it. absurd (both_ways _ running it.0),
         );
         befallen = record {
-          past = λ i e at. let early = old.befallen.past i e at in omega (arith, early, lt);
+          past = λ i e at. let early = old.befallen.past i e at in omega arith;
           told = λ i e at. over _ (old.befallen.told i e at);
           begun = old.befallen.begun;
           sent = old.befallen.sent;
         };
-        clocks = λ device in_it. let own = old.clocks device in_it in (own.0, own.1, λ x late. own.2 x (omega (arith, le, late)));
+        clocks = λ device in_it. let own = old.clocks device in_it in (own.0, own.1, λ x late. own.2 x (omega arith));
         broken = λ device in_it. old.broken device in_it
             ∙ ap Some (sym (no_later_breaks s old.frontier now t device old.befallen le));
         ways = record {
@@ -84,12 +83,12 @@ passed_but_devices {stands} {s} {world} {notes} t old settled lt few running non
         known = old.known;
         devices = λ device within.
             let m = devices device within in
-            (m.0, m.1, subst (λ l. IsHeld stands s hs l (t ∷ []) t device m.0) (sym settled) m.2);
+            (m.0, m.1, rw settled m.2);
         early = λ fresh p b. before_of_time p t (2 ∷ []) b;
         untold = none_pending told (old.untold.none told) (λ number h it.
             let early = in_past old h (numbered_in hs number h it.there) in
             let at = it.same_time in
-            absurd (omega (arith, early, at, lt)));
+            absurd (omega arith));
         wires = record {
           real = λ e i. ((old.wires.real e i).0, λ open_. absurd (both_ways _ told open_), none.wires e i);
           all =
@@ -114,7 +113,7 @@ passed_but_devices {stands} {s} {world} {notes} t old settled lt few running non
               (λ u r b. not u r (over (ripe_place u e) b));
         };
         stored = old.stored;
-        are = subst (λ l. AreComing s hs l (t ∷ []) t) (sym settled) (nothing_full s hs t);
+        are = rw settled (nothing_full s hs t);
         shown = λ device in_it ended. absurd (both_ways _ running ended);
       },
       refl,
@@ -123,12 +122,12 @@ passed_but_devices {stands} {s} {world} {notes} t old settled lt few running non
 -- ---- a device of which nothing is due before the later time
 
 not_now : (t : ℕ) (device : DeviceId) → IsBefore (act_place t device) (t ∷ []) → ⊥
-not_now t device (inl lt) = omega (arith, lt)
+not_now t device (inl lt) = omega arith
 not_now t device (inr b) = b.1
 
 -- what has not come to its reading by the time has not waited for as long as the precision there
 too_late : (z : ℤ) (now t : ℕ) → z ≡ pos t → z ≤ℤ pos now → now < t → ⊥
-too_late z now t e le lt = omega (arith, ints, e, le, lt)
+too_late z now t e le lt = omega (arith, ints)
 
 ready_later : (s : Scenario) {device : DeviceId} {node : Node} {now : ℕ} (t : ℕ)
     → IsReadyAt (s.reading device) s.network device node now
@@ -138,23 +137,22 @@ ready_later : (s : Scenario) {device : DeviceId} {node : Node} {now : ℕ} (t : 
     → pos (s.reading device x) <ℤ reading_for s.network node task)
     → IsReadyAt (s.reading device) s.network device node t
 ready_later s {device} t ready steady wide lt undone = record {
-  time = let early = ready.time in omega (arith, ints, early, lt);
+  time = let early = ready.time in omega (arith, ints);
   begun = ready.begun;
   last = ready.last;
   undone = undone;
   in_time = λ task p.
       let before = undone task p (t - 1) (omega (arith, lt)) in
       let jump = steady.no_jump (t - 1) in
-      let same : t - 1 + 1 ≡ t = omega (arith, lt) in
-      let jumped : s.reading device t < s.reading device (t - 1) + amount s.network.precision = subst
-      (λ (n : ℕ). s.reading device n < s.reading device (t - 1) + amount s.network.precision) same jump in
-      omega (arith, ints, before, jumped, wide);
+      let same : t - 1 + 1 ≡ t = omega arith in
+      let jumped : s.reading device t < s.reading device (t - 1) + amount s.network.precision = rw same at jump in
+      omega (arith, ints);
 }
 
 -- a broken device has no task
 pub no_task : (network : Network) (device : DeviceId) (node : Node) (task : Task) → node.broken ≡ true → IsPending network device node task → ⊥
-no_task network device node (emitting sent) broken p = let bad : true ≡ false = sym broken ∙ p.0 in cc
-no_task network device node (doing deed) broken p = let bad : true ≡ false = sym broken ∙ p.0 in cc
+no_task network device node (emitting sent) broken p = cc
+no_task network device node (doing deed) broken p = cc
 
 module _ {M : Type 0} (stands : M → Network → DeviceId → Node → Type 0) (s : Scenario) (hs : List Happening)
     (frontier : List ℕ) (now t : ℕ) (device : DeviceId) (machine : M) where
@@ -169,10 +167,9 @@ module _ {M : Type 0} (stands : M → Network → DeviceId → Node → Type 0) 
       let rest = at_rest stands s hs frontier now device machine k befallen past worked
       (record { later = later; falls = steady.never_falls }) (λ task p. idle task p now (omega arith) lt) in
       let from = rest.from in
-      let few = rest.soon in
-      let le : from ≤ t = omega (arith, lt, few) in
+      let le : from ≤ t = omega arith in
       let off_later = not_on_after t device befallen lt in
-      let as_broken = no_later_breaks s frontier now t device befallen (omega (arith, lt)) ∙ sym
+      let as_broken = no_later_breaks s frontier now t device befallen (omega arith) ∙ sym
       (no_later_breaks s frontier now from device befallen rest.le) in
       let still : IsStill hs device from t = λ h i after before. rest.still h i after in
       let u : IsUnmoved s hs device from t = record {
@@ -187,11 +184,10 @@ module _ {M : Type 0} (stands : M → Network → DeviceId → Node → Type 0) 
       (s.reading device x) <ℤ reading_for s.network k.node task =
       λ task p x before.
       elim (cases_lt x now) [ inl earlier ↦ k.ready.undone task p x earlier | inr after ↦ idle task p x after before ] in
-      let wide = natural s.network.precision.0 precise in
-      let sound : k.node.broken ≡ false =
+      let sound =
       rest.left.counted.broken ∙ no_later_breaks s frontier now from device befallen rest.le ∙ k.sound in
-      let whole : hs ≡ hs ++ [] = sym (append-nil hs) in
-      let left : IsLeft s hs device t k.node = passes_if t le still rest.off off_later as_broken (λ timed.
+      let whole = sym (append-nil hs) in
+      let left = passes_if t le still rest.off off_later as_broken (λ timed.
       elim (cases_Bool (has_cleared s hs device from from)) [
         | inl did ↦ cleared_on u did ∙ sym did
         | inr not_yet ↦
@@ -199,8 +195,7 @@ module _ {M : Type 0} (stands : M → Network → DeviceId → Node → Type 0) 
               | inr still_not ↦ still_not ∙ sym not_yet
               | inl cleared ↦
                   let task = had_come_before u rest.left rest.done timed not_yet cleared sound in
-                  let below = idle task.0 task.1 (t - 1) (omega (arith, lt)) (omega (arith, lt)) in
-                  absurd (never_both _ _ below task.2)
+                  absurd (never_both _ _ (idle task.0 task.1 (t - 1) (omega arith) (omega arith)) task.2)
             ]
       ]) rest.left in
       let done : HasDoneFrom s.network (s.reading device) device k.node (changed_at hs device t) t t = record {
@@ -208,41 +203,40 @@ module _ {M : Type 0} (stands : M → Network → DeviceId → Node → Type 0) 
         done = λ deed there.
             let x = rest.done.done deed there in
             let change = change_still hs device from t le still in
-            (x.0, omega (arith, x.1, change), omega (arith, x.2, le), x.3);
+            (x.0, omega (arith, x.1), omega (arith, x.2), x.3);
       } in
       let sent : HasSentFrom s device k.node t t = record {
         unsent = λ c w x before. undone (emitting c) (sound, w) x before;
-        sent = λ c there. let x = rest.sent.sent c there in (x.0, omega (arith, x.1, le), x.2);
+        sent = λ c there. let x = rest.sent.sent c there in (x.0, omega (arith, x.1), x.2);
       } in
       record {
         node = k.node;
         is = k.is;
-        sound = no_later_breaks s frontier now t device befallen (omega (arith, lt)) ∙ k.sound;
+        sound = no_later_breaks s frontier now t device befallen (omega arith) ∙ k.sound;
         up = t;
         acted = inl (refl, λ task b a. absurd (not_now t device (acts_before s.network t device task (t ∷ []) b)));
         told = λ over. absurd (too_soon t over);
-        left = subst (λ l. IsLeft s l device t k.node) whole left;
+        left = rw whole at left;
         taken = k.taken;
-        worked = worked_by {s = s} {device = device} {node = k.node} {changed = changed_at (hs ++ []) device t} {t = t} (t ∷ [])
+        worked = worked_by (t ∷ [])
             (record {
-              done = subst (λ l. HasDoneFrom s.network (s.reading device) device k.node
-                  (changed_at l device t) t t) whole done;
+              done = rw whole at done;
               sent = sent;
             }) (λ x task early. inl early);
         bare = k.bare;
-        ready = ready_later s t k.ready steady wide lt undone;
+        ready = ready_later s t k.ready steady (natural s.network.precision.0 precise) lt undone;
         turned = λ on. absurd (both_ways _ off_later on);
         still = λ same h i at. let early = past.past h (subst (λ l. IsIn h l) (sym whole) i) in
-            absurd (omega (arith, early, at, lt));
+            absurd (omega arith);
         cleared = k.cleared;
-        phase = λ at. let early = k.ready.time in absurd (too_late _ now t at early lt);
+        phase = λ at. absurd (too_late _ now t at k.ready.time lt);
       }
     where
       too_soon : (t : ℕ) → t ≡ t + 1 → ⊥
-      too_soon t e = omega (arith, e)
+      too_soon t e = omega arith
 
       never_both : (a b : ℤ) → a <ℤ b → b ≤ℤ a → ⊥
-      never_both a b lt le = omega (arith, ints, lt, le)
+      never_both a b lt le = omega (arith, ints)
 
   out_passes : (k : IsOut stands s hs [] frontier now device machine) → now < t → HaveBefallen s frontier now
       → IsPast hs now → IsOut stands s hs [] (t ∷ []) t device machine
@@ -263,15 +257,14 @@ module _ {M : Type 0} (stands : M → Network → DeviceId → Node → Type 0) 
 
 pub passed_step : {C M : Type 0} (reading : C → ℕ → ℕ) (stands : M → Network → DeviceId → Node → Type 0) → PassedStep reading stands
 passed_step {C} {M} reading stands s world notes t old settled lt few running none =
-    let hs = happenings s.network notes in
     let told : world.pending ≡ false = elim (cases_Bool world.pending) [ inr closed ↦ closed | inl open_ ↦ absurd (none.befell open_ (inl lt)) ] in
-    let first = nothing_comes_before reading stands s world notes (t ∷ []) old (λ z i. absurd (subst (λ l. IsIn z l) settled i)) none in
+    let first = nothing_comes_before reading stands s world notes (t ∷ []) old (λ z i. absurd (rw settled at i)) none in
     passed_but_devices t old settled lt few running none first (λ device within.
     let m = old.devices device within in (
       m.0,
       m.1,
-      held_passes stands s hs old.frontier world.now t device m.0
-          (subst (λ l. IsHeld stands s hs l old.frontier world.now device m.0) settled m.2) lt
+      held_passes stands s (happenings s.network notes) old.frontier world.now t device m.0
+          (rw settled at m.2) lt
           (old.steady device) old.precise old.befallen
           (are_past old) (old.untold.done told) old.not_later
           (λ node is task p x from before. elim (cases_int (pos (s.reading device x)) (reading_for s.network node task)) [

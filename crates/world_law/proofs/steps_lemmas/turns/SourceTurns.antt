@@ -1,13 +1,13 @@
 -- The turns of what leaves, arrives and is permanent.
 use Rattle.run_law.specs.{control.Leaving.{Departure, leaves, on_cut_way, too_old}, records.Happenings.frame_from}
-use Rattle.world_law.proofs.steps_lemmas.Words.{◌+◌, ◌∙◌, ◌∷◌, ◌≡◌, AtPort, Bool, DeviceId, Happening, LinkId, List, Network}
-use Rattle.world_law.proofs.steps_lemmas.Words.{Node, NoneBefore, NoteBody, Option, Pcf, Ripe, Some, Waiting, [], amount, ap, arith, arrival_body}
+use Rattle.world_law.proofs.steps_lemmas.Words.{◌+◌, ◌∷◌, ◌≡◌, AtPort, Bool, DeviceId, Happening, LinkId, List, Network}
+use Rattle.world_law.proofs.steps_lemmas.Words.{Node, NoneBefore, NoteBody, Ripe, Some, Waiting, [], amount, arith, arrival_body}
 use Rattle.world_law.proofs.steps_lemmas.Words.{false, happenings, if◌then◌else◌, inl, inr, is_broken, length, place_of, port_place, refl}
 use Rattle.world_law.proofs.steps_lemmas.Words.{subst, sym, true, wire_place, ℕ}
 use Rattle.world_law.proofs.steps_lemmas.{hearing.HeardSteps.heard_step, ripening.{Ripens.ripe_more, RipenedSteps.ripened_step}, steps.LeftSteps.left_step}
 use Rattle.world_law.proofs.steps_lemmas.turns.Turns.{AreThere, one_later, one_there, turn_of, two_there}
 use Rattle.run_law.specs.declared.steps.{Arrival.Arrival}
-use Rattle.world_law.specs.{steps.{Ripening.ripe_bodies, Steps.{departure_bodies, departure_now}}, world.Outcomes.departure_body}
+use Rattle.world_law.specs.{steps.{Ripening.ripe_bodies, Steps.{departure_now}}, world.Outcomes.departure_body}
 use Rattle.world_law.specs.steps.Turns.{HeardTurn, TurnsBy, LeftTurn, RipenedTurn}
 use Rattle.run_law.specs.declared.steps.Arrival.TheVariants as arrivals
 use Rattle.run_law.specs.declared.steps.Ripe.TheVariants as ripe
@@ -31,11 +31,9 @@ pub left_turn : {C M : Type 0} (reading : C → ℕ → ℕ) (stands : M → Net
 left_turn reading stands s world notes e ports old i at first without =
     let now = world.now in
     let rest = e.device.0 ∷ e.link.0 ∷ e.cause ∷ [] in
-    let place : port_place e ≡ now ∷ 8 ∷ rest = ap (λ (t : ℕ). t ∷ 8 ∷ rest) at in
+    let place : port_place e ≡ now ∷ 8 ∷ rest = rw at in
     let is = departure_now s e now in
-    let gone = record world { ports = ports; early = false } in
-    subst (λ q. TurnsBy reading stands s notes (departure_bodies s e now) gone q) (sym place)
-    (turn_of old 8 rest (inr (inr (inl refl))) gone refl
+    rw place (turn_of old 8 rest (inr (inr (inl refl))) (record world { ports = ports; early = false }) refl
     (subst (λ q. NoneBefore place_of world.settled q) place first.after)
     (left_or_none (departure_body e is) (is_broken s e.device now)
     (left_there s.network (happenings s.network notes) now e is))
@@ -57,7 +55,7 @@ pub heard_turn : {C M : Type 0} (reading : C → ℕ → ℕ) (stands : M → Ne
 heard_turn reading stands s world notes e machine heard octets result machines wires old i at first there octets_of may
     hears set without =
     let rest = e.device.0 ∷ e.link.0 ∷ e.cause ∷ [] in
-    let place : wire_place e ≡ world.now ∷ 2 ∷ rest = ap (λ (t : ℕ). t ∷ 2 ∷ rest) at in
+    let place : wire_place e ≡ world.now ∷ 2 ∷ rest = rw at in
     let arrived = record world { early = false; machines = machines; wires = wires } in
     subst (λ q. TurnsBy reading stands s notes (arrival_body e.device e.link e.cause result ∷ []) arrived q) (sym place)
     (turn_of old 2 rest (inl refl) arrived refl (subst (λ q. NoneBefore place_of world.settled q) place first.after)
@@ -73,8 +71,7 @@ judged_there : (hs : List Happening) (now : ℕ) (e : Waiting) → frame_from hs
     ∷ Rattle.std.specs.Option.option_map_or (λ f. f.members.0) (frame_from hs e.cause) 0 ∷ e.link.0 ∷ e.cause ∷ []
     ≡ now ∷ 3 ∷ ripe_more e
 judged_there hs now e frame =
-    ap (λ (o : Option Pcf). now ∷ 3 ∷ e.device.0 ∷ amount e.point
-    ∷ Rattle.std.specs.Option.option_map_or (λ f. f.members.0) o 0 ∷ e.link.0 ∷ e.cause ∷ []) frame
+    rw frame
 
 ripe_there : (network : Network) (hs : List Happening) (now number : ℕ) (e : Waiting)
     → frame_from hs e.cause ≡ Some e.frame → (is : Ripe)
@@ -90,8 +87,8 @@ ripened_turn reading stands s world notes e machine ripe result machines waiting
     without =
     let it = old.waiting.real e i in
     let frame : frame_from (happenings s.network notes) e.cause ≡ Some e.frame =
-    ap (λ (o : Option Happening). Rattle.std.proofs.Common.option_and_then (λ h. h.frame) o) it.there
-    ∙ it.awaited.of_frame in
+    rw it.there
+    it.awaited.of_frame in
     turn_of old 3 (ripe_more e) (inr (inl refl))
     (record world { early = false; machines = machines; waiting = waiting }) refl first.after
     (ripe_there s.network (happenings s.network notes) world.now (length notes + 1) e frame result)

@@ -5,7 +5,6 @@ use Rattle.world_law.proofs.steps_lemmas.Words.{before_behind, behind, chain, fa
 use Rattle.world_law.proofs.steps_lemmas.Words.{both_ways, place_of, rank, refl, second, settled_as, subst, sym, true, ℕ}
 use Rattle.world_law.proofs.{giving.{Given.given_from, GivenParts.{source_kinds, up_to_place}}, runs.{Over.stand_of, Settled.late_of}}
 use Rattle.world_law.specs.steps.Turns.{IsTurn, TurnsBy, next_note, starts_there}
-use Rattle.world_law.specs.world.World.{IsDueAs}
 use Rattle.world_law.specs.world.Moves.{StandsAt}
 
 -- ---- what is put in
@@ -15,15 +14,15 @@ pub put_is : (network : Network) (hs : List Happening) (now : ℕ) (bodies : Lis
     → ArePutIn network hs now bodies old new
     → (z : Happening) → IsIn z new → IsIn z old
     ⊎ ((body : NoteBody) × IsIn body bodies × (z ≡ settled_as network hs now body))
-put_is network hs now [] old new put z i = inl (subst (λ l. IsIn z l) put i)
+put_is network hs now [] old new put z i = inl (rw put at i)
 put_is network hs now (body ∷ bodies) old new (mid, first, rest) z i =
     elim (put_is network hs now bodies mid new rest z i) [
       | inr more ↦ inr (more.0, inr more.1, more.2)
       | inl there ↦ elim (in_parts z first.front (settled_as network hs now body ∷ first.back)
-          (subst (λ l. IsIn z l) first.is there)) [
-            | inl f ↦ inl (subst (λ l. IsIn z l) (sym first.was) (in_left z first.front first.back f))
+          (rw first.is at there)) [
+            | inl f ↦ inl (rw first.was (in_left z first.front first.back f))
             | inr (inl e) ↦ inr (body, inl refl, e)
-            | inr (inr b) ↦ inl (subst (λ l. IsIn z l) (sym first.was) (in_right z first.front first.back b))
+            | inr (inr b) ↦ inl (rw first.was (in_right z first.front first.back b))
           ]
     ]
 
@@ -32,17 +31,16 @@ put_behind : (network : Network) (hs : List Happening) (now : ℕ) (bodies : Lis
     (old new : List Happening)
     → ((body : NoteBody) → IsIn body bodies → IsBefore (place_of z) (place_of (settled_as network hs now body)))
     → ArePutIn network hs now bodies old new → ArePutIn network hs now bodies (z ∷ old) (z ∷ new)
-put_behind network hs now [] z old new later put = ap (λ (l : List Happening). z ∷ l) put
+put_behind network hs now [] z old new later put = rw put
 put_behind network hs now (body ∷ bodies) z old new later (mid, first, rest) = (
   z ∷ mid,
   record {
     front = z ∷ first.front;
     back = first.back;
-    was = ap (λ (l : List Happening). z ∷ l) first.was;
-    is = ap (λ (l : List Happening). z ∷ l) first.is;
+    was = rw first.was;
+    is = rw first.is;
     before = λ h i. elim i [
-      | inl e ↦ subst (λ (g : Happening). IsBefore (place_of g) (place_of (settled_as network hs now body))) (sym e)
-          (later body (inl refl))
+      | inl e ↦ rw e (later body (inl refl))
       | inr more ↦ first.before h more
     ];
     none = first.none;
@@ -69,8 +67,8 @@ late_apart z now r more kind late at =
         | inr (inr (inl eight)) ↦ none.2 (eight ∙ sym same)
         | inr (inr (inr (inl last))) ↦ none.3 (last ∙ sym same)
         | inr (inr (inr (inr act))) ↦ elim none.4 [
-          | inl low ↦ let most = act.0 in omega (arith, low, most, same)
-          | inr high ↦ let most = act.1 in omega (arith, high, most, same)
+          | inl low ↦ omega arith
+          | inr high ↦ omega arith
         ]
       ]
     ]
@@ -101,7 +99,7 @@ pub two_there : {network : Network} {hs : List Happening} {now r : ℕ} {more : 
     → is_at_source body ≡ true → place_of (settled_as network hs now body) ≡ now ∷ r ∷ more → r < rank change
     → AreThere network hs now (now ∷ r ∷ more) (body ∷ change ∷ [])
 two_there {r} body change own place less = AreThere.first body (change ∷ []) own place (λ other i. elim i [
-  | inl e ↦ inr (refl, inl (subst (λ b. r < rank b) (sym e) less))
+  | inl e ↦ inr (refl, inl (rw e less))
   | inr none ↦ absurd none
 ])
 
@@ -132,7 +130,7 @@ pub high_starts : {network : Network} {hs : List Happening} {now r : ℕ} {rest 
 high_starts {r} bodies (AreThere.first x more own place behind_it) high =
     let same : rank x ≡ r = ap second place in
     let above = high x more refl in
-    absurd (omega (arith, same, above))
+    absurd (omega arith)
 high_starts bodies (AreThere.later all late) high = none_starts all late
 
 -- the source is worked off: the world stands with its records to come
@@ -149,8 +147,8 @@ put_first : (network : Network) (hs : List Happening) (now : ℕ) {at : List ℕ
     → ArePutIn network hs now bodies coming (settled_as network hs now body ∷ settled)
 put_first network hs now {at} body others coming settled is own none there put =
     let z = settled_as network hs now body in
-    let it = there_of body others own (subst (λ l. AreThere network hs now at l) is there) in
-    subst (λ l. ArePutIn network hs now l coming (z ∷ settled)) (sym is) (
+    let it = there_of body others own (rw is at there) in
+    rw is (
       z ∷ coming,
       record {
         front = [];
@@ -158,11 +156,10 @@ put_first network hs now {at} body others coming settled is own none there put =
         was = refl;
         is = refl;
         before = λ h i. absurd i;
-        none = subst (λ q. NoneBefore place_of coming q) (sym it.0) none;
+        none = rw (sym it.0) at none;
       },
       put_behind network hs now others z coming settled
-          (λ other i. subst (λ q. IsBefore q (place_of (settled_as network hs now other))) (sym it.0)
-          (it.1 other i)) put,
+          (λ other i. rw (sym it.0) at (it.1 other i)) put,
     )
 
 -- with the records that stand there given, the world stands behind the source
@@ -178,13 +175,12 @@ turn_by {reading} {stands} {s} {world} {notes} old r rest kind mid {new} {more} 
     let hs = happenings s.network notes in
     let at = world.now ∷ r ∷ rest in
     let z = settled_as s.network hs mid.now body in
-    let place = (there_of body others own (subst (λ l. AreThere s.network hs mid.now at l) is there)).0 in
+    let place = (there_of body others own (rw is at there)).0 in
     let behind_it = step (z ∷ new.settled)
     (put_first s.network hs mid.now body others world.settled new.settled is own none
-    there (subst (λ l. ArePutIn s.network hs mid.now others l new.settled) same g.put)) in
-    let then_ = given_from s (record mid { settled = z ∷ new.settled }) notes z new.settled {wires = new.wires}
-    {ports = new.ports} {waiting = new.waiting} {stored = new.stored} behind_it refl
-    (λ w source waits b. waits (chain w at (behind at) (subst (λ q. IsBefore w q) place b) (before_behind at)))
+    there (rw same at g.put)) in
+    let then_ = given_from s (record mid { settled = z ∷ new.settled }) notes z new.settled behind_it refl
+    (λ w source waits b. waits (chain w at (behind at) (rw (sym place) b) (before_behind at)))
     g.launched.wires g.launched.ports g.launched.waiting g.launched.stored in
     let after : World _ _ = record mid {
       wires = new.wires;
@@ -194,24 +190,22 @@ turn_by {reading} {stands} {s} {world} {notes} old r rest kind mid {new} {more} 
       settled = new.settled;
       given = mid.given + 1;
     } in
-    subst (λ (x : World _ _). StandsAt reading stands s x (notes ++ more) (behind at)) (sym g.same)
-    (subst (λ (l : List Note). StandsAt reading stands s after (notes ++ l) (behind at)) (sym g.note)
+    subst (λ x. StandsAt reading stands s x (notes ++ more) (behind at)) (sym g.same)
+    (subst (λ l. StandsAt reading stands s after (notes ++ l) (behind at)) (sym g.note)
     (subst (λ q. StandsAt reading stands s after (notes ++ next_note notes mid.now body ∷ []) (behind q)) place then_))
 turn_by {reading} {stands} {s} {world} {notes} old r rest kind {bodies} mid {new} {more} same none there step
     (IsTurn.puts not_there g) =
-    let hs = happenings s.network notes in
     let at = world.now ∷ r ∷ rest in
-    let put = subst (λ l. ArePutIn s.network hs mid.now bodies l new.settled) same g.put in
+    let put = rw same at g.put in
     let off : (z : Happening) → IsIn z new.settled → is_at_source z.note.body ≡ false = λ z i.
-    elim (put_is s.network hs mid.now bodies world.settled new.settled put z i) [
+    elim (put_is s.network (happenings s.network notes) mid.now bodies world.settled new.settled put z i) [
       | inl was ↦ late_of old.are z was
-      | inr it ↦ ap (λ (h : Happening). is_at_source h.note.body) it.2 ∙ late_each bodies not_there there it.0 it.1
+      | inr it ↦ rw it.2 (late_each bodies not_there there it.0 it.1)
     ] in
     let behind_it = step new.settled put in
-    let then_ = record mid { settled = new.settled } in
-    subst (λ (x : World _ _). StandsAt reading stands s x (notes ++ more) (behind at)) (sym g.same)
-    (subst (λ (l : List Note). StandsAt reading stands s then_ l (behind at))
-    (sym (ap (λ (l : List Note). notes ++ l) g.none ∙ append-nil notes))
+    subst (λ x. StandsAt reading stands s x (notes ++ more) (behind at)) (sym g.same)
+    (subst (λ l. StandsAt reading stands s (record mid { settled = new.settled }) l (behind at))
+    (sym (rw g.none (append-nil notes)))
     (stand_of behind_it (λ z i b. elim (up_to_place (place_of z) at b) [
       | inl e ↦ late_apart z world.now r rest kind (off z i) e
       | inr lt ↦ behind_it.are.after z i lt
@@ -230,7 +224,7 @@ turn_of {s} {world} {notes} old r rest kind mid same none there step = record {
       let hs = happenings s.network notes in
       let z = settled_as s.network hs mid.now body in
       let behind_it = step (z ∷ after) (put_first s.network hs mid.now body others world.settled after is own none there
-      (subst (λ l. ArePutIn s.network hs mid.now others l after) same put)) in
+      (rw same at put)) in
       record {
         same = behind_it.same;
         range = behind_it.range;
@@ -241,7 +235,7 @@ turn_of {s} {world} {notes} old r rest kind mid same none there step = record {
         broken = behind_it.broken;
         ways = behind_it.ways;
         founded = behind_it.run.founded;
-        due = subst (λ l. IsDueAs s l z) (append-nil hs) (behind_it.are.founded [] after z refl).1;
+        due = rw (append-nil hs) at (behind_it.are.founded [] after z refl).1;
       };
   then_stands = λ new more turn. turn_by old r rest kind mid same none there step turn;
 }
