@@ -20,15 +20,19 @@ still_to_do network device node last phase (doing deed) p = (
   refl,
 )
 
-module _ {C M : Type 0} (reading : C → ℕ → ℕ) (stands : M → Network → DeviceId → Node → Type 0) (network : Network) where
+module _ {C M : Type 0} (reading : C → ℕ → ℕ) (stands : M → Network → DeviceId → Node → Type 0) (network : Network)
+    where
   -- a timer that was right for its machine is right
-  pub acts_still : (clock : C) (was is : Kept M) (device : DeviceId) (now time : ℕ) (part : Part) → StandsAsBefore (keeps stands) was is
-      → ActsAt reading stands network clock was device now time part → ActsAt reading stands network clock is device now time part
+  pub acts_still : (clock : C) (was is : Kept M) (device : DeviceId) (now time : ℕ) (part : Part) → StandsAsBefore
+      (keeps stands) was is
+      → ActsAt reading stands network clock was device now time part → ActsAt reading stands network clock is device now
+          time part
   acts_still clock was is device now time part before acts = record {
     none = λ node task kept pending u from most reached.
         let b = before network device node kept in
         let p = still_to_do network device node b.0 b.1 task pending in
-        acts.none (called b.0 b.1 node) task b.2 p.0 u from most (subst (λ r. r ≤ℤ pos (reading clock u)) (sym p.1) reached);
+        acts.none (called b.0 b.1 node) task b.2 p.0 u from most
+            (subst (λ r. r ≤ℤ pos (reading clock u)) (sym p.1) reached);
     one = λ lt node kept.
         let b = before network device node kept in
         let t = acts.one lt (called b.0 b.1 node) b.2 in
@@ -41,7 +45,8 @@ module _ {C M : Type 0} (reading : C → ℕ → ℕ) (stands : M → Network �
   }
 
   -- the timer stays right for what the device had to do before, where clocks, timers and time stay
-  pub told_timed : (last_step : C → ℕ) (old new : State C M) (device : DeviceId) (before : Before) → IsWell last_step reading stands network old
+  pub told_timed : (last_step : C → ℕ) (old new : State C M) (device : DeviceId) (before : Before) → IsWell last_step
+      reading stands network old
       → device.0 < length network.device → ToldBefore stands old new device.0 before
       → (is : Kept M) → slice_get new.machines.items device.0 ≡ Some is → new.clocks ≡ old.clocks → new.time ≡ old.time
       → new.timers ≡ old.timers → IsTimedFor reading stands network new device.0 before
@@ -56,7 +61,8 @@ module _ {C M : Type 0} (reading : C → ℕ → ℕ) (stands : M → Network �
         part = timed.part;
         of_act = ap (λ (l : List Timer). slice_get l (length network.device + device.0)) timers ∙ timed.of_act;
         acts = subst (λ n. ActsAt reading stands network timed.clock is device n timed.act timed.part) (sym time)
-            (acts_still timed.clock timed.machine is device old.time timed.act timed.part (told timed.machine is timed.of_machine of_is) timed.acts);
+            (acts_still timed.clock timed.machine is device old.time timed.act timed.part
+                (told timed.machine is timed.of_machine of_is) timed.acts);
       }
   told_timed last_step old new device (Due due) well of_it told is of_is clocks time timers =
       due_stays reading stands network last_step old new device due well of_it
@@ -67,8 +73,10 @@ module _ {C M : Type 0} (reading : C → ℕ → ℕ) (stands : M → Network �
       → SetsOnly (λ slot. slot ≡ device.0) old new → IsTimedFor reading stands network old device.0 before
       → IsTimedFor reading stands network new device.0 before
   timed_still old new device Same there ripe is =
-      act_stays reading stands network old new device is (ap (λ (t : State C M). t.clocks) ripe.same) (ap (λ (t : State C M). t.time) ripe.same)
-      (ap (λ (t : State C M). t.machines) ripe.same) (ripe.others (length network.device + device.0) (λ e. omega (arith, e, there)))
+      act_stays reading stands network old new device is (ap (λ (t : State C M). t.clocks) ripe.same)
+          (ap (λ (t : State C M). t.time) ripe.same)
+      (ap (λ (t : State C M). t.machines) ripe.same) (ripe.others (length network.device + device.0)
+          (λ e. omega (arith, e, there)))
   timed_still old new device (Due due) there ripe is = λ clock timer own at.
       subst (λ n. IsTimerBy reading clock due n timer) (sym (ap (λ (t : State C M). t.time) ripe.same))
       (is clock timer (sym (ap (λ (t : State C M). slice_get t.clocks.items device.0) ripe.same) ∙ own)

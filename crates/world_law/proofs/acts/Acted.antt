@@ -67,9 +67,10 @@ anew network device node new moment (doing deed) changed none p = inr (beyond_it
 pub done_more : (node : Node) (moment : Moment) (deed : ClockTask) → IsAlike node (called moment acting (with_done node deed))
 done_more node moment deed = grind (arith, Contains-append_left)
 
-after_deed : (network : Network) (device : DeviceId) (node new : Node) (moment : Moment) (deed : ClockTask) (task : Task)
+after_deed : (network : Network) (device : DeviceId) (node : Node) {new : Node} (moment : Moment) (deed : ClockTask)
+    (task : Task)
     → new ≡ called moment acting (with_done node deed) → IsPending network device new task → IsCarried network device node new moment task
-after_deed network device node new moment deed task is p =
+after_deed network device node moment deed task is p =
     (rw (sym is) at (pending_alike network device node (called moment acting (with_done node deed)) moment task
     (done_more node moment deed) refl (λ c there. there))) p
 
@@ -106,19 +107,21 @@ after_emission_by network device node moment sent task =
 
 -- ---- the correction points
 
-kept_waiting : (network : Network) (device : DeviceId) (node : Node) (b : Bool) (sent : Compressed) (cm : is_cm network device ≡ true) (clusters : List Cluster)
+kept_waiting : (network : Network) (device : DeviceId) (node : Node) (b : Bool) {sent : Compressed}
+    (cm : is_cm network device ≡ true) (clusters : List Cluster)
     → AreClusters (observation_window network) (if b then node.points else []) clusters → (cluster : Cluster) → Contains clusters cluster
     → sent ≡ compressed (observation_window network) (pos (amount network.calc)) cluster → (Contains (if b then node.emitted else []) sent → ⊥)
     → IsWaiting network device node sent
-kept_waiting network device node true sent cm clusters are cluster there is not_yet = grind arith
-kept_waiting network device node false sent cm clusters are cluster there is not_yet =
+kept_waiting network device node true cm clusters are cluster there is not_yet = grind arith
+kept_waiting network device node false cm clusters are cluster there is not_yet =
     absurd (no_cluster (observation_window network) clusters cluster are there)
 
-one_more : (state : State) (number cycle n : ℕ) → point_in state number ≡ Some cycle → point_in state (number + 1) ≡ Some n → n ≡ cycle + 1
-one_more Off number cycle n e f = absurd cc
-one_more Integrating number cycle n e f = absurd cc
-one_more Joining number cycle n e f = let a : number ≡ cycle = cc in let b : number + 1 ≡ n = cc in omega arith
-one_more Synchronised number cycle n e f = let a : number ≡ cycle = cc in let b : number + 1 ≡ n = cc in omega arith
+one_more : (state : State) (number : ℕ) {cycle n : ℕ} → point_in state number ≡ Some cycle → point_in state
+    (number + 1) ≡ Some n → n ≡ cycle + 1
+one_more Off number e f = absurd cc
+one_more Integrating number e f = absurd cc
+one_more Joining number {cycle} {n} e f = let a : number ≡ cycle = cc in let b : number + 1 ≡ n = cc in omega arith
+one_more Synchronised number {cycle} {n} e f = let a : number ≡ cycle = cc in let b : number + 1 ≡ n = cc in omega arith
 
 pub next_turn : (r c cycle n : ℕ) (a reading precision : ℤ) → n ≡ cycle + 1 → reading <ℤ ((pos (cycle * r + c) -ℤ a) +ℤ precision) → precision ≤ℤ pos r
     → reading <ℤ (pos (n * r + c) -ℤ a)
@@ -133,7 +136,7 @@ module _ (network : Network) (device : DeviceId) (node : Node) (moment : Moment)
       inl (
         (
           p.0,
-          kept_waiting network device node (is_synchronised node.standing.state) sent p.1.cm p.1.clusters p.1.are
+          kept_waiting network device node (is_synchronised node.standing.state) p.1.cm p.1.clusters p.1.are
               p.1.cluster p.1.there p.1.is
               p.1.not_yet,
         ),
@@ -149,18 +152,18 @@ module _ (network : Network) (device : DeviceId) (node : Node) (moment : Moment)
   clique_by heard verdict (doing (dispatching row cycle)) lost p = absurd (no_longer (sym lost ∙ p.1.own.0))
   clique_by heard verdict (doing (correcting cycle)) lost p = absurd (no_point _ _ _ lost p.1.own)
 
-  cleared_by : (heard : Summary) (cycle : ℕ) (task : Task) → next_point node.standing ≡ Some cycle
+  cleared_by : (heard : Summary) {cycle : ℕ} (task : Task) → next_point node.standing ≡ Some cycle
       → moment.reading.0 <ℤ ((correction_value network cycle -ℤ node.standing.adjustment.0) +ℤ network.precision.0)
       → network.precision.0 ≤ℤ pos (amount network.cycle)
       → IsPending network device (called moment acting (after_correction node moment heard cycle Cleared)) task
       → IsCarried network device node
       (called moment acting (after_correction node moment heard cycle Cleared)) moment task
-  cleared_by heard cycle (emitting sent) next in_time wide p =
+  cleared_by heard (emitting sent) next in_time wide p =
       inl (
         (p.0, record { cm = p.1.cm; clusters = p.1.clusters; are = p.1.are; cluster = p.1.cluster; there = p.1.there; is = p.1.is; not_yet = p.1.not_yet }),
         refl,
       )
-  cleared_by heard cycle (doing (sending n)) next in_time wide p =
+  cleared_by heard {cycle} (doing (sending n)) next in_time wide p =
       inl (
         (
           p.0,
@@ -168,7 +171,7 @@ module _ (network : Network) (device : DeviceId) (node : Node) (moment : Moment)
         ),
         refl,
       )
-  cleared_by heard cycle (doing (dispatching row n)) next in_time wide p =
+  cleared_by heard {cycle} (doing (dispatching row n)) next in_time wide p =
       inl (
         (
           p.0,
@@ -190,35 +193,35 @@ module _ (network : Network) (device : DeviceId) (node : Node) (moment : Moment)
         ),
         refl,
       )
-  cleared_by heard cycle (doing (correcting n)) next in_time wide p =
+  cleared_by heard {cycle} (doing (correcting n)) next in_time wide p =
       inr (next_turn (amount network.cycle) (amount network.correction) cycle n node.standing.adjustment.0
       moment.reading.0 network.precision.0
-      (one_more node.standing.state node.standing.number cycle n next p.1.own) in_time wide)
+      (one_more node.standing.state node.standing.number next p.1.own) in_time wide)
 
-  after_point : (heard : Summary) (cycle : ℕ) (verdict : Verdict) (task : Task)
+  after_point : (heard : Summary) {cycle : ℕ} (verdict : Verdict) (task : Task)
       → next_point node.standing ≡ Some cycle → moment.reading.0 <ℤ
       ((correction_value network cycle -ℤ node.standing.adjustment.0) +ℤ network.precision.0)
       → network.precision.0 ≤ℤ pos (amount network.cycle)
       → IsPending network device (called moment acting (after_correction node moment heard cycle verdict)) task
       → IsCarried network device node
       (called moment acting (after_correction node moment heard cycle verdict)) moment task
-  after_point heard cycle (Corrected by) task next in_time wide p = corrected_by heard by task p
-  after_point heard cycle SyncClique task next in_time wide p = clique_by heard SyncClique task refl p
-  after_point heard cycle AsyncClique task next in_time wide p = clique_by heard AsyncClique task refl p
-  after_point heard cycle Cleared task next in_time wide p = cleared_by heard cycle task next in_time wide p
+  after_point heard (Corrected by) task next in_time wide p = corrected_by heard by task p
+  after_point heard SyncClique task next in_time wide p = clique_by heard SyncClique task refl p
+  after_point heard AsyncClique task next in_time wide p = clique_by heard AsyncClique task refl p
+  after_point heard {cycle} Cleared task next in_time wide p = cleared_by heard task next in_time wide p
 
   -- after an act a device has the tasks that it had before, and such as are for later readings
   pub acted : (act : Act) (new : Node) → MayCall network device node moment acting
       → network.precision.0 ≤ℤ pos (amount network.cycle) → IsActOf network device node moment act new
       → (task : Task) → IsPending network device new task → IsCarried network device node new moment task
   acted (acts.Send frame) new may wide (cycle, first, of_frame, is) task p =
-      after_deed network device node new moment (sending cycle) task is p
+      after_deed network device node moment (sending cycle) task is p
   acted (acts.Dispatch row cycle) new may wide (first, is) task p =
-      after_deed network device node new moment (dispatching row cycle) task is p
+      after_deed network device node moment (dispatching row cycle) task is p
   acted (acts.Emit sent heard) new may wide (first, so, is) task p =
       let whole = is
       ∙ ap (λ r. called moment acting (after_emission network device node moment sent r)) so in
       (rw (sym whole) at (after_emission_by network device node moment sent task)) p
   acted (acts.Correct cycle verdict) new may wide (first, (heard, comes, is)) task p =
-      (rw (sym is) at (after_point heard cycle verdict task first.pending.1.own
+      (rw (sym is) at (after_point heard verdict task first.pending.1.own
       (may.in_time (doing (correcting cycle)) first.pending) wide)) p

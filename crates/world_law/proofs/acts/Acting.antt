@@ -26,7 +26,7 @@ pub record Comes (s : Scenario) (hs : List Happening) (device : DeviceId) (t lat
   pub reached : (v -ℤ node.standing.adjustment.0) ≤ℤ pos (s.reading device later)
   pub not_before : (x : ℕ) → changed_at hs device t ≤ x → x < later → pos (s.reading device x) <ℤ (v -ℤ node.standing.adjustment.0)
 
-module _ (s : Scenario) (hs : List Happening) (device : DeviceId) (t later : ℕ) (node : Node) where
+module _ {s : Scenario} {hs : List Happening} {device : DeviceId} {t later : ℕ} {node : Node} where
   pub comes_so : {v : ℤ} → IsUnmoved s hs device t later → IsLeft s hs device t node → Reaches s hs device v later
       → Comes s hs device t later node v
   comes_so {v} u left r =
@@ -201,7 +201,7 @@ module _ {s : Scenario} {hs : List Happening} {device : DeviceId} {t later : ℕ
 later_still : (z : ℤ) (r m : ℕ) → z ≤ℤ pos r → r ≤ m → z ≤ℤ pos m
 later_still z r m le fell = omega (arith, ints)
 
-module _ (s : Scenario) (hs : List Happening) (device : DeviceId) (t later : ℕ) (node : Node) where
+module _ {s : Scenario} {hs : List Happening} {device : DeviceId} {t later : ℕ} {node : Node} where
   had_come_task : IsUnmoved s hs device t later → IsLeft s hs device t node → HasDone s hs device t node
       → is_timed node.standing.state ≡ true → has_cleared s hs device t t ≡ false
       → has_cleared s hs device later later ≡ true → node.broken ≡ false
@@ -227,7 +227,7 @@ module _ (s : Scenario) (hs : List Happening) (device : DeviceId) (t later : ℕ
       ∙ sym (not_turned_on s hs device later u.not_on_later) in
       let timed : is_timed node.standing.state ≡ true = ap is_timed state ∙ point.0 in
       let sound = left.counted.broken ∙ sym u.not_broken ∙ c.correct in
-      let here = comes_so s hs device t later node u left c.reached in
+      let here = comes_so u left c.reached in
       let as_before : has_cleared s hs device later later ≡ has_cleared s hs device t t → HasTaskAt s device node
       later (rows_place later device) = λ flag.
       let number =
@@ -235,7 +235,7 @@ module _ (s : Scenario) (hs : List Happening) (device : DeviceId) (t later : ℕ
       let own =
       point_of_timed node.standing.state node.standing.number timed
       ∙ (rw number) in
-      (doing (correcting cycle), (sound, undone_so s hs device t later node (correcting cycle) u.le has own here), here.reached, refl) in
+      (doing (correcting cycle), (sound, undone_so (correcting cycle) u.le has own here), here.reached, refl) in
       elim (cases_Bool (has_cleared s hs device t t)) [
         | inl did ↦ as_before (cleared_on u did ∙ sym did)
         | inr not_yet ↦

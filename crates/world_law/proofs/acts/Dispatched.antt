@@ -6,11 +6,11 @@ use Rattle.world_law.proofs.{Words.{ℕ, place_of, subst, sym, time_of, way_from
 use Rattle.run_law.proofs.law.FirstPlaces.{numbered_front}
 use Rattle.run_law.specs.declared.note.NoteBody.TheVariants as kinds
 
-pub same_some : (x y : Happening) → Some x ≡ Some y → x ≡ y
-same_some x y e = cc
+pub same_some : {x y : Happening} → Some x ≡ Some y → x ≡ y
+same_some e = cc
 
-none_some : (x : Happening) → None ≡ Some x → ⊥
-none_some x e = cc
+none_some : {x : Happening} → None ≡ Some x → ⊥
+none_some e = cc
 
 -- an event of the instant is the cause of no dispatch
 pub send_apart : {s : Scenario} (hs coming : List Happening) {js : List Happening} {device : DeviceId} {now : ℕ}
@@ -24,9 +24,9 @@ send_apart {s} hs coming {device} {now} founded of_now on lost d =
     let same : earlier now all ≡ earlier now hs = earlier_still now hs coming (λ z i. let at = of_now z i in
     omega arith) in
     elim d.at_hand [
-      | inl sender ↦ none_some lost.event (subst (λ n. numbered all n ≡ Some lost.event) sender.1 event)
+      | inl sender ↦ none_some (subst (λ n. numbered all n ≡ Some lost.event) sender.1 event)
       | inr took ↦ elim (last_in None (filter (λ h. is_accepted device d.entry.row.vl h.note.body) (earlier now all)) took.1.taken took.1.last) [
-        | inl none ↦ none_some took.1.taken none
+        | inl none ↦ none_some none
         | inr i ↦
             let inside = subst (λ l. IsIn took.1.taken l) same
             (in_filter (λ h. is_accepted device d.entry.row.vl h.note.body) (earlier now all) took.1.taken i) in
@@ -34,7 +34,7 @@ send_apart {s} hs coming {device} {now} founded of_now on lost d =
             let there : IsIn took.1.taken hs = in_filter (λ h. Rattle.std.specs.Prelude.nat_lt (time_of h) now) hs took.1.taken inside in
             let it = subst (λ n. numbered all n ≡ Some took.1.taken) (sym took.1.number)
             (numbered_front hs coming took.1.taken.note.number took.1.taken (by_number s hs took.1.taken founded there)) in
-            let same : lost.event ≡ took.1.taken = same_some lost.event took.1.taken (sym event ∙ it) in
+            let same : lost.event ≡ took.1.taken = same_some (sym event ∙ it) in
             let at = lost.is.same_time in
             let times : time_of lost.event ≡ time_of took.1.taken = ap time_of same in
             omega arith
@@ -43,9 +43,9 @@ send_apart {s} hs coming {device} {now} founded of_now on lost d =
 
 module _ (s : Scenario) (device : DeviceId) (now : ℕ) (link : LinkId) (cause : ℕ) (vl : VlId) (cycle : ℕ) where
   -- what a record that tells of a dispatch says
-  pub dispatch_told : (body : NoteBody) → body ≡ dispatch_body s device now link cause vl cycle
+  pub dispatch_told : {body : NoteBody} → body ≡ dispatch_body s device now link cause vl cycle
       → (body ≡ kinds.Lost device link cause) ⊎ (body ≡ kinds.TtSent device link cause vl cycle)
-  dispatch_told body e = grind (arith, cases_Bool, is_cut, way_from)
+  dispatch_told e = grind (arith, cases_Bool, is_cut, way_from)
 
   -- the record of a dispatch stands behind all others of the acts
   pub dispatch_late : 9 ≤ rank (dispatch_body s device now link cause vl cycle)

@@ -72,7 +72,7 @@ pub same_standing : {s : Scenario} {hs : List Happening} {device : DeviceId} {t 
     → IsLeft s hs device t node → is_timed node.standing.state ≡ true → node.standing ≡ standing_before s hs device t
 same_standing left is = grind (arith, plan_of, state_before, adjustment_before)
 
-module _ (s : Scenario) (js : List Happening) (now : ℕ) (device : DeviceId) (node : Node) where
+module _ {s : Scenario} {js : List Happening} {now : ℕ} {device : DeviceId} {node : Node} where
   -- its clock is at the value that is reached
   read_so : {v : ℤ} → IsPresent s js now device node → Reaches s js device v now
       → (v -ℤ node.standing.adjustment.0) ≤ℤ pos (s.reading device now)
@@ -126,9 +126,9 @@ correcting_due {s} {js} {now} {device} {node} {cycle} w c not =
     let own : next_point node.standing ≡ Some cycle = ap next_point (same_standing w.left timed) ∙ c.next in (
       (
         w.left.counted.broken ∙ w.sound,
-        record { own = own; ahead = ahead_so s js now device node w c.reached; not_yet = not },
+        record { own = own; ahead = ahead_so w c.reached; not_yet = not },
       ),
-      read_so s js now device node w c.reached,
+      read_so w c.reached,
     )
 
 pub dispatching_due : {s : Scenario} {js : List Happening} {now : ℕ} {device : DeviceId} {node : Node}
@@ -155,11 +155,11 @@ dispatching_due {s} {js} {now} {device} {node} {cycle} w f d not =
         w.left.counted.broken ∙ w.sound,
         record {
           own = (w.left.state ∙ d.up.synchronised, frame);
-          ahead = ahead_so s js now device node w reached;
+          ahead = ahead_so w reached;
           not_yet = not;
         },
       ),
-      read_so s js now device node w reached,
+      read_so w reached,
     )
 
 -- ---- all kinds
@@ -171,7 +171,7 @@ pub act_due : {s : Scenario} {js hs : List Happening} {now : ℕ} {device : Devi
     → IsDueTask s device node now task
 act_due w f same points (IsActing.emits sent verdict e) not = emitting_due w points e not
 act_due {s} {js} {hs} {now} {device} {node} w f same points (IsActing.sends cycle d) not =
-    sending_due s js now device node w
+    sending_due w
     (record {
       master = d.master;
       up = up_back s hs js now device same d.up;

@@ -75,7 +75,7 @@ never_moved device old [] still = refl
 never_moved device old (h ∷ hs) still =
     rw (keeps_state device old h.note.body (still h (inl refl))) (never_moved device old hs (λ g i. still g (inr i)))
 
-module _ (s : Scenario) (hs : List Happening) (device : DeviceId) (t : ℕ) where
+module _ {s : Scenario} {hs : List Happening} (device : DeviceId) (t : ℕ) where
   state_of_none : length s.network.device ≤ device.0 → AreOfNetwork s hs → state_before s hs device t ≡ Off
   state_of_none le known = grind (arith, state_after, earlier, never_moved, in_filter, nat_lt, time_of, off_of_none)
 
@@ -189,7 +189,7 @@ kept_no_act {M} {stands} {s} {hs} {coming} {frontier} {p} {now} {t} {device} {ma
             | inl out ↦ not (out.all task a)
             | inr (inr joining) ↦ behind_it.lone joining.by joining.there joining.sent (task_place s.network now device task) not b
             | inr (inl just) ↦
-                let e = looking_acts s hs device now (rw (sym same) just.looking) a in
+                let e = looking_acts device now (rw (sym same) just.looking) a in
                 cc
           ]
         ]
@@ -198,7 +198,7 @@ kept_no_act {M} {stands} {s} {hs} {coming} {frontier} {p} {now} {t} {device} {ma
         → IsIdleBefore s device now k0.node p → IsLawful s hs device → ⊥
     afterwards lt k0 idle0 law0 =
         let sooner : (k : ℕ) (ws : List ℕ) → IsBefore (now ∷ k ∷ ws) p = λ k ws. chain (now ∷ k ∷ ws) (task_place s.network t device task) p (inl lt) b in
-        let rest = at_rest stands s hs frontier now device machine k0 befallen past (worked (sooner 2 []))
+        let rest = at_rest k0 befallen past (worked (sooner 2 []))
         (record { later = later; falls = law0.steady.never_falls })
         (λ other pending. elim (cases_int (pos (s.reading device now)) (reading_for s.network k0.node other)) [
           | inl less ↦ less
@@ -257,7 +257,7 @@ held_no_act : {M : Type 0} {stands : M → Network → DeviceId → Node → Typ
 held_no_act (inl k) law behind_it past worked befallen later le idle a not b =
     kept_no_act k law behind_it past worked befallen later le (idle k.node k.is) a not b
 held_no_act {s} {hs} {frontier} {now} {t} {device} (inr k) law behind_it past worked befallen later le idle a not b =
-    broken_acts s hs device t (no_later_breaks s frontier now t device befallen le ∙ k.broken) a
+    broken_acts device t (no_later_breaks s frontier now t device befallen le ∙ k.broken) a
 
 module _ {C M : Type 0} (reading : C → ℕ → ℕ) (stands : M → Network → DeviceId → Node → Type 0) where
   no_acts : {s : Scenario} {world : World C M} {notes : List Note} {p : List ℕ}
@@ -278,7 +278,7 @@ module _ {C M : Type 0} (reading : C → ℕ → ℕ) (stands : M → Network �
             (λ two. elim (cases_Bool world.pending) [ inr told ↦ old.untold.done told | inl open_ ↦ absurd (none.befell open_ two) ]) old.befallen old.not_later le
             (λ node is u from other pending due before. none.acting device m.0 node other m.1 is pending u from due
             before) a not b
-        | inr ge ↦ none_acts s hs device t ge
+        | inr ge ↦ none_acts device t ge
             (record { unmoved = λ d far h i. old.known.unmoved d far h (in_left h hs world.settled i); never_on = old.known.never_on }) a
       ]
 

@@ -3,7 +3,7 @@ use Rattle.{compression.specs.Clusters.point_at, std.proofs.Common.arith}
 use Rattle.{run_law.specs.control.Collections.master_of, sync_state.specs.membership.Hearing.Hearing, world_law.proofs.devices.OwnRecords.{keeps_state, own_no}}
 use Rattle.{run_law.specs.control.Corrections.heard_by, world_law.{proofs.Words.{time_of, true, ℕ}, specs.device.{Own.own, Told.since_at}}}
 use Rattle.{run_law.specs.scenario.Devices.{channel_of, channel_of_link}, world_law.proofs.lists.Lists.{behind_no, behind_yes, filter_no, filter_yes}}
-use Rattle.world_law.proofs.Words.{◌&&◌, ◌++◌, ◌==◌, ◌||◌, ◌∙◌, ◌∷◌, ◌≡◌, Bool, DeviceId, Happening, IsLeft, List}
+use Rattle.world_law.proofs.Words.{◌&&◌, ◌++◌, ◌||◌, ◌∙◌, ◌∷◌, ◌≡◌, Bool, DeviceId, Happening, IsLeft, List}
 use Rattle.world_law.proofs.Words.{Network, Node, None, NoteBody, Option, Scenario, Some, [], adjustment_before, adjustment_with, after_last, and_right}
 use Rattle.world_law.proofs.Words.{ap, append-nil, append_assoc, bears_on, borne, cases_Bool, changed_at, changes_adjustment, cons_option, cycle_after}
 use Rattle.world_law.proofs.Words.{cycle_in, earlier, ends_stretch, false, filter, filter-append, filter_map, fold, has_cleared, heard_since, hearing_by}
@@ -28,24 +28,24 @@ ends_no_other device (notes.State other state cause whys.On) e = refl
 ends_no_other device (notes.State other state cause why) e = e
 ends_no_other device other e = joins_no_other device other (moves_no_other device other e)
 
-off : {A : Type 0} (b : Bool) (x y : A) → b ≡ false → (if b then x else y) ≡ y
-off b x y e = rw e
+off : {A : Type 0} {b : Bool} (x y : A) → b ≡ false → (if b then x else y) ≡ y
+off x y e = rw e
 
 pub gives_no_point : (device : DeviceId) (h : Happening) (body : NoteBody) → bears_on device body ≡ false → point_by device h body ≡ None
 gives_no_point device h (notes.Permanent other link cause point verdict) e =
-    off (device.0 == other.0) (Some (point_at point.0 (master_of (members_in h)) (cycle_in h))) None e
+    off (Some (point_at point.0 (master_of (members_in h)) (cycle_in h))) None e
 gives_no_point device h other e = refl
 
 pub hears_nothing : (network : Network) (device : DeviceId) (h : Happening) (body : NoteBody) → bears_on device body ≡ false
     → hearing_by network device h body ≡ None
 hears_nothing network device h (notes.Permanent other link cause point judgements.Within) e =
-    off (device.0 == other.0) (option_map (λ channel. heard_by channel h point true) (channel_of_link network link)) None e
+    off (option_map (λ channel. heard_by channel h point true) (channel_of_link network link)) None e
 hears_nothing network device h (notes.Permanent other link cause point judgements.Outside) e =
-    off (device.0 == other.0) (option_map (λ channel. heard_by channel h point false) (channel_of_link network link)) None e
+    off (option_map (λ channel. heard_by channel h point false) (channel_of_link network link)) None e
 hears_nothing network device h (notes.Compressed other opened at cycle members judgements.Within) e =
-    off (device.0 == other.0) (option_map (λ channel. heard_by channel h at true) (channel_of network device)) None e
+    off (option_map (λ channel. heard_by channel h at true) (channel_of network device)) None e
 hears_nothing network device h (notes.Compressed other opened at cycle members judgements.Outside) e =
-    off (device.0 == other.0) (option_map (λ channel. heard_by channel h at false) (channel_of network device)) None e
+    off (option_map (λ channel. heard_by channel h at false) (channel_of network device)) None e
 hears_nothing network device h other e = refl
 
 -- ---- lists

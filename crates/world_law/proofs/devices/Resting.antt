@@ -103,8 +103,8 @@ left_next {s} {hs} {frontier} {device} {now} {node} q still befallen r on_by fal
     never_both : (a b : Rattle.std.proofs.Common.ℤ) → a <ℤ b → b ≤ℤ a → ⊥
     never_both a b lt le = omega (arith, ints)
 
-module _ {M : Type 0} (stands : M → Network → DeviceId → Node → Type 0) (s : Scenario) (hs : List Happening)
-    (frontier : List ℕ) (now : ℕ) (device : DeviceId) (machine : M) where
+module _ {M : Type 0} {stands : M → Network → DeviceId → Node → Type 0} {s : Scenario} {hs : List Happening}
+    {frontier : List ℕ} {now : ℕ} {device : DeviceId} {machine : M} where
   -- where the instant is over for it
   rests_over : (k : IsKept stands s hs [] frontier now device machine) → k.up ≡ now + 1 → HaveBefallen s frontier now
       → IsPast hs now → IsNoLater s device frontier now → Rests s hs device now k.node

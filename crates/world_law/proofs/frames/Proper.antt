@@ -31,12 +31,12 @@ pub record IsTakenAs (network : Network) (device : DeviceId) (link : LinkId) (at
   pub is : frame ≡ with_clock (clock_on_arrival network link came) came
 
 module _ (network : Network) (device : DeviceId) (link : LinkId) (at : Standpoint) where
-  taken_by_fault : (came frame : Pcf) (fault : Option Reason) (is : Arrival) → frame_of is ≡ Some frame
+  taken_by_fault : (came : Pcf) {frame : Pcf} (fault : Option Reason) {is : Arrival} → frame_of is ≡ Some frame
       → is ≡ frame_or_fault network device link at came fault
       → (fault ≡ None) × (frame ≡ with_clock (clock_on_arrival network link came) came)
-  taken_by_fault came frame (Some reason) is of e =
+  taken_by_fault came (Some reason) of e =
       absurd (cc)
-  taken_by_fault came frame None is of e = grind (arith, with_clock, frame_of_taken)
+  taken_by_fault came None of e = grind (arith, with_clock, frame_of_taken)
 
   not_timed : (octets : List ℕ) (last : _) → frame_of (timed_arrival network device link at octets last) ≡ None
   not_timed octets last = grind (arith, length)
@@ -63,7 +63,7 @@ module _ (s : Scenario) (hs : List Happening) (device : DeviceId) (t : ℕ) (lin
       by_signal (control (Err refusal)) arrives e =
           absurd (cc)
       by_signal (control (Ok came)) arrives e =
-          let it = taken_by_fault s.network device link (standpoint s hs device t) came frame _ is of e in
+          let it = taken_by_fault s.network device link (standpoint s hs device t) came _ of e in
           record { putting = a.putting; there = a.there; came = came; arrives = arrives; taken = record { none = it.0; is = it.1 } }
 
   pub arrived_so : (clock : ℕ) (a : IsArrivedRecord s hs device t link cause clock)
@@ -105,10 +105,11 @@ pub record HasCome (s : Scenario) (hs : List Happening) (arrival : Happening) (d
   pub of_frame : so.putting.frame ≡ Some so.came
   pub shows : clock ≡ frame.clock
 
-pub has_come : (s : Scenario) (hs : List Happening) (arrival : Happening) (device : DeviceId) (link : LinkId) (cause clock : ℕ) (frame : Pcf)
+pub has_come : (s : Scenario) (hs : List Happening) (arrival : Happening) (device : DeviceId) (link : LinkId)
+    (cause clock : ℕ) {frame : Pcf}
     → IsFounded place_of (IsDue s) hs → IsIn arrival hs → arrival.note.body ≡ kinds.Arrived device link cause clock → arrival.frame ≡ Some frame
     → HasCome s hs arrival device link cause clock frame
-has_come s hs arrival device link cause clock frame founded i body of =
+has_come s hs arrival device link cause clock {frame} founded i body of =
     let at = founded_at s hs arrival founded i in
     let due = at.due in
     let a : IsArrivedRecord s at.front device (time_of arrival) link cause clock = subst (λ b. IsCaused s at.front arrival.note.time b) body
@@ -169,9 +170,10 @@ pub record IsSound (network : Network) (device : DeviceId) (link : LinkId) (at :
   pub member : is_of_other_member network device link frame.members ≡ false
   pub members : frame.members ≡ came.members
 
-pub is_sound : (network : Network) (device : DeviceId) (link : LinkId) (at : Standpoint) (came frame : Pcf) → IsTakenAs network device link at came frame
+pub is_sound : {network : Network} {device : DeviceId} {link : LinkId} {at : Standpoint} {came frame : Pcf} → IsTakenAs
+    network device link at came frame
     → IsSound network device link at came frame
-is_sound network device link at came frame taken =
+is_sound {network} {device} {link} {at} {came} taken =
     let clock = clock_on_arrival network link came in
     let gate : List (Bool × Reason) = (is_gate_shut network device at, reasons.Gate) ∷ [] in
     let aged : List (Bool × Reason) = (nat_lt (amount network.dmax) clock, reasons.Old) ∷ gate in

@@ -14,7 +14,7 @@ use Rattle.world_law.proofs.Words.{before_next_time, behind, cases_Bool, chain, 
 use Rattle.world_law.proofs.Words.{filter, filter_map, happening, happenings, in_left, in_parts, in_right, inl, inr, ints}
 use Rattle.world_law.proofs.Words.{is_joined_by, key, length, members_in, moves, nat_le, never_self, no_cluster}
 use Rattle.world_law.proofs.Words.{numbered, numbers_end, observation_window, place_of, plains, point_by, points_of, port_place, rank, refl}
-use Rattle.world_law.proofs.Words.{ripe_place, state_after, state_before, subst, suc, sym, task_place, time_of, true, units_of, up_to, wire_place, ℕ}
+use Rattle.world_law.proofs.Words.{ripe_place, state_after, state_before, subst, suc, sym, time_of, true, units_of, up_to, wire_place, ℕ}
 use Rattle.world_law.proofs.{lists.Lists.behind_yes, runs.Firsts.{acting_back, arrives_later, earlier_still, gives_rank, no_higher}}
 use Rattle.world_law.proofs.runs.{Firsts.{arriving_more, departing_more, numbered_more, numbered_still}, Settled.AreSettled, Worlds.{first_is_next, length_is}}
 use Rattle.world_law.proofs.runs.Over.{StandsOver, over_of}
@@ -54,9 +54,10 @@ joined_points : (hs : List Happening) (z : Happening) (device : DeviceId) → is
 joined_points hs z device joins = ap (filter_map (λ h. point_by device h h.note.body))
     (behind_yes (λ h. ends_stretch device h.note.body) hs z (ends_joined device z.note.body joins))
 
-joined_place : (z : Happening) (device : DeviceId) (now : ℕ) → time_of z ≡ now → (body : NoteBody) → z.note.body ≡ body → rank body ≡ 4
+joined_place : (z : Happening) (device : DeviceId) {now : ℕ} → time_of z ≡ now → (body : NoteBody) → z.note.body ≡ body
+    → rank body ≡ 4
     → is_joined_by device body ≡ true → IsBefore (act_place now device) (place_of z)
-joined_place z device now at (kinds.Compressed other opened out cycle members judgements.Integrates) e four joins =
+joined_place z device {now} at (kinds.Compressed other opened out cycle members judgements.Integrates) e four joins =
     subst (λ l. IsBefore (act_place now device) l)
     (sym (ap (λ b. time_of z ∷ rank b ∷ key (members_in z) b) e
     ∙ ap (λ n. n ∷ 4 ∷ other.0 ∷ key_rest (members_in z) (kinds.Compressed other opened out cycle members
@@ -67,8 +68,9 @@ joined_place z device now at (kinds.Compressed other opened out cycle members ju
     key_rest m (kinds.Compressed d o t c k v) =
         amount o ∷ amount t ∷ c ∷ k.0 ∷ Rattle.run_law.specs.records.Ranks.sign o.0 ∷ Rattle.run_law.specs.records.Ranks.sign t.0 ∷ []
     key_rest m other = []
-joined_place z device now at (kinds.Permanent other link cause point judgements.Integrates) e four joins = absurd (omega (arith, four))
-joined_place z device now at other e four joins = absurd (let bad : false ≡ true = joins in cc)
+joined_place z device at (kinds.Permanent other link cause point judgements.Integrates) e four joins =
+    absurd (omega (arith, four))
+joined_place z device at other e four joins = absurd (let bad : false ≡ true = joins in cc)
 
 -- a device that looked for the common time, and has no points, does not act
 gone_acts : {s : Scenario} {hs : List Happening} {device : DeviceId} {now : ℕ} {task : Task}
@@ -89,15 +91,16 @@ changes_by js gs device t same = sym (changes_at_plain js device t) ∙ ap (λ l
 module _ {s : Scenario} {hs : List Happening} {z : Happening} {rest : List Happening} {from to : List ℕ} {now : ℕ}
     (g : IsGiving s hs z rest from to now) {n : ℕ} (is : n ≡ length hs + 1) where
   -- the source is worked off, though the record is given
-  worked_yet : (w : List ℕ) → IsSource s (hs ++ with_number n z ∷ []) w → IsBefore w (behind (place_of z))
+  worked_yet : {w : List ℕ} → IsSource s (hs ++ with_number n z ∷ []) w → IsBefore w (behind (place_of z))
       → IsBefore w to
-  worked_yet w source under = worked_by_then g (with_number n z ∷ []) (over_itself z n) w source under
+  worked_yet {w} source under = worked_by_then g (with_number n z ∷ []) (over_itself z n) source under
 
-  here_then : (cause : ℕ) → cause ≡ n → numbered (hs ++ with_number n z ∷ []) cause ≡ Some (with_number n z)
-  here_then cause e = numbered_next hs [] (with_number n z) cause (e ∙ is)
+  here_then : {cause : ℕ} → cause ≡ n → numbered (hs ++ with_number n z ∷ []) cause ≡ Some (with_number n z)
+  here_then {cause} e = numbered_next hs [] (with_number n z) cause (e ∙ is)
 
-  there_still : (h : Happening) (cause : ℕ) → numbered hs cause ≡ Some h → numbered (hs ++ with_number n z ∷ []) cause ≡ Some h
-  there_still h cause there = numbered_still hs (with_number n z) h cause there
+  there_still : {h : Happening} (cause : ℕ) → numbered hs cause ≡ Some h → numbered (hs ++ with_number n z ∷ [])
+      cause ≡ Some h
+  there_still {h} cause there = numbered_still hs (with_number n z) cause there
 
   -- ---- wires
 
@@ -107,13 +110,17 @@ module _ {s : Scenario} {hs : List Happening} {z : Happening} {rest : List Happe
     real = λ e i. elim (put.real e i) [
       | inl old ↦
           let was = are.real e old in
-          let there = there_still was.0.putting e.cause was.0.there in
+          let there = there_still e.cause was.0.there in
           let source = IsSource.arriving e.at e.device e.link e.cause
-          (record { putting = was.0.putting; there = there; signal = e.signal; arrives = was.0.arrives }) in
-          (record { putting = was.0.putting; there = there; arrives = was.0.arrives }, λ open_. absurd cc, λ b. was.2 (worked_yet (wire_place e) source b))
+          (record { putting = was.0.putting; there = there; signal = e.signal; arrives = was.0.arrives }) in (
+            record { putting = was.0.putting; there = there; arrives = was.0.arrives },
+            λ open_. absurd cc,
+            λ b. was.2
+                (worked_yet source b),
+          )
       | inr it ↦
           let later = arrives_later g.forward it.1 in (
-            record { putting = with_number n z; there = here_then e.cause it.0; arrives = it.1 },
+            record { putting = with_number n z; there = here_then it.0; arrives = it.1 },
             λ open_. absurd cc,
             λ b. elim (no_higher e.at 2 (time_of z) (rank z.note.body) _ (key (members_in z) z.note.body) (up_to_place (wire_place e) (place_of z) b)) [
               | inl lt ↦ omega arith
@@ -122,7 +129,7 @@ module _ {s : Scenario} {hs : List Happening} {z : Happening} {rest : List Happe
           )
     ];
     all = λ t device link cause a told not.
-        elim (arriving_more s hs (with_number n z) t device link cause a) [
+        elim (arriving_more hs (with_number n z) a) [
           | inl old ↦ let found =
               are.all t device link cause old (λ open_. absurd cc) (λ b. not (g.are.not_past z (inl refl) _ b)) in (found.0, put.kept found.0 found.1, found.2)
           | inr it ↦
@@ -139,14 +146,14 @@ module _ {s : Scenario} {hs : List Happening} {z : Happening} {rest : List Happe
     real = λ e i. elim (put.real e i) [
       | inl old ↦
           let was = are.real e old in
-          let there = there_still was.0.giving e.cause was.0.there in
+          let there = there_still e.cause was.0.there in
           let source = IsSource.departing e.at e.device e.link e.cause
           (record { giving = was.0.giving; there = there; gives = was.0.gave.gives; held = was.0.gave.held }) in
-          (record { giving = was.0.giving; there = there; gave = was.0.gave }, λ b. was.1 (worked_yet (port_place e) source b))
+          (record { giving = was.0.giving; there = there; gave = was.0.gave }, λ b. was.1 (worked_yet source b))
       | inr it ↦
           let low = gives_rank s.network z.note.body e.device e.link it.1.gives in
           let held = it.1.held in (
-            record { giving = with_number n z; there = here_then e.cause it.0; gave = it.1 },
+            record { giving = with_number n z; there = here_then it.0; gave = it.1 },
             λ b. elim (no_higher e.at 8 (time_of z) (rank z.note.body) _ (key (members_in z) z.note.body) (up_to_place (port_place e) (place_of z) b)) [
               | inl lt ↦ omega arith
               | inr same ↦ omega (arith, same.1)
@@ -154,7 +161,7 @@ module _ {s : Scenario} {hs : List Happening} {z : Happening} {rest : List Happe
           )
     ];
     all = λ t device link cause d not.
-        elim (departing_more s hs (with_number n z) t device link cause d) [
+        elim (departing_more hs (with_number n z) d) [
           | inl old ↦ let found = are.all t device link cause old (λ b. not (g.are.not_past z (inl refl) _ b)) in (found.0, put.kept found.0 found.1, found.2)
           | inr it ↦
               let found = put.all device link it.1 in (
@@ -174,24 +181,29 @@ module _ {s : Scenario} {hs : List Happening} {z : Happening} {rest : List Happe
       → AreWaiting s (hs ++ with_number n z ∷ []) (behind (place_of z)) now new
   waiting_then {waiting} {new} are put = record {
     real = λ e i. elim (put.real e i) [
-      | inl old ↦ let was = are.real e old in record { arrival = was.arrival; there = there_still was.arrival e.cause was.there; awaited = was.awaited }
-      | inr it ↦ record { arrival = with_number n z; there = here_then e.cause it.0; awaited = it.1 }
+      | inl old ↦ let was = are.real e old in record {
+        arrival = was.arrival;
+        there =
+            there_still e.cause was.there;
+        awaited = was.awaited;
+      }
+      | inr it ↦ record { arrival = with_number n z; there = here_then it.0; awaited = it.1 }
     ];
     later = λ e i t r b.
         let p = r.permanent in
         elim (put.real e i) [
           | inl old ↦
               let was = are.real e old in
-              let arrival = some_same was.arrival p.arrival _ (there_still was.arrival e.cause was.there) p.there in
+              let arrival = some_same was.arrival p.arrival _ (there_still e.cause was.there) p.there in
               let there = was.there ∙ ap Some arrival in
               let frame = some_same r.frame e.frame _ p.of_frame (rw (sym arrival) was.awaited.of_frame) in
               let at = ripe_with t e r.frame frame in
-              let yet = worked_yet _ (IsSource.ripening t e.device e.link e.cause e.point r)
+              let yet = worked_yet (IsSource.ripening t e.device e.link e.cause e.point r)
               (subst (λ q. IsBefore q (behind (place_of z))) (sym at) b) in
               are.later e old t (record { frame = r.frame; permanent = same_permanent hs p there })
               (rw at at yet)
           | inr it ↦
-              let arrival = some_same (with_number n z) p.arrival _ (here_then e.cause it.0) p.there in
+              let arrival = some_same (with_number n z) p.arrival _ (here_then it.0) p.there in
               let two : rank z.note.body ≡ 2 = ap (λ h. rank h.note.body) arrival ∙ ap rank p.arrived in
               let from = p.reached.from_on in
               let at : time_of z ≡ time_of p.arrival = ap time_of arrival in
@@ -203,13 +215,13 @@ module _ {s : Scenario} {hs : List Happening} {z : Happening} {rest : List Happe
     sound = λ e i. elim (put.real e i)
         [ inl old ↦ are.sound e old | inr it ↦ rw (g.are.of_now z (inl refl)) at it.2 ];
     all = λ e it sound not.
-        elim (numbered_more hs (with_number n z) it.arrival e.cause it.there) [
+        elim (numbered_more hs (with_number n z) e.cause it.there) [
           | inl old ↦
               put.kept e (are.all e (record { arrival = it.arrival; there = old; awaited = it.awaited }) sound (λ t r b.
               not t (record {
                 frame = r.frame;
                 permanent = same_permanent _ r.permanent
-                    (there_still r.permanent.arrival e.cause r.permanent.there);
+                    (there_still e.cause r.permanent.there);
               })
               (g.are.not_past z (inl refl) (ripe_place t e) b)))
           | inr new_one ↦
@@ -229,9 +241,9 @@ module _ {s : Scenario} {hs : List Happening} {z : Happening} {rest : List Happe
   alone_now y (inr none) = absurd none
 
   -- where the acts of the device are before what follows the record, what acts by the records with it, acts by those before
-  act_back : (device : DeviceId) → IsBefore (act_place now device) (behind (place_of z)) → (task : Task)
+  act_back : {device : DeviceId} → IsBefore (act_place now device) (behind (place_of z)) → {task : Task}
       → IsActing s (hs ++ with_number n z ∷ []) now device task → IsActing s hs now device task
-  act_back device b task a =
+  act_back {device} b a =
       let at = g.are.of_now z (inl refl) in
       elim (no_higher now 4 (time_of z) (rank z.note.body) (device.0 ∷ []) (key (members_in z) z.note.body)
       (up_to_place (act_place now device) (place_of z) b)) [
@@ -251,15 +263,15 @@ module _ {s : Scenario} {hs : List Happening} {z : Happening} {rest : List Happe
       inl (
         still.0,
         λ task b a.
-            still.1 task (worked_yet (task_place s.network now device task) (IsSource.acting now device task a) b)
-            (act_back device (acts_before s.network now device task (behind (place_of z)) b) task a),
+            still.1 task (worked_yet (IsSource.acting now device task a) b)
+            (act_back (acts_before s.network now device task (behind (place_of z)) b) a),
       )
 
   out_then : {device : DeviceId} → IsActedOut s hs now device to → IsActedOut s (hs ++ with_number n z ∷ []) now device
       (behind (place_of z))
   out_then {device} out =
       let past = g.are.not_past z (inl refl) (act_place now device) out.past in
-      record { past = past; all = λ task a. g.are.not_past z (inl refl) _ (out.all task (act_back device past task a)) }
+      record { past = past; all = λ task a. g.are.not_past z (inl refl) _ (out.all task (act_back past a)) }
 
   -- a device whose own frame tells it the time has no frame left once the record of that is given
   joins_then : {device : DeviceId} → IsJoiningNow s hs (z ∷ rest) device now → IsActedOut s (hs ++ with_number n z ∷ []) now device (behind (place_of z))
@@ -275,7 +287,8 @@ module _ {s : Scenario} {hs : List Happening} {z : Happening} {rest : List Happe
             let joins : is_joined_by device z.note.body ≡ true = rw (sym is_z) j.joins in
             inl (record {
               past = chain (act_place now device) (place_of z) (behind (place_of z))
-                  (joined_place z device now (g.are.of_now z (inl refl)) z.note.body refl four joins) (before_behind (place_of z));
+                  (joined_place z device (g.are.of_now z (inl refl)) z.note.body refl four joins)
+                  (before_behind (place_of z));
               all = λ task a. absurd (gone_acts looking (joined_points hs (with_number n z) device joins) a);
             })
       ]
@@ -355,7 +368,7 @@ module _ {s : Scenario} {hs : List Happening} {z : Happening} {rest : List Happe
               off = rw (sym later) was.off;
               number = was.number;
               event = was.event;
-              befell = record { there = there_still was.event was.number was.befell.there; same_time = was.befell.same_time };
+              befell = record { there = there_still was.number was.befell.there; same_time = was.befell.same_time };
               turned = λ b.
                   let by = was.turned (g.are.begun z (inl refl)) in
                   let y = one_before by.by by.there in
@@ -411,7 +424,7 @@ device_in network device lt =
 
 -- it is given: then the frontier is behind it
 pub given_from : {C M : Type 0} {reading : C → ℕ → ℕ} {stands : M → Network → DeviceId → Node → Type 0}
-    (s : Scenario) (world : World C M) (notes : List Note) (z : Happening) (rest : List Happening) {from to : List ℕ}
+    {s : Scenario} {world : World C M} {notes : List Note} (z : Happening) (rest : List Happening) {from to : List ℕ}
     {wires : List OnWire} {ports : List AtPort} {waiting : List Waiting} {stored : List Stored}
     (old : StandsOver reading stands s world notes from to) → world.settled ≡ z ∷ rest
     → NoSourceBefore s (happenings s.network notes) to (place_of z)
@@ -431,7 +444,7 @@ pub given_from : {C M : Type 0} {reading : C → ℕ → ℕ} {stands : M → Ne
       settled = rest;
       given = world.given + 1;
     }) (notes ++ note_of notes z ∷ []) (behind (place_of z))
-given_from {stands} s world notes z rest {from} {to} {wires} {ports} {waiting}
+given_from {stands} {s} {world} {notes} z rest {from} {to} {wires} {ports} {waiting}
     {stored} old settled none put given awaited
     taken =
     let hs = happenings s.network notes in
@@ -460,7 +473,7 @@ given_from {stands} s world notes z rest {from} {to} {wires} {ports} {waiting}
         steady = old.steady;
         precise = old.precise;
         frontier = then_;
-        run = first_is_next s notes z rest from to world.now old.run are none;
+        run = first_is_next notes old.run are none;
         of_now = λ p b. over p (old.of_now p b);
         not_later =
             λ p b. rw (are.of_now z (inl refl)) at (before_next_time p (time_of z)
@@ -504,7 +517,7 @@ given_from {stands} s world notes z rest {from} {to} {wires} {ports} {waiting}
           λ b.
               let is = device_in s.network device lt in
               let source = IsSource.ending (units_of world.now) device is.0 is.1 ((old.ended (units_of world.now)).1 (ended, refl)) in
-              (old.shown device lt ended).0 (worked_yet giving number (clock_place world.now device) source b),
+              (old.shown device lt ended).0 (worked_yet giving number source b),
           λ less. are.not_past z (inl refl) (clock_place world.now device) ((old.shown device lt ended).1 less),
         );
       },
@@ -515,4 +528,4 @@ given_from {stands} s world notes z rest {from} {to} {wires} {ports} {waiting}
 pub given_step : {C M : Type 0} (reading : C → ℕ → ℕ) (stands : M → Network → DeviceId → Node → Type 0)
     → GivenStep reading stands
 given_step reading stands s world notes z rest wires ports waiting stored old settled none put given awaited taken =
-    given_from s world notes z rest (over_of old) settled none put given awaited taken
+    given_from z rest (over_of old) settled none put given awaited taken

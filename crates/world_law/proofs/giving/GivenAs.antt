@@ -29,7 +29,8 @@ module _ {s : Scenario} {hs : List Happening} {z g : Happening} {rest : List Hap
     | inr no_it ↦ no_it
     | inl is ↦
         let are = x.giving.are in
-        absurd (not_over (place_of y) (are.not_past z (inl refl) (place_of y) (are.worked y (inr i) is)) (first_before z rest are y i))
+        absurd (not_over (place_of y) (are.not_past z (inl refl) (place_of y) (are.worked y (inr i) is))
+        (first_before are y i))
   ]
 
   from_two : 2 ≤ rank z.note.body
@@ -100,7 +101,7 @@ module _ {s : Scenario} {hs : List Happening} {z g : Happening} {rest : List Hap
   pub coming_then : AreComing s (hs ++ g ∷ []) rest (behind (place_of z)) now
   coming_then =
       let are = x.giving.are in
-      let first = first_before z rest are in
+      let first = first_before are in
       let each : (front back : List Happening) (y : Happening) → rest ≡ front ++ y ∷ back
       → IsDueAs s (hs ++ g ∷ front) y × IsWorkedOff s (hs ++ g ∷ front) (behind (place_of z)) y = λ front back y e.
       let whole : z ∷ rest ≡ (z ∷ front) ++ y ∷ back = rw e in
@@ -127,8 +128,13 @@ module _ {s : Scenario} {hs : List Happening} {z g : Happening} {rest : List Hap
             rw parts at worked in
             let it = of_it (hs ++ g ∷ front) y off.0 off.1 off.3 over in
             let was = back_to front back y e it.0 it.1 (rw parts at due) off in
-            let found = are.full (z ∷ front) back y (rw e) all none yet was.0
-            (was.1.0, was.1.1, was.1.2, worked_by_then x.giving (z ∷ front) (all_over x.giving front back e) was.1.0 was.1.2 was.1.3) in
+            let found = are.full (z ∷ front) back y (rw e) all none yet was.0 (
+              was.1.0,
+              was.1.1,
+              was.1.2,
+              worked_by_then x.giving (z ∷ front) (all_over x.giving front back e) was.1.2
+                  was.1.3,
+            ) in
             elim found.1 [
               | inl same ↦ absurd (never_self (place_of y) (subst (λ p. IsBefore p (place_of y)) (sym (ap place_of same) ∙ found.2) over))
               | inr i ↦ (found.0, i, found.2)

@@ -106,13 +106,13 @@ module _ {s : Scenario} {hs : List Happening} {z : Happening} {rest : List Happe
   all_over front back e y (inr i) =
       let there : IsIn y rest = rw e (in_left y front back i) in (
         g.are.of_now y (inr there) ∙ sym (g.are.of_now z (inl refl)),
-        λ b. never_self (place_of z) (chain (place_of z) (place_of y) (place_of z) (first_before z rest g.are y there) b),
+        λ b. never_self (place_of z) (chain (place_of z) (place_of y) (place_of z) (first_before g.are y there) b),
       )
 
   -- a source up to the place of the first, by others of its time that are not before it, is worked off
-  pub worked_by_then : (zs : List Happening) → AreOver z zs → (w : List ℕ) → IsSource s (hs ++ zs) w
+  pub worked_by_then : (zs : List Happening) → AreOver z zs → {w : List ℕ} → IsSource s (hs ++ zs) w
       → IsBefore w (behind (place_of z)) → IsBefore w to
-  worked_by_then zs over w source under =
+  worked_by_then zs over {w} source under =
       let le = up_to_place w (place_of z) under in
       let at = g.are.of_now z (inl refl) in
       elim (source_back hs zs (time_of z) (rank z.note.body) (key (members_in z) z.note.body) g.forward

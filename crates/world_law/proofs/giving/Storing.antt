@@ -8,9 +8,10 @@ last_one true o x = refl
 last_one false o x = refl
 
 -- one more record is the last taking, where it is one
-pub last_then : (hs : List Happening) (h : Happening) (device : DeviceId) (vl : VlId) (b : Bool) → is_accepted device vl h.note.body ≡ b
+pub last_then : (hs : List Happening) (h : Happening) (device : DeviceId) (vl : VlId) {b : Bool} → is_accepted device vl
+    h.note.body ≡ b
     → last_taking (hs ++ h ∷ []) device vl ≡ (if b then Some h else last_taking hs device vl)
-last_then hs h device vl b is = grind (arith, is_accepted, last_or, filter-append, last_more, filter, last_one)
+last_then hs h device vl is = grind (arith, is_accepted, last_or, filter-append, last_more, filter, last_one)
 
 -- a record by which no frame is taken
 pub stored_still : {hs : List Happening} (h : Happening) {stored : List Stored}
@@ -19,8 +20,14 @@ pub stored_still : {hs : List Happening} (h : Happening) {stored : List Stored}
 stored_still {hs} h none m = record {
   real = λ e i.
       let o = m.real e i in
-      record { taking = o.taking; last = last_then hs h e.device e.vl false (none e.device e.vl) ∙ o.last; number = o.number; octets = o.octets };
-  all = λ device vl taking last. m.all device vl taking (sym (last_then hs h device vl false (none device vl)) ∙ last);
+      record {
+        taking = o.taking;
+        last = last_then hs h e.device e.vl (none e.device e.vl) ∙ o.last;
+        number =
+            o.number;
+        octets = o.octets;
+      };
+  all = λ device vl taking last. m.all device vl taking (sym (last_then hs h device vl (none device vl)) ∙ last);
 }
 
 -- a record that is given
@@ -32,8 +39,14 @@ stored_then {hs} {h} {number} {new} is m t = record { real = real; all = all }
     real e i = elim (t.real e i) [
       | inl o ↦
           let it = m.real e o.0 in
-          record { taking = it.taking; last = last_then hs h e.device e.vl false o.1 ∙ it.last; number = it.number; octets = it.octets }
-      | inr n ↦ record { taking = h; last = last_then hs h e.device e.vl true n.0; number = n.1 ∙ is; octets = n.2 }
+          record {
+            taking = it.taking;
+            last = last_then hs h e.device e.vl o.1 ∙ it.last;
+            number = it.number;
+            octets =
+                it.octets;
+          }
+      | inr n ↦ record { taking = h; last = last_then hs h e.device e.vl n.0; number = n.1 ∙ is; octets = n.2 }
     ]
 
     all : (device : DeviceId) (vl : VlId) (taking : Happening) → last_taking (hs ++ h ∷ []) device vl ≡ Some taking
@@ -41,7 +54,7 @@ stored_then {hs} {h} {number} {new} is m t = record { real = real; all = all }
     all device vl taking last = elim (cases_Bool (is_accepted device vl h.note.body)) [
       | inl taken ↦ t.all device vl taken
       | inr not ↦
-          let it = m.all device vl taking (sym (last_then hs h device vl false not) ∙ last) in
+          let it = m.all device vl taking (sym (last_then hs h device vl not) ∙ last) in
           let kept : is_accepted it.0.device it.0.vl h.note.body ≡ false =
           rw it.2 (rw it.3 not) in
           (it.0, t.kept it.0 it.1 kept, it.2, it.3)

@@ -246,41 +246,43 @@ module _ (network : Network) where
       let bad = of_kind_three low network (doing (correcting cycle))
       (behind (doing (correcting cycle)) is.0.pending is.0.due) in absurd (omega arith)
 
-dispatches : (network : Network) (device : DeviceId) (moment : Moment) (node : Node) (done : List Act) (new : Node) → IsInRange network → KeepsRules network
+dispatches : {network : Network} (device : DeviceId) (moment : Moment) (node : Node) (done : List Act) (new : Node)
+    → IsInRange network → KeepsRules network
     → IsFromZero network device node → AreCalled network device moment node done new → AreFrom network device moment 3 node → AreDispatches network device done
 unfolding IsDistinct
-dispatches network device moment node [] new range rules zero_on are from = record { many = refl; each = tt; distinct = tt }
-dispatches network device moment node (acts.Dispatch row cycle ∷ more) new range rules zero_on (mid, may, is, rest) from =
+dispatches device moment node [] new range rules zero_on are from = record { many = refl; each = tt; distinct = tt }
+dispatches {network} device moment node (acts.Dispatch row cycle ∷ more) new range rules zero_on (mid, may, is, rest)
+    from =
     let frame = is.0.pending.1.own.1 in
     let grow : AreBehindRow network device moment (dispatch_order network row) mid =
     λ task p due. acts_grow network device node moment (acts.Dispatch row cycle) mid task range rules zero_on may is p due in
     let zero_mid = still_from_zero network device node moment (acts.Dispatch row cycle) mid is zero_on in
-    let others = dispatches network device moment mid more new range rules zero_mid rest
+    let others = dispatches device moment mid more new range rules zero_mid rest
     (λ task p due. of_kind_three (dispatch_order network row) network task (grow task p due)) in
     let many = others.many in
     record {
       many = omega arith;
-      each = (row_of device frame.is frame.leaves, others.each);
+      each = (row_of frame.is frame.leaves, others.each);
       distinct = (
         apart_all network row.0 (rows_in more) (behind_rows network device moment mid more new (dispatch_order network row) range rules zero_mid rest grow),
         others.distinct,
       );
     }
-dispatches network device moment node (acts.Send frame ∷ more) new range rules zero_on (mid, may, is, rest) from =
+dispatches device moment node (acts.Send frame ∷ more) new range rules zero_on (mid, may, is, rest) from =
     let bad = from (doing (sending is.0)) is.1.pending is.1.due in absurd (omega arith)
-dispatches network device moment node (acts.Emit sent heard ∷ more) new range rules zero_on (mid, may, is, rest) from =
+dispatches device moment node (acts.Emit sent heard ∷ more) new range rules zero_on (mid, may, is, rest) from =
     let bad = from (emitting sent) is.0.pending is.0.due in absurd (omega arith)
-dispatches network device moment node (acts.Correct cycle verdict ∷ more) new range rules zero_on (mid, may, is, rest) from =
+dispatches device moment node (acts.Correct cycle verdict ∷ more) new range rules zero_on (mid, may, is, rest) from =
     let bad = from (doing (correcting cycle)) is.0.pending is.0.due in absurd (omega arith)
 
-module _ (network : Network) (device : DeviceId) (moment : Moment) where
+module _ {network : Network} (device : DeviceId) (moment : Moment) where
   -- at most 256 acts, where no emission or sending is due
   few_behind : (node : Node) (done : List Act) (new : Node) → IsInRange network → KeepsRules network
       → IsFromZero network device node → AreCalled network device moment node done new
       → AreFrom network device moment 2 node → length done ≤ 256
   few_behind node [] new range rules zero_on are from = omega arith
   few_behind node (acts.Dispatch row cycle ∷ more) new range rules zero_on are from =
-      let all = dispatches network device moment node (acts.Dispatch row cycle ∷ more) new range rules zero_on are
+      let all = dispatches device moment node (acts.Dispatch row cycle ∷ more) new range rules zero_on are
       (from_first moment are.2.0) in
       let few = few_rows network device (rows_in (acts.Dispatch row cycle ∷ more)) rules all.distinct all.each in
       let many = all.many in
@@ -323,7 +325,7 @@ module _ (network : Network) (device : DeviceId) (moment : Moment) where
           absurd (sent_behind (amount sent.opened)
           (acts_grow network device node moment (acts.Send frame) mid (emitting sent) range rules zero_on may is p due))
       behind (doing (sending n)) p due =
-          absurd (nothing_sent_behind_sending network device node moment frame mid n range rules may is p due)
+          absurd (nothing_sent_behind_sending frame mid n range rules may is p due)
       behind (doing (correcting n)) p due = omega arith
       behind (doing (dispatching row n)) p due = omega arith
   few_then node (acts.Dispatch row cycle ∷ more) new range rules zero_on are from =
@@ -380,7 +382,7 @@ opened_behind a b x y (inl lt) = absurd (omega arith)
 opened_behind a b x y (inr (e, inl lt)) = omega (arith, ints)
 opened_behind a b x y (inr (e, inr more)) = absurd more.1
 
-module _ (network : Network) (device : DeviceId) (moment : Moment) where
+module _ {network : Network} (device : DeviceId) (moment : Moment) where
   rising : (node : Node) (done : List Act) (new : Node) → IsInRange network → KeepsRules network
       → IsFromZero network device node → AreCalled network device moment node done new → AreRising (emitted_in done)
   rising node (acts.Emit sent heard ∷ acts.Emit next by ∷ more) new range rules zero_on (mid, may, is, rest) =
@@ -402,13 +404,13 @@ module _ (network : Network) (device : DeviceId) (moment : Moment) where
       (still_from_zero network device node moment (acts.Emit sent heard) mid is zero_on) rest in
       omega arith
   few_others node (acts.Send frame ∷ more) new range rules zero_on are =
-      few_then network device moment node (acts.Send frame ∷ more) new range rules zero_on are
+      few_then device moment node (acts.Send frame ∷ more) new range rules zero_on are
       (from_first moment are.2.1)
   few_others node (acts.Correct cycle verdict ∷ more) new range rules zero_on are =
-      few_then network device moment node (acts.Correct cycle verdict ∷ more) new range rules zero_on are
+      few_then device moment node (acts.Correct cycle verdict ∷ more) new range rules zero_on are
       (λ task p due. let ge = from_first moment are.2.0 task p due in omega arith)
   few_others node (acts.Dispatch row cycle ∷ more) new range rules zero_on are =
-      few_then network device moment node (acts.Dispatch row cycle ∷ more) new range rules zero_on are
+      few_then device moment node (acts.Dispatch row cycle ∷ more) new range rules zero_on are
       (λ task p due. let ge = from_first moment are.2.0 task p due in omega arith)
 
 -- what a device does at one moment is not much
@@ -416,6 +418,6 @@ pub acts_are_few : ActsAreFew
 acts_are_few network device moment node done new range rules zero_on may acts_are =
     let are = so_called network device moment done new range rules may acts_are in
     let few = few_are_emitted network node moment.reading.0 (emitted_in done) range (each_due network device moment node done new are)
-    (rising network device moment node done new range rules zero_on are) in
-    let others = few_others network device moment node done new range rules zero_on are in
+    (rising device moment node done new range rules zero_on are) in
+    let others = few_others device moment node done new range rules zero_on are in
     omega arith

@@ -20,10 +20,12 @@ places_many : (p : Row → Bool) (k : ℕ) (rs : List Row) → length (places p 
 places_many p k [] = refl
 places_many p k (r ∷ rs) = grind (arith, cases_Bool, (places_many p (suc k) rs))
 
-passing : (p : Row → Bool) (k i : ℕ) (rs : List Row) (r : Row) → slice_get rs i ≡ Some r → p r ≡ true → list_any (eqn (k + i)) (places p k rs) ≡ true
-passing p k i [] r there pass = absurd cc
-passing p k zero (x ∷ rs) r there pass = grind (arith, list_any, or_left, eq-eqb)
-passing p k (suc i) (x ∷ rs) r there pass = grind (arith, list_any, cases_Bool, or_right, (passing p (suc k) i rs r there pass))
+passing : (p : Row → Bool) (k i : ℕ) (rs : List Row) {r : Row} → slice_get rs i ≡ Some r → p r ≡ true → list_any
+    (eqn (k + i)) (places p k rs) ≡ true
+passing p k i [] there pass = absurd cc
+passing p k zero (x ∷ rs) there pass = grind (arith, list_any, or_left, eq-eqb)
+passing p k (suc i) (x ∷ rs) {r} there pass = grind
+    (arith, list_any, cases_Bool, or_right, (passing p (suc k) i rs there pass))
 
 member_has : (P : ℕ → Type 0) (xs : List ℕ) (q : ℕ) → AllByRecursion P xs → list_any (eqn q) xs ≡ true → P q
 member_has P [] q all at = absurd cc
@@ -39,9 +41,9 @@ pub record IsRowOf (network : Network) (device : DeviceId) (n : ℕ) : Type 0 wh
   pub there : slice_get network.row n ≡ Some row
   pub leaves : leaves network device row ≡ true
 
-pub row_of : {network : Network} (device : DeviceId) {n : ℕ} {entry : Entry} → IsEntry network n entry
+pub row_of : {network : Network} {device : DeviceId} {n : ℕ} {entry : Entry} → IsEntry network n entry
     → source_of entry ≡ device → IsRowOf network device n
-row_of device is from = grind (arith, option_map_or, eq-eqb, source_of)
+row_of is from = grind (arith, option_map_or, eq-eqb, source_of)
 
 -- different ones are at most 256
 pub few_rows : (network : Network) (device : DeviceId) (rows : List ℕ) → KeepsRules network → IsDistinct (λ a b. a == b) rows
@@ -51,7 +53,8 @@ few_rows network device rows rules distinct each =
     let few = rules RowsOfDevice device.0 in
     let within = length-le_from_is_member numbers_equal rows (places p 0 network.row) distinct
     (λ q at. let it = member_has (IsRowOf network device) rows q each at in
-    subst (λ n. list_any (eqn n) (places p 0 network.row) ≡ true) (omega arith) (passing p 0 q network.row it.row it.there it.leaves)) in
+    subst (λ n. list_any (eqn n) (places p 0 network.row) ≡ true) (omega arith)
+    (passing p 0 q network.row it.there it.leaves)) in
     let many = places_many p 0 network.row in
     let counted = length-filter p network.row in
     omega arith

@@ -31,8 +31,9 @@ wide range rules =
     omega (arith, ints, whole)
 
 -- what is due and has not waited for as long as the precision
-due_shows : (v a reading p : ℤ) (precision : ℕ) → p ≡ pos precision → (v -ℤ a) ≤ℤ reading → reading <ℤ ((v -ℤ a) +ℤ p) → ShowsAt (reading +ℤ a) v precision
-due_shows v a reading p precision whole reached late = record {
+due_shows : (v a reading : ℤ) {p : ℤ} (precision : ℕ) → p ≡ pos precision → (v -ℤ a) ≤ℤ reading → reading <ℤ
+    ((v -ℤ a) +ℤ p) → ShowsAt (reading +ℤ a) v precision
+due_shows v a reading precision whole reached late = record {
   least = omega (arith, ints);
   most =
       omega (arith, ints, whole);
@@ -60,16 +61,16 @@ rows_apart row other with is at apart none = grind (arith, either_way, third_of,
 
 -- ---- what was done is not pending
 
-module _ (network : Network) (device : DeviceId) (node new : Node) (moment : Moment) where
+module _ (network : Network) (device : DeviceId) (node : Node) {new : Node} (moment : Moment) where
   gone_deed : (deed : ClockTask) → new ≡ called moment acting (with_done node deed)
       → IsPending network device new (doing deed) → ⊥
   gone_deed deed is =
       rw is (λ p. p.1.not_yet (Contains-append_right node.done (deed ∷ []) deed (in_head deed [])))
 
-  gone_emission : (sent : Compressed) (heard : Ripe) → heard ≡ own_hearing network device node sent
+  gone_emission : (sent : Compressed) {heard : Ripe} → heard ≡ own_hearing network device node sent
       → new ≡ called moment acting (after_emission network device node moment sent heard)
       → IsPending network device new (emitting sent) → ⊥
-  gone_emission sent heard so is =
+  gone_emission sent so is =
       let whole = is
       ∙ ap (λ r. called moment acting (after_emission network device node moment sent r)) so in
       let there =
@@ -86,7 +87,7 @@ module _ (network : Network) (device : DeviceId) (node new : Node) (moment : Mom
 
 -- ---- what is behind each act, of the tasks that were pending before
 
-module _ (network : Network) (device : DeviceId) (node new : Node) (reading : ℤ) where
+module _ {network : Network} {device : DeviceId} {node : Node} (new : Node) {reading : ℤ} where
   behind_emission : (sent : Compressed) (task : Task) → IsFromZero network device node
       → IsFirstTask network device node reading (emitting sent) → (IsPending network device new (emitting sent) → ⊥)
       → IsPending network device new task → IsPending network device node task
@@ -173,16 +174,16 @@ not_ahead : (reading adjustment value : ℤ) → (reading +ℤ adjustment) <ℤ 
 not_ahead reading adjustment value ahead due = omega (arith, ints)
 
 module _ (network : Network) (device : DeviceId) (node : Node) (moment : Moment) where
-  no_more_points : (heard : Summary) (cycle n : ℕ) (verdict : Verdict) → next_point node.standing ≡ Some cycle
+  no_more_points : (heard : Summary) {cycle : ℕ} (n : ℕ) (verdict : Verdict) → next_point node.standing ≡ Some cycle
       → next_point node.standing ≡ Some n → IsPending network device
       (called moment acting (after_correction node moment heard cycle verdict)) (doing (correcting n))
       → reading_for network (called moment acting (after_correction node moment heard cycle verdict))
       (doing (correcting n)) ≤ℤ moment.reading.0 → ⊥
-  no_more_points heard cycle n (Corrected by) next own p due =
+  no_more_points heard n (Corrected by) next own p due =
       not_ahead moment.reading.0 _ (correction_value network n) p.1.ahead due
-  no_more_points heard cycle n SyncClique next own p due = integrating_point (node.standing.number + 1) n p.1.own
-  no_more_points heard cycle n AsyncClique next own p due = integrating_point (node.standing.number + 1) n p.1.own
-  no_more_points heard cycle n Cleared next own p due =
+  no_more_points heard n SyncClique next own p due = integrating_point (node.standing.number + 1) n p.1.own
+  no_more_points heard n AsyncClique next own p due = integrating_point (node.standing.number + 1) n p.1.own
+  no_more_points heard {cycle} n Cleared next own p due =
       p.1.not_yet (rw (sym (same_next (next_point node.standing) cycle n next own))
       (Contains-append_right node.done (correcting cycle ∷ []) (correcting cycle) (in_head (correcting cycle) [])))
 
@@ -197,11 +198,11 @@ module _ (network : Network) (device : DeviceId) (node : Node) (moment : Moment)
       let a = node.standing.adjustment.0 in
       let whole = whole_precision range in
       let first =
-      due_shows (correction_value network number) a moment.reading.0 network.precision.0 (amount network.precision)
+      due_shows (correction_value network number) a moment.reading.0 (amount network.precision)
       whole one
       (may.in_time (doing (correcting number)) corrects) in
       let second =
-      due_shows (value_of network (dispatching row cycle)) a moment.reading.0 network.precision.0
+      due_shows (value_of network (dispatching row cycle)) a moment.reading.0
       (amount network.precision) whole two
       (may.in_time (doing (dispatching row cycle)) dispatches) in
       apart_so (amount network.correction) number cycle (row_apart rules frame.is) (omega arith) (precise range) first
@@ -219,7 +220,7 @@ module _ (network : Network) (device : DeviceId) (node : Node) (moment : Moment)
   behind_correction heard cycle verdict (doing (sending n)) range rules may first p due q was =
       first.first (doing (sending n)) q was (inl (omega arith))
   behind_correction heard cycle verdict (doing (correcting n)) range rules may first p due q was =
-      no_more_points heard cycle n verdict first.pending.1.own q.1.own p due
+      no_more_points heard n verdict first.pending.1.own q.1.own p due
   behind_correction heard cycle verdict (doing (dispatching row n)) range rules may first p due q was =
       no_row_due cycle n row range rules may first.pending first.due q was
 
@@ -249,7 +250,7 @@ two_sendings {network} node reading m n range rules lt late due =
     let size = wide range rules in
     omega (arith, ints)
 
-module _ (network : Network) (device : DeviceId) (node : Node) (moment : Moment) where
+module _ {network : Network} {device : DeviceId} {node : Node} {moment : Moment} where
   -- where a device has sent the frame of a cycle, that of no other is due at the moment
   pub nothing_sent_behind_sending : (frame : Pcf) (new : Node) (n : ℕ) → IsInRange network → KeepsRules network
       → MayCall network device node moment acting → IsActOf network device node moment (acts.Send frame) new
@@ -266,7 +267,7 @@ module _ (network : Network) (device : DeviceId) (node : Node) (moment : Moment)
           (doing (sending n)) ≤ℤ moment.reading.0
           → (n ≡ cycle) ⊎ ((n < cycle) ⊎ (cycle < n)) → ⊥
       was q here (inl same) =
-          gone_deed network device node new moment (sending cycle) is
+          gone_deed network device node moment (sending cycle) is
           (rw same at p)
       was q here (inr (inl lt)) =
           two_sendings node moment.reading.0 n cycle range rules lt (may.in_time (doing (sending n)) q) first.due
@@ -282,16 +283,16 @@ module _ (network : Network) (device : DeviceId) (node : Node) (moment : Moment)
       → reading_for network node task ≤ℤ moment.reading.0
       → IsBefore (order_of_act network act) (order_of network task)
   grown (acts.Emit sent heard) new task range rules zero_on may (first, so, is) p due q was =
-      behind_emission network device node new moment.reading.0 sent task zero_on first
-      (gone_emission network device node new moment sent heard so is) p q was
+      behind_emission new sent task zero_on first
+      (gone_emission network device node moment sent so is) p q was
   grown (acts.Send frame) new task range rules zero_on may (cycle, first, of_frame, is) p due q was =
-      rw (ap (λ (f : Pcf). f.cycle) of_frame) (behind_sending network device node new moment.reading.0 cycle task first
-      (gone_deed network device node new moment (sending cycle) is) p q was)
+      rw (ap (λ (f : Pcf). f.cycle) of_frame) (behind_sending new cycle task first
+      (gone_deed network device node moment (sending cycle) is) p q was)
   grown (acts.Correct cycle verdict) new task range rules zero_on may is p due q was =
       absurd (nothing_behind_correction network device node moment cycle verdict new task range rules may is p due)
   grown (acts.Dispatch row cycle) new task range rules zero_on may (first, is) p due q was =
       behind_dispatch new row cycle task range rules may first
-      (gone_deed network device node new moment (dispatching row cycle) is) p q was
+      (gone_deed network device node moment (dispatching row cycle) is) p q was
 
 -- where a device has acted, each task that is still due at the moment stands behind what it did
 pub acts_grow : ActsGrow
@@ -299,7 +300,7 @@ acts_grow network device node moment act new task range rules zero_on may is p d
     elim (acted network device node moment act new may (wide range rules) is task p) [
       | inr far ↦ absurd (omega (arith, ints))
       | inl old ↦
-          grown network device node moment act new task range rules zero_on may is p due old.0 (rw old.1 at due)
+          grown act new task range rules zero_on may is p due old.0 (rw old.1 at due)
     ]
 
 -- The order of what a device does is that of the places where its tasks stand.

@@ -57,9 +57,9 @@ relative_up_to from k [] all = tt
 relative_up_to from k (q ∷ qs) all = ((omega (arith, ints, all.0.0), omega (arith, ints, all.0.1)), relative_up_to from k qs all.1)
 
 -- a list of points that begins with the opener and lies up to the end
-middle_from : (o : Point) (k : ℤ) (counts : List Point) (more : List Point) → pos 0 ≤ℤ k → counts ≡ o ∷ more
+middle_from : (o : Point) (k : ℤ) {counts : List Point} {more : List Point} → pos 0 ≤ℤ k → counts ≡ o ∷ more
     → AllByRecursion (LiesFrom o.reading (o.reading +ℤ k)) counts → LiesUpTo k (middle_of (relative (map (λ q. q.reading) counts)))
-middle_from o k counts more some is all =
+middle_from o k {more} some is all =
     rw is (middle_up_to k (relative (map (λ q. q.reading) (o ∷ more))) some
     (relative_up_to o.reading k (o ∷ more) (subst (AllByRecursion (LiesFrom o.reading (o.reading +ℤ k))) is all)))
 
@@ -83,7 +83,7 @@ first_span ow o ps some =
     let rest = firsts-start o (of_cycle_within o.cycle o.reading end ps) in
     let all = firsts_all (LiesFrom o.reading (o.reading +ℤ k)) held
     (rw (sym whole) (held_from o.cycle o.reading end l)) in
-    let middle = middle_from o k (firsts held) rest.0 (omega (arith, ints)) (ap firsts begins ∙ rest.1) all in
+    let middle = middle_from o k (omega (arith, ints)) (ap firsts begins ∙ rest.1) all in
     let high = middle.1 in
     record { one = least; two = most; low = middle.0; high = omega (arith, ints) }
 

@@ -81,8 +81,9 @@ module _ (s : Scenario) (hs front back : List Happening) (w : Happening) (device
       ap (borne device) (sym (append_assoc hs front back)) ∙ sym (drop_one (λ h. bears_on device h.note.body) (hs ++ front) back w misses)
       ∙ ap (borne device) (append_assoc hs front (w ∷ back))
 
-  pub left_aside : (t : ℕ) (node : Node) → IsLeft s (hs ++ (front ++ back)) device t node → IsLeft s (hs ++ (front ++ w ∷ back)) device t node
-  left_aside t node left = left_alike (hs ++ (front ++ w ∷ back)) borne_aside left
+  pub left_aside : {t : ℕ} {node : Node} → IsLeft s (hs ++ (front ++ back)) device t node → IsLeft s
+      (hs ++ (front ++ w ∷ back)) device t node
+  left_aside left = left_alike (hs ++ (front ++ w ∷ back)) borne_aside left
 
   tells_aside : (t : ℕ) → TellAlike s (hs ++ (front ++ back)) (hs ++ (front ++ w ∷ back)) device t
   tells_aside t = tell_alike s (hs ++ (front ++ back)) (hs ++ (front ++ w ∷ back)) device t borne_aside
@@ -147,7 +148,7 @@ module _ (s : Scenario) (hs front back : List Happening) (w : Happening) (device
       | inr (inl just) ↦ inr (inl (record { looking = sym (before_aside now) ∙ just.looking; other = just.other }))
       | inr (inr joining) ↦ inr (inr (joining_aside s hs front back w device joining))
     ];
-    left = left_aside k.up k.node k.left;
+    left = left_aside k.left;
     taken = k.taken ∙ frames;
     worked = worked_on _ frontier (changed_aside k.up) (λ p b. b) k.worked;
     bare = k.bare;

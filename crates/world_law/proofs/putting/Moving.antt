@@ -169,11 +169,11 @@ module _ {s : Scenario} {hs : List Happening} {from to : List ℕ} {Own : List �
     ];
   }
 
-  pub kept_moves : {M : Type 0} (stands : M → Network → DeviceId → Node → Type 0) {coming : List Happening} {now : ℕ}
+  pub kept_moves : {M : Type 0} {stands : M → Network → DeviceId → Node → Type 0} {coming : List Happening} {now : ℕ}
       {device : DeviceId} {machine : M} → (Own (now ∷ 2 ∷ []) → ⊥)
       → ((task : Task) → Own (task_place s.network now device task) → ⊥)
       → IsKept stands s hs coming from now device machine → IsKept stands s hs coming to now device machine
-  kept_moves stands {now} {device} longer other k = record {
+  kept_moves {now} {device} longer other k = record {
     node = k.node;
     is = k.is;
     sound = k.sound;
@@ -207,7 +207,7 @@ module _ {s : Scenario} {hs : List Happening} {from to : List ℕ} {Own : List �
       {device : DeviceId} {machine : M} → (Own (now ∷ 2 ∷ []) → ⊥)
       → ((task : Task) → Own (task_place s.network now device task) → ⊥)
       → IsHeld stands s hs coming from now device machine → IsHeld stands s hs coming to now device machine
-  held_moves stands longer other (inl k) = inl (kept_moves stands longer other k)
+  held_moves stands longer other (inl k) = inl (kept_moves longer other k)
   held_moves stands longer other (inr k) = inr (record {
     node = k.node;
     is = k.is;

@@ -84,8 +84,9 @@ pub record AreNear (s : Scenario) (t n : ℕ) (at : List ℕ) (put : NoteBody) (
       → before_permanence js device t link cause frame point ≡ before_permanence gs device t link cause frame point
   pub hearing : (device : DeviceId) → bears_on device put ≡ false → HearsAlike s js gs device t
 
-pub near_back : (s : Scenario) (t n : ℕ) (at : List ℕ) (put : NoteBody) (js gs : List Happening) → AreNear s t n at put js gs → AreNear s t n at put gs js
-near_back s t n at put js gs a = grind arith
+pub near_back : {s : Scenario} {t n : ℕ} {at : List ℕ} {put : NoteBody} {js gs : List Happening} → AreNear s t n at put
+    js gs → AreNear s t n at put gs js
+near_back a = grind arith
 
 -- ---- each kind
 
@@ -163,21 +164,23 @@ module _ (s : Scenario) (js gs : List Happening) (t : ℕ) (device : DeviceId) (
 pub lower_rank : (at : List ℕ) (t k r : ℕ) (us ws : List ℕ) → k < r → (IsBefore at (t ∷ r ∷ ws) → ⊥) → IsBefore at (t ∷ k ∷ us) → ⊥
 lower_rank at t k r us ws lt not b = not (chain at (t ∷ k ∷ us) (t ∷ r ∷ ws) b (inr (refl, inl lt)))
 
-dropped_near : (s : Scenario) (t n m : ℕ) (at : List ℕ) (put : NoteBody) (js gs : List Happening) (device : DeviceId) (link : LinkId) (cause : ℕ)
+dropped_near : (s : Scenario) {t n : ℕ} (m : ℕ) {at : List ℕ} {put : NoteBody} {js gs : List Happening}
+    (device : DeviceId) (link : LinkId) (cause : ℕ)
     (reason : Reason) (p : List ℕ) → AreNear s t n at put js gs → cause ≤ n → IsOwnSource s js t m (notes.Dropped device link cause reason) p
     → (IsBefore at p → ⊥) → IsDropped s js device t link cause reason → IsDropped s gs device t link cause reason
-dropped_near s t n m at put js gs device link cause reason p a le (inl o) under c =
+dropped_near s {t} {n} m {at} {put} {js} {gs} device link cause reason p a le (inl o) under c =
     inl (arrives_near s t n at put js gs device link cause _ a le (rw o.0 at under) o.1)
-dropped_near s t n m at put js gs device link cause reason p a le (inr (inl o)) under c =
+dropped_near s {t} {n} m {at} {put} {js} {gs} device link cause reason p a le (inr (inl o)) under c =
     inr (inl (o.0, (ripens_near s t n at put js gs device link cause o.0 _ a le o.1 (rw o.2 at under)).0))
-dropped_near s t n m at put js gs device link cause reason p a le (inr (inr o)) under (inl c) = grind (arith, arrives_near, lower_rank)
-dropped_near s t n m at put js gs device link cause reason p a le (inr (inr o)) under (inr (inl c)) = grind (arith, ripens_near, lower_rank, amount)
-dropped_near s t n m at put js gs device link cause reason p a le (inr (inr o)) under (inr (inr c)) =
+dropped_near s m device link cause reason p a le (inr (inr o)) under (inl c) = grind (arith, arrives_near, lower_rank)
+dropped_near s m device link cause reason p a le (inr (inr o)) under (inr (inl c)) =
+    grind (arith, ripens_near, lower_rank, amount)
+dropped_near s {t} m {js} {gs} device link cause reason p a le (inr (inr o)) under (inr (inr c)) =
     inr (inr (departs_near s js gs t device (a.first cause le) c.0, c.1))
 
 -- ---- what causes a record whose source is not behind the place
 
-module _ (s : Scenario) (n m : ℕ) (at : List ℕ) (put : NoteBody) (js gs : List Happening) (time : Units) where
+module _ {s : Scenario} {n : ℕ} (m : ℕ) {at : List ℕ} {put : NoteBody} {js gs : List Happening} (time : Units) where
   pub caused_near : (body : NoteBody) (p : List ℕ) → AreNear s (amount time) n at put js gs
       → is_at_source body ≡ false → is_follower body ≡ false
       → ((device : DeviceId) → hears device body ≡ true → bears_on device put ≡ false) → cause_of body ≤ n
@@ -208,15 +211,16 @@ module _ (s : Scenario) (n m : ℕ) (at : List ℕ) (put : NoteBody) (js gs : Li
       arrives_near s (amount time) n at put js gs device link cause _ a le
       (rw o at under) c
   caused_near (notes.Dropped device link cause reason) p a there follows free le o under c =
-      dropped_near s (amount time) n m at put js gs device link cause reason p a le o under c
+      dropped_near s m device link cause reason p a le o under c
   caused_near other p a there follows free le o under c = absurd cc
 
 -- and its own source
-pub own_near : (s : Scenario) (t n m : ℕ) (at : List ℕ) (put : NoteBody) (js gs : List Happening) (body : NoteBody) (p : List ℕ)
+pub own_near : (s : Scenario) {t n : ℕ} (m : ℕ) {at : List ℕ} {put : NoteBody} {js gs : List Happening}
+    (body : NoteBody) (p : List ℕ)
     → AreNear s t n at put js gs → cause_of body ≤ n → (IsBefore at p → ⊥) → IsOwnSource s js t m body p → IsOwnSource s gs t m body p
-own_near s t n m at put js gs (notes.Lost device link cause) p a le under (inl d) =
+own_near s {t} m {js} {gs} (notes.Lost device link cause) p a le under (inl d) =
     inl (d.0, departs_near s js gs t device (a.first cause le) d.1)
-own_near s t n m at put js gs (notes.Lost device link cause) p a le under (inr (inl d)) =
+own_near s {t} {n} m {js} {gs} (notes.Lost device link cause) p a le under (inr (inl d)) =
     let e = dispatches_same s js gs t device link cause d.0 d.1 a.before d.2 in
     inr (inl (
       d.0,
@@ -226,68 +230,68 @@ own_near s t n m at put js gs (notes.Lost device link cause) p a le under (inr (
       d.4 ∙ ap (λ n. task_place s.network t device
           (doing (dispatching (record { 0 = n }) d.1))) (sym e.1),
     ))
-own_near s t n m at put js gs (notes.Lost device link cause) p a le under (inr (inr l)) =
+own_near s {t} m {js} {gs} (notes.Lost device link cause) p a le under (inr (inr l)) =
     inr (inr (l.0, send_near s js gs t device link cause (a.first cause le) l.1))
-own_near s t n m at put js gs (notes.Dropped device link cause reason) p a le under (inl x) =
+own_near s {t} {n} m {at} {put} {js} {gs} (notes.Dropped device link cause reason) p a le under (inl x) =
     inl (x.0, arrives_near s t n at put js gs device link cause _ a le (rw x.0 at under) x.1)
-own_near s t n m at put js gs (notes.Dropped device link cause reason) p a le under (inr (inl x)) =
+own_near s {t} {n} m {at} {put} {js} {gs} (notes.Dropped device link cause reason) p a le under (inr (inl x)) =
     let r = ripens_near s t n at put js gs device link cause x.0 _ a le x.1 (rw x.2 at under) in
     inr (inl (x.0, r.0, x.2 ∙ ap (λ f. t ∷ 3 ∷ device.0 ∷ amount x.0 ∷ f.members.0 ∷ link.0 ∷ cause ∷ []) (sym r.1)))
-own_near s t n m at put js gs (notes.Dropped device link cause reason) p a le under (inr (inr x)) =
+own_near s {t} m {js} {gs} (notes.Dropped device link cause reason) p a le under (inr (inr x)) =
     inr (inr (x.0, departs_near s js gs t device (a.first cause le) x.1))
-own_near s t n m at put js gs (notes.State device state cause whys.SyncClique) p a le under o = o
-own_near s t n m at put js gs (notes.TtSent device link cause vl cycle) p a le under o =
+own_near s m (notes.State device state cause whys.SyncClique) p a le under o = o
+own_near s {t} {n} m {js} {gs} (notes.TtSent device link cause vl cycle) p a le under o =
     let e = dispatches_same s js gs t device link cause vl cycle a.before o.0 in
     (e.0, o.1 ∙ ap (λ n. task_place s.network t device (doing (dispatching (record { 0 = n }) cycle))) (sym e.1))
-own_near s t n m at put js gs other p a le under o = o
+own_near s m other p a le under o = o
 
 -- the own source of a record that is caused is a source
 pub own_source : (s : Scenario) (js : List Happening) (time : Units) (m : ℕ) (body : NoteBody) (p : List ℕ) → is_at_source body ≡ false
     → IsCaused s js time body → IsOwnSource s js (amount time) m body p → IsSource s js p
-own_source s js time m (notes.Event line what) p there c o = at_place s js p o (IsSource.befalling time line what c)
+own_source s js time m (notes.Event line what) p there c o = at_place s js o (IsSource.befalling time line what c)
 own_source s js time m (notes.Compressed device opened at cycle members verdict) p there c o =
-    at_place s js p o (IsSource.acting (amount time) device (emitting _) (IsActing.emits _ verdict c))
+    at_place s js o (IsSource.acting (amount time) device (emitting _) (IsActing.emits _ verdict c))
 own_source s js time m (notes.Sent device cycle) p there c o =
-    at_place s js p o (IsSource.acting (amount time) device (doing (sending cycle)) (IsActing.sends cycle c))
+    at_place s js o (IsSource.acting (amount time) device (doing (sending cycle)) (IsActing.sends cycle c))
 own_source s js time m (notes.Corrected device cycle by adjustment) p there c o =
-    at_place s js p o (IsSource.acting (amount time) device (doing (correcting _))
-    (IsActing.corrects cycle (point_of_it s js (amount time) device c.corrected)))
+    at_place s js o (IsSource.acting (amount time) device (doing (correcting _))
+    (IsActing.corrects cycle (point_of_it c.corrected)))
 own_source s js time m (notes.State device state cause whys.On) p there c o =
-    at_place s js p o (IsSource.following (amount time) cause c.2.1 c.2.2)
+    at_place s js o (IsSource.following (amount time) cause c.2.1 c.2.2)
 own_source s js time m (notes.State device state cause whys.Frame) p there c o =
-    at_place s js p o (IsSource.following (amount time) cause c.1.0 c.1.1)
+    at_place s js o (IsSource.following (amount time) cause c.1.0 c.1.1)
 own_source s js time m (notes.State device state cause whys.Correction) p there c o =
-    at_place s js p o (IsSource.following (amount time) cause c.2.3 c.2.4)
+    at_place s js o (IsSource.following (amount time) cause c.2.3 c.2.4)
 own_source s js time m (notes.State device state cause whys.SyncClique) p there c o =
-    at_place s js p o.1 (IsSource.acting (amount time) device (doing (correcting _))
-    (IsActing.corrects c.2.0 (point_of_it s js (amount time) device c.2.1)))
+    at_place s js o.1 (IsSource.acting (amount time) device (doing (correcting _))
+    (IsActing.corrects c.2.0 (point_of_it c.2.1)))
 own_source s js time m (notes.State device state cause whys.AsyncClique) p there c o =
-    at_place s js p o.1 (IsSource.acting (amount time) device (doing (correcting _))
-    (IsActing.corrects c.2.0 (point_of_it s js (amount time) device c.2.1)))
+    at_place s js o.1 (IsSource.acting (amount time) device (doing (correcting _))
+    (IsActing.corrects c.2.0 (point_of_it c.2.1)))
 own_source s js time m (notes.Lost device link cause) p there c (inl o) =
-    at_place s js p o.0 (IsSource.departing (amount time) device link cause
-    (departure_of_it s js (amount time) device o.1))
+    at_place s js o.0 (IsSource.departing (amount time) device link cause
+    (departure_of_it o.1))
 own_source s js time m (notes.Lost device link cause) p there c (inr (inl o)) =
-    at_place s js p o.4 (IsSource.acting (amount time) device (doing (dispatching (record { 0 = o.2.place }) o.1))
+    at_place s js o.4 (IsSource.acting (amount time) device (doing (dispatching (record { 0 = o.2.place }) o.1))
     (IsActing.dispatches link cause o.0 o.1 o.2))
 own_source s js time m (notes.Lost device link cause) p there c (inr (inr o)) =
-    at_place s js p o.0 (IsSource.following (amount time) cause o.1.event o.1.is)
+    at_place s js o.0 (IsSource.following (amount time) cause o.1.event o.1.is)
 own_source s js time m (notes.TtSent device link cause vl cycle) p there c o =
-    at_place s js p o.1 (IsSource.acting (amount time) device (doing (dispatching (record { 0 = o.0.place }) cycle))
+    at_place s js o.1 (IsSource.acting (amount time) device (doing (dispatching (record { 0 = o.0.place }) cycle))
     (IsActing.dispatches link cause vl cycle o.0))
 own_source s js time m (notes.Accepted device link cause vl cycle) p there c o =
-    at_place s js p o (IsSource.arriving (amount time) device link cause (arrival_of_it s js (amount time) device c))
+    at_place s js o (IsSource.arriving (amount time) device link cause (arrival_of_it c))
 own_source s js time m (notes.Delivered device link cause vl cycle) p there c o =
-    at_place s js p o (IsSource.arriving (amount time) device link cause (arrival_of_it s js (amount time) device c))
+    at_place s js o (IsSource.arriving (amount time) device link cause (arrival_of_it c))
 own_source s js time m (notes.Dropped device link cause reason) p there c (inl o) =
-    at_place s js p o.0 (IsSource.arriving (amount time) device link cause
-    (arrival_of_it s js (amount time) device o.1))
+    at_place s js o.0 (IsSource.arriving (amount time) device link cause
+    (arrival_of_it o.1))
 own_source s js time m (notes.Dropped device link cause reason) p there c (inr (inl o)) =
-    at_place s js p o.2 (IsSource.ripening (amount time) device link cause o.0
+    at_place s js o.2 (IsSource.ripening (amount time) device link cause o.0
     (ripening_of_it s js (amount time) device link cause o.0 _ o.1))
 own_source s js time m (notes.Dropped device link cause reason) p there c (inr (inr o)) =
-    at_place s js p o.0 (IsSource.departing (amount time) device link cause
-    (departure_of_it s js (amount time) device o.1))
+    at_place s js o.0 (IsSource.departing (amount time) device link cause
+    (departure_of_it o.1))
 own_source s js time m other p there c o = absurd cc
 
 -- ---- causes are given
@@ -299,7 +303,7 @@ AreFrom now r zs = (z : Happening) → IsIn z zs → (time_of z ≡ now) × (r �
 rank_up_to : (t r k : ℕ) (more ws : List ℕ) → (IsBefore (t ∷ r ∷ more) (t ∷ k ∷ ws) → ⊥) → k ≤ r
 rank_up_to t r k more ws not = elim (cases_lt r k) [ inl lt ↦ absurd (not (inr (refl, inl lt))) | inr le ↦ le ]
 
-module _ (s : Scenario) (hs zs : List Happening) (now r : ℕ) where
+module _ {s : Scenario} (hs zs : List Happening) (now r : ℕ) where
   departs_given : {t : ℕ} {device : DeviceId} {link : LinkId} {cause : ℕ} {is : Departure} → AreFrom now r zs → 8 ≤ r
       → Departs s (hs ++ zs) device t link cause is → cause ≤ length hs
   departs_given {device} {link} {cause} from high d =
@@ -362,25 +366,25 @@ module _ (s : Scenario) (hs zs : List Happening) (time : Units) where
   pub known_cause : (body : NoteBody) → IsForward s → IsFounded place_of (IsDue s) hs → AreFrom (amount time) 8 zs
       → 8 ≤ rank body → IsCaused s (hs ++ zs) time body → cause_of body ≤ length hs
   known_cause (notes.Left device link cause clock) forward founded late high c =
-      departs_given s hs zs (amount time) 8 late (omega arith) c
+      departs_given hs zs (amount time) 8 late (omega arith) c
   known_cause (notes.Lost device link cause) forward founded late high (inl d) =
-      departs_given s hs zs (amount time) 8 late (omega arith) d
+      departs_given hs zs (amount time) 8 late (omega arith) d
   known_cause (notes.Lost device link cause) forward founded late high (inr (inl d)) =
-      dispatches_given s hs zs (amount time) 8 founded late d.2
+      dispatches_given hs zs (amount time) 8 founded late d.2
   known_cause (notes.Lost device link cause) forward founded late high (inr (inr l)) =
-      send_given s hs zs (amount time) 8 late (omega arith) l
+      send_given hs zs (amount time) 8 late (omega arith) l
   known_cause (notes.TtSent device link cause vl cycle) forward founded late high c =
-      dispatches_given s hs zs (amount time) 8 founded late c.dispatches
+      dispatches_given hs zs (amount time) 8 founded late c.dispatches
   known_cause (notes.Accepted device link cause vl cycle) forward founded late high c =
-      arrives_given s hs zs (amount time) 8 forward late c
+      arrives_given hs zs (amount time) 8 forward late c
   known_cause (notes.Delivered device link cause vl cycle) forward founded late high c =
-      arrives_given s hs zs (amount time) 8 forward late c
+      arrives_given hs zs (amount time) 8 forward late c
   known_cause (notes.Dropped device link cause reason) forward founded late high (inl a) =
-      arrives_given s hs zs (amount time) 8 forward late a
+      arrives_given hs zs (amount time) 8 forward late a
   known_cause (notes.Dropped device link cause reason) forward founded late high (inr (inl x)) =
-      ripens_given s hs zs (amount time) 8 late (omega arith) x.1
+      ripens_given hs zs (amount time) 8 late (omega arith) x.1
   known_cause (notes.Dropped device link cause reason) forward founded late high (inr (inr d)) =
-      departs_given s hs zs (amount time) 8 late (omega arith) d.0
+      departs_given hs zs (amount time) 8 late (omega arith) d.0
   known_cause other forward founded late high c = omega arith
 
 module _ (s : Scenario) (hs zs : List Happening) (time : Units) (m r : ℕ) (more : List ℕ) where
@@ -396,27 +400,27 @@ module _ (s : Scenario) (hs zs : List Happening) (time : Units) (m r : ℕ) (mor
   known_near (notes.Lost device link cause) p forward founded from late there follows (inl o) under c =
       let high = rank_up_to (amount time) r 8 more (device.0 ∷ link.0 ∷ cause ∷ [])
       (rw o.0 at under) in
-      departs_given s hs zs (amount time) r from high o.1
+      departs_given hs zs (amount time) r from high o.1
   known_near (notes.Lost device link cause) p forward founded from late there follows (inr (inl o)) under c =
-      dispatches_given s hs zs (amount time) r founded from o.2
+      dispatches_given hs zs (amount time) r founded from o.2
   known_near (notes.Lost device link cause) p forward founded from late there follows (inr (inr o)) under c =
-      send_given s hs zs (amount time) r from late o.1
+      send_given hs zs (amount time) r from late o.1
   known_near (notes.TtSent device link cause vl cycle) p forward founded from late there follows o under c =
-      dispatches_given s hs zs (amount time) r founded from c.dispatches
+      dispatches_given hs zs (amount time) r founded from c.dispatches
   known_near (notes.Accepted device link cause vl cycle) p forward founded from late there follows o under c =
-      arrives_given s hs zs (amount time) r forward from c
+      arrives_given hs zs (amount time) r forward from c
   known_near (notes.Delivered device link cause vl cycle) p forward founded from late there follows o under c =
-      arrives_given s hs zs (amount time) r forward from c
+      arrives_given hs zs (amount time) r forward from c
   known_near (notes.Dropped device link cause reason) p forward founded from late there follows (inl o) under c =
-      arrives_given s hs zs (amount time) r forward from o.1
+      arrives_given hs zs (amount time) r forward from o.1
   known_near (notes.Dropped device link cause reason) p forward founded from late there follows (inr (inl o)) under c =
       let high = rank_up_to (amount time) r 3 more (device.0 ∷ amount o.0 ∷ o.1.frame.members.0 ∷ link.0 ∷ cause ∷ [])
       (rw o.2 at under) in
-      ripens_given s hs zs (amount time) r from high o.1
+      ripens_given hs zs (amount time) r from high o.1
   known_near (notes.Dropped device link cause reason) p forward founded from late there follows (inr (inr o)) under c =
       let high = rank_up_to (amount time) r 8 more (device.0 ∷ link.0 ∷ cause ∷ [])
       (rw o.0 at under) in
-      departs_given s hs zs (amount time) r from high o.1
+      departs_given hs zs (amount time) r from high o.1
   known_near other p forward founded from late there follows o under c = grind arith
 
 -- ---- what follows a record of the instant
@@ -462,7 +466,7 @@ module _ {s : Scenario} {n : ℕ} {at : List ℕ} {put : NoteBody} {js gs : List
   pub caused_aside : {m : ℕ} {time : Units} {body : NoteBody} → AreNear s (amount time) n at put js gs → IsAsideOf s js n at put time m body p
       → IsCaused s js time body → IsCaused s gs time body
   caused_aside {m} {time} {body} a i c = elim (follower_or_not body) [
-    | inr plain ↦ caused_near s n m at put js gs time body p a i.not_there plain i.free i.few i.own i.under c
+    | inr plain ↦ caused_near m time body p a i.not_there plain i.free i.few i.own i.under c
     | inl f ↦
         rw f.is (changes_given s js gs f.device (amount time) f.state f.cause f.why a.before
         (λ h e. (h, sym (a.first f.cause (rw f.is at i.few)) ∙ e, refl, refl)) f.following
@@ -471,7 +475,7 @@ module _ {s : Scenario} {n : ℕ} {at : List ℕ} {put : NoteBody} {js gs : List
 
   pub own_aside : {m : ℕ} {time : Units} {body : NoteBody} → AreNear s (amount time) n at put js gs → IsAsideOf s js n at put time m body p
       → IsOwnSource s gs (amount time) m body p
-  own_aside {m} {time} {body} a i = own_near s (amount time) n m at put js gs body p a i.few i.under i.own
+  own_aside {m} {time} {body} a i = own_near s m body p a i.few i.under i.own
 
   -- a record that is due by the one list is due by the other
   pub due_aside : {x : Happening} → AreNear s (time_of x) n at put js gs → IsAsideOf s js n at put x.note.time (members_in x) x.note.body p

@@ -32,10 +32,11 @@ plains_given : (hs f : List Happening) (z g : Happening) → AreOne z g → plai
 plains_given hs f z g one =
     plains_parts hs (z ∷ f) ∙ (rw (ap plain one) (sym (plains_parts hs (g ∷ f))))
 
-of_now : (f : List Happening) (z : Happening) (now : ℕ) → time_of z ≡ now → ((y : Happening) → IsIn y f → time_of y ≡ now) → (y : Happening) → IsIn y (z ∷ f)
+of_now : (f : List Happening) (z : Happening) {now : ℕ} → time_of z ≡ now
+    → ((y : Happening) → IsIn y f → time_of y ≡ now) → (y : Happening) → IsIn y (z ∷ f)
     → now ≤ time_of y
-of_now f z now at others y (inl e) = let t : time_of y ≡ time_of z = ap time_of e in omega arith
-of_now f z now at others y (inr more) = omega arith
+of_now f z at others y (inl e) = let t : time_of y ≡ time_of z = ap time_of e in omega arith
+of_now f z at others y (inr more) = omega arith
 
 -- the records with the one and with the other tell the same of all up to its place; no record is put in
 pub near_given : (s : Scenario) (hs f : List Happening) (z g : Happening) (now : ℕ) → AreOne z g → time_of z ≡ now
@@ -48,7 +49,8 @@ near_given s hs f z g now one at others =
     let at_g = sym (same_time z g one) ∙ at in
     record {
       first = λ i le. numbered_prefix hs (z ∷ f) i le ∙ sym (numbered_prefix hs (g ∷ f) i le);
-      before = earlier_still now hs (z ∷ f) (of_now f z now at others) ∙ sym (earlier_still now hs (g ∷ f) (of_now f g now at_g others));
+      before = earlier_still now hs (z ∷ f) (of_now f z at others) ∙ sym
+          (earlier_still now hs (g ∷ f) (of_now f g at_g others));
       taken = λ device link cause vl under.
           sym (last_taken_plain js device now link cause vl) ∙ (rw same
           (last_taken_plain gs device now link cause vl));
@@ -108,8 +110,9 @@ pub record IsBehindIt (s : Scenario) (js : List Happening) (z y : Happening) (p 
 
 module _ (s : Scenario) (hs f : List Happening) (z g : Happening) (one : AreOne z g) (forward : IsForward s) (given : IsFounded place_of (IsDue s) hs)
     (high : 2 ≤ rank z.note.body) (from : AreFrom (time_of z) (rank z.note.body) (z ∷ f)) where
-  near_at : (t : ℕ) → t ≡ time_of z → AreNear s t (length hs) (place_of z) (notes.Event 0 End) (hs ++ z ∷ f) (hs ++ g ∷ f)
-  near_at t e =
+  near_at : {t : ℕ} → t ≡ time_of z → AreNear s t (length hs) (place_of z) (notes.Event 0 End) (hs ++ z ∷ f)
+      (hs ++ g ∷ f)
+  near_at e =
       rw e (near_given s hs f z g (time_of z) one refl (λ y i. (from y (inr i)).0))
 
   few_given : {y : Happening} {p : List ℕ} → IsBehindIt s (hs ++ z ∷ f) z y p → IsDueAs s (hs ++ z ∷ f) y → is_follower y.note.body ≡ false
@@ -123,18 +126,18 @@ module _ (s : Scenario) (hs f : List Happening) (z g : Happening) (one : AreOne 
   due_given {y} {p} b due = elim (follower_or_not y.note.body) [
     | inr plain ↦
         let few = few_given b due plain in
-        let near = near_at (time_of y) b.at in
+        let near = near_at b.at in
         record {
           same = due.same ∙ happening_alike s.network (length hs) (hs ++ z ∷ f) (hs ++ g ∷ f) y.note near.first few;
           begun = due.begun;
-          cause = caused_near s (length hs) (members_in y) (place_of z) (notes.Event 0 End) (hs ++ z ∷ f) (hs ++ g ∷ f) y.note.time y.note.body p near
+          cause = caused_near (members_in y) y.note.time y.note.body p near
               b.not_there plain (λ device yes_it. refl) few b.own b.under due.cause;
         }
     | inl x ↦ record {
       same = due.same ∙ follower_same s.network (hs ++ z ∷ f) (hs ++ g ∷ f) y.note x;
       begun = due.begun;
       cause = rw x.is (changes_given s (hs ++ z ∷ f) (hs ++ g ∷ f) x.device (time_of y) x.state x.cause x.why
-          (near_at (time_of y) b.at).before
+          (near_at b.at).before
           (numbers_given hs f z g one x.cause) x.following (rw x.is at due.cause));
     }
   ]
@@ -142,8 +145,8 @@ module _ (s : Scenario) (hs f : List Happening) (z g : Happening) (one : AreOne 
   pub own_given : {y : Happening} {p : List ℕ} → IsBehindIt s (hs ++ z ∷ f) z y p → IsDueAs s (hs ++ z ∷ f) y
       → IsOwnSource s (hs ++ g ∷ f) (time_of y) (members_in y) y.note.body p
   own_given {y} {p} b due = elim (follower_or_not y.note.body) [
-    | inr plain ↦ own_near s (time_of y) (length hs) (members_in y) (place_of z) (notes.Event 0 End) (hs ++ z ∷ f) (hs ++ g ∷ f) y.note.body p
-        (near_at (time_of y) b.at) (few_given b due plain) b.under b.own
+    | inr plain ↦ own_near s (members_in y) y.note.body p
+        (near_at b.at) (few_given b due plain) b.under b.own
     | inl x ↦ rw x.is (own_follower s (hs ++ z ∷ f) (hs ++ g ∷ f) (time_of y) (members_in y) x.device x.state x.cause
         x.why p x.following
         (rw x.is at b.own))

@@ -119,12 +119,12 @@ under_at {at} {q} (inl yet) lt = never_self at (chain at q at lt yet)
 under_at {at} (inr up) lt = never_self at (rw up at lt)
 
 -- where the cause does not follow a record of the instant, it is given
-few_at : {s : Scenario} (hs front zs : List Happening) (now r : ℕ) (more : List ℕ) {y : Happening} (q : List ℕ)
+few_at : {s : Scenario} (hs front zs : List Happening) {now : ℕ} (r : ℕ) (more : List ℕ) {y : Happening} (q : List ℕ)
     → IsForward s → 2 ≤ r → IsFounded place_of (IsDue s) hs → AreFrom now r zs → time_of y ≡ now
     → is_at_source y.note.body ≡ false → (IsBefore (now ∷ r ∷ more) q → ⊥)
     → IsOwnSource s (hs ++ zs) (time_of y) (members_in y) y.note.body q → IsDueAs s (hs ++ zs) y
     → is_follower y.note.body ≡ false → cause_of y.note.body ≤ before_it hs front
-few_at hs front zs now r more q forward late given from now_is not_there under own due plain =
+few_at hs front zs r more q forward late given from now_is not_there under own due plain =
     grind (arith, known_near, members_in, length-append)
 
 joined_there : (device : DeviceId) (body : NoteBody) → is_joined_by device body ≡ true → is_at_source body ≡ true
@@ -207,9 +207,9 @@ module _ {s : Scenario} {hs front back : List Happening} {now r : ℕ} {more : L
       elim (either_way (place_of w) (place_of y)) [ inl lt ↦ lt | inr (inl e) ↦ absurd (p.fresh y i e) | inr (inr gt) ↦ absurd (p.none y i gt) ]
 
   -- the two lists, up to some of those behind it
-  pub two_at : (t : ℕ) (c d : List Happening) → back ≡ c ++ d → t ≡ now
+  pub two_at : {t : ℕ} (c d : List Happening) → back ≡ c ++ d → t ≡ now
       → AreNear s t (before_it hs front) (now ∷ r ∷ more) w.note.body (hs ++ (front ++ c)) (hs ++ (front ++ w ∷ c))
-  two_at t c d e now_is =
+  two_at c d e now_is =
       let n = before_it hs front in
       let at = now ∷ r ∷ more in
       let inside : (y : Happening) → IsIn y c → IsIn y back = λ y i. rw e (in_left y c d i) in
@@ -253,7 +253,8 @@ module _ {s : Scenario} {hs front back : List Happening} {now r : ℕ} {more : L
           | inl f ↦ few_first s (hs ++ front) c x.note.time
               (λ h i. late_back h (rw e (in_left h c (x ∷ d) i))) f
               (rw (append_assoc hs front c) due.cause)
-          | inr plain ↦ few_at hs front (front ++ c) now r more by.0 p.forward p.late p.given from (well.of_now x (in_right x front back here)) not_there
+          | inr plain ↦ few_at hs front (front ++ c) r more by.0 p.forward p.late p.given from
+              (well.of_now x (in_right x front back here)) not_there
               (under_at by.3) by.1 due plain
         ];
         own = by.1;
@@ -294,7 +295,8 @@ module _ {s : Scenario} {hs front back : List Happening} {now r : ℕ} {more : L
             ∙ ap (λ (t : ℕ). t ∷ 6 ∷ device.0 ∷ []) now_is in
             p.apart device (rw act at before);
         few = elim (follower_or_not y.note.body) [
-          | inr plain ↦ few_at hs front (front ++ w ∷ c) now r more q p.forward p.late p.given from now_is not_there under own due plain
+          | inr plain ↦ few_at hs front (front ++ w ∷ c) r more q p.forward p.late p.given from now_is not_there under
+              own due plain
           | inl f ↦
               let ps = (hs ++ front) ++ w ∷ [] in
               let parts : js ≡ ps ++ c = sym (append_assoc hs front (w ∷ c)) ∙ sym (append_assoc (hs ++ front) (w ∷ []) c) in
@@ -333,7 +335,7 @@ module _ {s : Scenario} {hs front back : List Happening} {now r : ℕ} {more : L
             let was = well.stands (front ++ c) rest y whole in
             let by = well.by (front ++ c) rest y whole in
             let here : IsIn y back = rw it.2 (in_right y c (y ∷ rest) (inl refl)) in
-            let two = two_at (time_of y) c (y ∷ rest) it.2 (well.of_now y (in_right y front back here)) in
+            let two = two_at c (y ∷ rest) it.2 (well.of_now y (in_right y front back here)) in
             let aside = aside_back c rest y it.2 by was.1 in
             let due = due_aside two aside was.1 in
             let own = own_aside two aside in
@@ -376,8 +378,8 @@ module _ {s : Scenario} {hs front back : List Happening} {now r : ℕ} {more : L
               | inl it_follows ↦ carry.new c rest y it.2 due_c now_is it_follows.0 it_follows.1
               | inr other ↦
                   let over = all w (in_right w front (w ∷ c) (inl refl)) in
-                  let two = near_back s (time_of y) n (now ∷ r ∷ more) w.note.body (hs ++ (front ++ c)) (hs ++ (front ++ w ∷ c))
-                  (two_at (time_of y) c rest it.2 now_is) in
+                  let two = near_back
+                  (two_at c rest it.2 now_is) in
                   let aside = aside_new c rest y q it.2 over now_is under own_c other due_c in
                   let was = due_aside two aside due_c in
                   let from = own_aside two aside in

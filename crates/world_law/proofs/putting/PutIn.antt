@@ -48,5 +48,5 @@ module _ (s : Scenario) (hs : List Happening) where
   own_time t m (notes.Dropped device link cause reason) w (inr (inr o)) = (_, _, o.0, omega arith)
   own_time t m other w o = (_, _, o, omega arith)
 
-  pub at_place : (w : List ℕ) {p : List ℕ} → w ≡ p → IsSource s hs p → IsSource s hs w
-  at_place w e source = rw e source
+  pub at_place : {w : List ℕ} {p : List ℕ} → w ≡ p → IsSource s hs p → IsSource s hs w
+  at_place e source = rw e source

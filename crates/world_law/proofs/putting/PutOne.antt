@@ -86,7 +86,7 @@ pub record Follows (s : Scenario) (js : List Happening) (now : ℕ) (w : Happeni
       ⊎ ((state_before s js device now ≡ Joining) × ((cycle : ℕ) × (by : Units) × (adjustment : Units)
       × (w.note.body ≡ notes.Corrected device cycle by adjustment)))
 
-module _ (s : Scenario) (js : List Happening) (now k : ℕ) (w : Happening) where
+module _ (s : Scenario) (js : List Happening) (now k : ℕ) {w : Happening} where
   follower_of : (device : DeviceId) (state : State) (why : Why) → numbered js (suc k) ≡ Some w
       → ((line : ℕ) (what : What) → w.note.body ≡ notes.Event line what → ⊥)
       → ChangesState s js device now state (suc k) why → Follows s js now w device
@@ -209,7 +209,7 @@ module _ {s : Scenario} {hs front back : List Happening} {now r : ℕ} {more : L
     same = λ f rest y e due now_is yet. absurd yet;
     moved = λ c d y e due now_is other yet. absurd yet;
     new = λ c d y e due now_is of_rank cause.
-        let it = due_follows s (hs ++ (front ++ w ∷ c)) now (before_it hs front) w (at_number hs front c w)
+        let it = due_follows s (hs ++ (front ++ w ∷ c)) now (before_it hs front) (at_number hs front c w)
         last.no_event due now_is of_rank cause in
         absurd (elim it.2.of_it [
           | inl joins ↦ both_ways _ (last.no_join it.0.device) joins

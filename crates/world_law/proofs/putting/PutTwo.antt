@@ -86,7 +86,7 @@ module _ {s : Scenario} {hs coming settled : List Happening} {now r : ℕ} {more
   at_change : {js : List Happening} {y : Happening} → numbered js (suc (length hs)) ≡ Some leader → IsDueAs s js y
       → time_of y ≡ now → Yet y → place_of change ≡ place_of y
   at_change {js} {y} there due now_is yet =
-      let it = due_follows s js now (length hs) leader there (λ line what e. p.no_event (ap rank e)) due
+      let it = due_follows s js now (length hs) there (λ line what e. p.no_event (ap rank e)) due
       now_is yet.0 yet.1 in
       let same = some_same device it.0.device (device_of body) p.is_of (follows_device it.2) in
       ap (λ t. t ∷ 7 ∷ device.0 ∷ (length hs + 1) ∷ []) (sym now_is)
@@ -123,7 +123,7 @@ module _ {s : Scenario} {hs coming settled : List Happening} {now r : ℕ} {more
         new = λ c d y e due now_is of_rank cause.
             let no_event : (line : ℕ) (what : _) → change.note.body ≡ notes.Event line what → ⊥ = λ line what bad.
             let one = ap rank bad in omega arith in
-            let it = due_follows s (hs ++ leader ∷ (q.mid ++ change ∷ c)) now (before_it hs (leader ∷ q.mid)) change
+            let it = due_follows s (hs ++ leader ∷ (q.mid ++ change ∷ c)) now (before_it hs (leader ∷ q.mid))
             (at_number hs (leader ∷ q.mid) c change) no_event due now_is of_rank cause in
             absurd (elim it.2.of_it [
               | inl joins ↦ cc

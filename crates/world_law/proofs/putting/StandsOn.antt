@@ -51,10 +51,10 @@ module _ {C M : Type 0} {reading : C → ℕ → ℕ} {stands : M → Network �
       [ inl yet ↦ yet | inr not ↦ absurd (x.first w source not lt) ]
 
   -- and by some of those to come too
-  by_coming : IsNext old at_it → (front back : List Happening) → world.settled ≡ front ++ back → (w : List ℕ)
+  by_coming : IsNext old at_it → (front back : List Happening) → world.settled ≡ front ++ back → {w : List ℕ}
       → IsSource s (hs_of ++ front) w → IsBefore w at_it → IsBefore w old.frontier
-  by_coming x [] back e w source lt = by_given x w (rw (append-nil hs_of) at source) lt
-  by_coming x (f ∷ front) back e w source lt =
+  by_coming x [] back e {w} source lt = by_given x w (rw (append-nil hs_of) at source) lt
+  by_coming x (f ∷ front) back e {w} source lt =
       let inside : (y : Happening) → IsIn y (f ∷ front) → IsIn y world.settled =
       λ y i. rw e (in_left y (f ∷ front) back i) in
       elim (source_back hs_of (f ∷ front) world.now r more old.forward (λ y i. old.are.of_now y (inside y i))
@@ -91,7 +91,7 @@ module _ {C M : Type 0} {reading : C → ℕ → ℕ} {stands : M → Network �
         by = λ front rest z e. let was = old.are.by front rest z e in (was.0, was.1, was.2, on was.0 was.3);
         full = λ front back y e before none not due off.
             old.are.full front back y e before none (λ b. not (on (place_of y) b)) due
-            (off.0, off.1, off.2, by_coming x front back e off.0 off.2 off.3);
+            (off.0, off.1, off.2, by_coming x front back e off.2 off.3);
         begun = λ z i. on (world.now ∷ 2 ∷ []) (old.are.begun z i);
       }
 

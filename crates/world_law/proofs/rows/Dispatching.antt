@@ -79,7 +79,7 @@ dispatching_task {s} {hs} {device} {t} {later} {node} {cycle} u left has law pas
     let row = row_at d.place in
     let reached : Reaches s hs device (value_of s.network (dispatching row cycle)) later =
     rw (value_is row cycle d.row) d.reached in
-    let c = comes_so s hs device t later node u left reached in
+    let c = comes_so u left reached in
     let state = left.state ∙ not_turned_on s hs device t u.not_on ∙ sym (state_still s hs device t later u.le u.still)
     ∙ sym (not_turned_on s hs device later u.not_on_later) ∙ d.up.synchronised in
     let r : IsReaching s hs device node row d.entry cycle later = record {
@@ -96,7 +96,7 @@ dispatching_task {s} {hs} {device} {t} {later} {node} {cycle} u left has law pas
       doing (dispatching row cycle),
       (
         left.counted.broken ∙ sym u.not_broken ∙ d.up.correct,
-        undone_so s hs device t later node (dispatching row cycle) u.le has (state, has_frame r d.occurs d.at_hand) c,
+        undone_so (dispatching row cycle) u.le has (state, has_frame r d.occurs d.at_hand) c,
       ),
       c.reached,
       refl,
@@ -209,18 +209,19 @@ far_before network entry other clear =
     let long = long_for entry.vl.length entry.link.speed in
     omega arith
 
-same_link : (a b : Link) → Some a ≡ Some b → a ≡ b
-same_link a b e = cc
+same_link : {a b : Link} → Some a ≡ Some b → a ≡ b
+same_link e = cc
 
 -- the rows that leave a device by a link go by one way
-same_way : (network : Network) (link : LinkId) (l m : Link) (way other : Way) (device : DeviceId) → KeepsRules network → link_at network link ≡ Some l
+same_way : (network : Network) (link : LinkId) {l m : Link} (way other : Way) {device : DeviceId} → KeepsRules network
+    → link_at network link ≡ Some l
     → link_at network link ≡ Some m → source_by way l ≡ device → source_by other m ≡ device → way ≡ other
-same_way network link l m Up Up device rules a b c d = refl
-same_way network link l m Down Down device rules a b c d = refl
-same_way network link l m Up Down device rules a b c d =
-    absurd (ends_differ network link l rules a (c ∙ sym d ∙ (rw (same_link m l (sym b ∙ a)))))
-same_way network link l m Down Up device rules a b c d =
-    absurd (ends_differ network link l rules a (ap (λ x. x.child) (same_link l m (sym a ∙ b)) ∙ d ∙ sym c))
+same_way network link Up Up rules a b c d = refl
+same_way network link Down Down rules a b c d = refl
+same_way network link {l} {m} Up Down rules a b c d =
+    absurd (ends_differ network link rules a (c ∙ sym d ∙ (rw (same_link (sym b ∙ a)))))
+same_way network link {l} {m} Down Up rules a b c d =
+    absurd (ends_differ network link rules a (ap (λ x. x.child) (same_link (sym a ∙ b)) ∙ d ∙ sym c))
 
 -- ---- one row at an instant
 
@@ -263,7 +264,7 @@ one_row {s} {js} {device} {t} other from with {cycle} number law same d e =
     let less = close size cycle x y one two in
     let more = close size cycle y x two one in
     let links = d.by ∙ same ∙ sym e.by in
-    let ways = same_way n e.entry.row.link d.entry.link e.entry.link d.entry.row.way e.entry.row.way device law.rules
+    let ways = same_way n e.entry.row.link {l = d.entry.link} d.entry.row.way e.entry.row.way law.rules
     (rw links at d.row.link) e.row.link d.leaves e.leaves in
     let occurs = rw (sym cycles) at e.occurs in
     let a = (law.rules Periods d.entry.row.vl.0 d.entry.vl d.row.vl).0 in

@@ -45,9 +45,10 @@ pub record IsEntering (network : Network) (device : DeviceId) (entry : Entry) : 
   pub is : IsEntry network place entry
   pub target : target_of entry ≡ device
 
-entering : (network : Network) (device : DeviceId) (link : LinkId) (way : Way) (id : ℕ) (entry : Entry) → receiver_of network link way ≡ Some device
+entering : (network : Network) {device : DeviceId} (link : LinkId) (way : Way) (id : ℕ) {entry : Entry} → receiver_of
+    network link way ≡ Some device
     → entry_entering network device link id ≡ Some entry → IsEntering network device entry
-entering network device link way id entry received e =
+entering network link way id received e =
     grind (arith, option_and_then, find_at, entry_by, slice_get, link_at, and_parts, one_link, one_way, target_by, leads_to)
 
 -- ---- control frames are not taken
@@ -101,7 +102,7 @@ module _ (network : Network) (device : DeviceId) (link : LinkId) where
       by_row entry found (Some reason) e t = absurd ((none_dropped reason).0 vl cycle t)
       by_row entry found None e t =
           let so = taken_apart (is_end network device) entry.row.vl vl (cycle_at network (clock_of at)) cycle t in
-          let it = entering network device link way (field 4 2 octets) entry received found in
+          let it = entering network link way (field 4 2 octets) received found in
           let lies = in_window network at entry (length octets) (last entry.row.vl) e in
           record {
             place = it.place;
@@ -162,7 +163,7 @@ module _ (network : Network) (device : DeviceId) (link : LinkId) where
           → taken_or_fault network device at entry o ≡ arrivals.Delivered vl cycle → vl.0 < length network.vl
       by_row entry found (Some reason) t = absurd ((none_dropped reason).1 vl cycle t)
       by_row entry found None t =
-          let it = entering network device link way (field 4 2 octets) entry received found in
+          let it = entering network link way (field 4 2 octets) received found in
           rw (own (is_end network device) entry.row.vl _ t) at (slice_get_within network.vl entry.row.vl.0 entry.vl
           it.is.vl)
 

@@ -120,7 +120,7 @@ module _ (n : Network) (f g : DeviceId → ℕ → ℕ) (events more : List Even
     reach = reach_same u device a le r.reach;
   }
 
-module _ (n : Network) (f g : DeviceId → ℕ → ℕ) (events more : List Event) (hs : List Happening) (t u : ℕ)
+module _ {n : Network} {f g : DeviceId → ℕ → ℕ} {events more : List Event} (hs : List Happening) {t : ℕ} (u : ℕ)
     (device : DeviceId) where
   pub standing_same : Agree n f g events more t → u ≤ t
       → standing_before (scenario n f events) hs device u ≡ standing_before (scenario n g more) hs device u

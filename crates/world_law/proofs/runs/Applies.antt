@@ -53,7 +53,7 @@ not_both (notes.Event line what) e o = o
 not_both other e o = e
 
 module _ {n : Network} {f g : DeviceId → ℕ → ℕ} {events : List Event} {event : Event} {mark : List ℕ}
-    {ns : List Note} (may : MayBefall n f g events event mark ns) (ps : List Happening) (y : Happening) where
+    {ns : List Note} (may : MayBefall n f g events event mark ns) {ps : List Happening} {y : Happening} where
   -- what was due is due still
   due_on : IsIn y (happenings n ns) → AllBefore place_of ps (place_of y) → IsDue (scenario n f events) ps y
       → IsDue (scenario n g (events ++ event ∷ [])) ps y
@@ -69,7 +69,7 @@ module _ {n : Network} {f g : DeviceId → ℕ → ℕ} {events : List Event} {e
           (clock_cause (scenario n f events) ps y.note.time y.note.body clock due.cause))
       | inr (inr own) ↦
           elim (may.sooner y there) [
-            | inl lt ↦ caused_same n f g events (events ++ event ∷ []) ps (time_of y) y.note.time y.note.body
+            | inl lt ↦ caused_same ps y.note.time y.note.body
                 (may.agree (time_of y) lt) (omega arith)
                 (up_to_it ps y before) own.0 due.cause
             | inr it ↦ absurd (not_both y.note.body it own.0)
@@ -131,7 +131,7 @@ module _ {n : Network} {f g : DeviceId → ℕ → ℕ} {events : List Event} {e
                 same = due.same;
                 begun = due.begun;
                 cause =
-                    caused_same n g f (events ++ event ∷ []) events ps (time_of y) y.note.time y.note.body
+                    caused_same ps y.note.time y.note.body
                     (agree_back (may.agree (time_of y) lt)) (omega arith) (up_to_it ps y before) own.0 due.cause;
               },
               may.none_left (place_of y) (inl lt),
@@ -178,11 +178,11 @@ run_goes_on_by_event n f g events event mark ns may run =
       founded = λ ps qs y e.
           let was = run.founded ps qs y e in (
             was.0,
-            due_on may ps y (rw e (in_right y ps (y ∷ qs) (inl refl))) was.0
+            due_on may (rw e (in_right y ps (y ∷ qs) (inl refl))) was.0
                 was.1,
           );
       full = λ ps qs y e before rest due lt.
-          let back = due_back may ps y before due lt in
+          let back = due_back may before due lt in
           run.full ps qs y e before rest back.0 back.1;
       within = all;
     } in

@@ -19,23 +19,29 @@ source_before w q p (inr lt) b = chain w q p lt b
 -- ---- one more record
 
 -- the record of a number is an old one, or the new one has the next number
-pub numbered_more : (hs : List Happening) (x g : Happening) (cause : ℕ) → numbered (hs ++ x ∷ []) cause ≡ Some g → (numbered hs cause ≡ Some g)
+pub numbered_more : (hs : List Happening) (x : Happening) {g : Happening} (cause : ℕ) → numbered (hs ++ x ∷ [])
+    cause ≡ Some g → (numbered hs cause ≡ Some g)
     ⊎ ((cause ≡ length hs + 1) × (x ≡ g))
-numbered_more hs x g zero e = absurd cc
-numbered_more hs x g (suc before) e = elim (pushed hs x g before e) [ inl old ↦ inl old | inr new ↦ inr (omega (arith, new.0), new.1) ]
+numbered_more hs x zero e = absurd cc
+numbered_more hs x {g} (suc before) e = elim (pushed hs x g before e) [
+  | inl old ↦ inl old
+  | inr new ↦
+      inr (omega (arith, new.0), new.1)
+]
 
-pub numbered_still : (hs : List Happening) (x g : Happening) (cause : ℕ) → numbered hs cause ≡ Some g → numbered (hs ++ x ∷ []) cause ≡ Some g
-numbered_still hs x g zero e = absurd cc
-numbered_still hs x g (suc before) e = in_front hs (x ∷ []) before g e
+pub numbered_still : (hs : List Happening) (x : Happening) {g : Happening} (cause : ℕ) → numbered hs cause ≡ Some g
+    → numbered (hs ++ x ∷ []) cause ≡ Some g
+numbered_still hs x zero e = absurd cc
+numbered_still hs x {g} (suc before) e = in_front hs (x ∷ []) before g e
 
-module _ (s : Scenario) (hs : List Happening) (x : Happening) (t : ℕ) (device : DeviceId) (link : LinkId)
-    (cause : ℕ) where
+module _ {s : Scenario} (hs : List Happening) (x : Happening) {t : ℕ} {device : DeviceId} {link : LinkId}
+    {cause : ℕ} where
   -- what arrives was under way before, or is what the new record puts on a wire
   pub arriving_more : IsArriving s (hs ++ x ∷ []) t device link cause
       → IsArriving s hs t device link cause ⊎ ((cause ≡ length hs + 1)
       × ((signal : Signal) × Arrives s x device link t signal))
   arriving_more a =
-      elim (numbered_more hs x a.putting cause a.there) [
+      elim (numbered_more hs x cause a.there) [
         | inl old ↦ inl (record { putting = a.putting; there = old; signal = a.signal; arrives = a.arrives })
         | inr new ↦ inr (new.0, (a.signal, rw new.1 a.arrives))
       ]
@@ -45,7 +51,7 @@ module _ (s : Scenario) (hs : List Happening) (x : Happening) (t : ℕ) (device 
       → IsDeparting s hs t device link cause ⊎ ((cause ≡ length hs + 1) × Gives s.network x.note.body device link
       × (t ≡ time_of x + hold_at s link (way_from s.network device link) (time_of x)))
   departing_more d =
-      elim (numbered_more hs x d.giving cause d.there) [
+      elim (numbered_more hs x cause d.there) [
         | inl old ↦ inl (record { giving = d.giving; there = old; gives = d.gives; held = d.held })
         | inr new ↦ inr (
           new.0,
@@ -58,17 +64,18 @@ module _ (s : Scenario) (hs : List Happening) (x : Happening) (t : ℕ) (device 
 
 -- ---- lists
 
-get_parts : {X : Type 0} (xs ys : List X) (x : X) (i : ℕ) → slice_get (xs ++ ys) i ≡ Some x → (slice_get xs i ≡ Some x) ⊎ IsIn x ys
-get_parts [] [] x i e = absurd cc
-get_parts [] (y ∷ ys) x zero e = inr (inl cc)
-get_parts [] (y ∷ ys) x (suc i) e = elim (get_parts [] ys x i e) [ inl none ↦ absurd cc | inr more ↦ inr (inr more) ]
-get_parts (z ∷ xs) ys x zero e = inl e
-get_parts (z ∷ xs) ys x (suc i) e = get_parts xs ys x i e
+get_parts : {X : Type 0} (xs ys : List X) {x : X} (i : ℕ) → slice_get (xs ++ ys) i ≡ Some x → (slice_get xs i ≡ Some x)
+    ⊎ IsIn x ys
+get_parts [] [] i e = absurd cc
+get_parts [] (y ∷ ys) zero e = inr (inl cc)
+get_parts [] (y ∷ ys) {x} (suc i) e = elim (get_parts [] ys i e) [ inl none ↦ absurd cc | inr more ↦ inr (inr more) ]
+get_parts (z ∷ xs) ys zero e = inl e
+get_parts (z ∷ xs) ys {x} (suc i) e = get_parts xs ys i e
 
 -- the record of a number is given, or is to come
 pub numbered_parts : (hs zs : List Happening) (g : Happening) (cause : ℕ) → numbered (hs ++ zs) cause ≡ Some g → (numbered hs cause ≡ Some g) ⊎ IsIn g zs
 numbered_parts hs zs g zero e = absurd cc
-numbered_parts hs zs g (suc before) e = get_parts hs zs g before e
+numbered_parts hs zs g (suc before) e = get_parts hs zs before e
 
 none_earlier : (t : ℕ) (zs : List Happening) → ((z : Happening) → IsIn z zs → t ≤ time_of z) → earlier t zs ≡ []
 none_earlier t [] of = refl

@@ -97,11 +97,11 @@ pub acting_task : {s : Scenario} {hs : List Happening} {device : DeviceId} {t la
     cycle)))) → IsActing s hs later device task → HasTaskAt s device node later
     (task_place s.network later device task)
 acting_task {s} {hs} {device} {t} {later} {node} u left has sent rows (IsActing.sends cycle d) =
-    sending_task s hs device t later node u left has d
+    sending_task u left has d
 acting_task {s} {hs} {device} {t} {later} {node} u left has sent rows (IsActing.emits emission verdict e) =
-    emitting_task s hs device t later node u left sent e
+    emitting_task u left sent e
 acting_task {s} {hs} {device} {t} {later} {node} u left has sent rows (IsActing.corrects cycle c) =
-    correcting_task s hs device t later node u left has c
+    correcting_task u left has c
 acting_task u left has sent rows (IsActing.dispatches link cause vl cycle d) = rows link cause vl cycle d
 
 -- an event of a later time than all turns no device on

@@ -79,8 +79,8 @@ module _ (n : Network) (f g : DeviceId → ℕ → ℕ) (events more : List Even
   hearing_state_same a le =
       rw (state_same n f g events more hs u device a le)
 
-module _ (n : Network) (f g : DeviceId → ℕ → ℕ) (events more : List Event) (hs : List Happening) (t u : ℕ)
-    (device : DeviceId) where
+module _ {n : Network} {f g : DeviceId → ℕ → ℕ} {events more : List Event} {hs : List Happening} {t u : ℕ}
+    {device : DeviceId} where
   ripens_same : {link : LinkId} {cause : ℕ} {point : Units} {is : Ripe} → Agree n f g events more t → u ≤ t
       → AreUpTo t hs → BecomesPermanent (scenario n f events) hs device u link cause point is
       → BecomesPermanent (scenario n g more) hs device u link cause point is
@@ -139,9 +139,9 @@ module _ (n : Network) (f g : DeviceId → ℕ → ℕ) (events more : List Even
   changes_same state cause whys.Correction a le all c =
       (c.0, sym (state_same n f g events more hs u device a le) ∙ c.1, c.2)
   changes_same state cause whys.SyncClique a le all c =
-      (c.0, c.1, (c.2.0, comes_same n f g events more hs t u device a le all c.2.1))
+      (c.0, c.1, (c.2.0, comes_same hs u device a le all c.2.1))
   changes_same state cause whys.AsyncClique a le all c =
-      (c.0, c.1, (c.2.0, comes_same n f g events more hs t u device a le all c.2.1))
+      (c.0, c.1, (c.2.0, comes_same hs u device a le all c.2.1))
 
   lost_same : {link : LinkId} {cause : ℕ} → Agree n f g events more t → u ≤ t → AreUpTo t hs
       → IsLost (scenario n f events) hs device u link cause → IsLost (scenario n g more) hs device u link cause
@@ -155,7 +155,7 @@ module _ (n : Network) (f g : DeviceId → ℕ → ℕ) (events more : List Even
       → IsDropped (scenario n g more) hs device u link cause reason
   dropped_same reason a le all (inl x) = inl (arrival_same n f g events more hs t u device a le all x)
   dropped_same reason a le all (inr (inl x)) =
-      inr (inl (x.0, ripens_same n f g events more hs t u device a le all x.1))
+      inr (inl (x.0, ripens_same a le all x.1))
   dropped_same reason a le all (inr (inr x)) =
       inr (inr (departs_same a le all x.0, x.1))
 
@@ -180,7 +180,7 @@ IsOwn (notes.Event line what) = ⊥
 IsOwn (notes.Clock device reading adjustment state) = ⊥
 IsOwn other = Unit {0}
 
-module _ (n : Network) (f g : DeviceId → ℕ → ℕ) (events more : List Event) (hs : List Happening) (t : ℕ)
+module _ {n : Network} {f g : DeviceId → ℕ → ℕ} {events more : List Event} (hs : List Happening) {t : ℕ}
     (time : Units) where
   -- what causes a record, but of an event and of a clock, up to the time, causes it in each scenario that agrees
   pub caused_same : (body : NoteBody) → Agree n f g events more t → amount time ≤ t → AreUpTo t hs → IsOwn body
@@ -190,12 +190,12 @@ module _ (n : Network) (f g : DeviceId → ℕ → ℕ) (events more : List Even
   caused_same (notes.Arrived device link cause clock) a le all it c =
       arrived_same n f g events more hs t _ device a le all c
   caused_same (notes.Permanent device link cause point verdict) a le all it c =
-      ripens_same n f g events more hs t _ device a le all c
+      ripens_same a le all c
   caused_same (notes.Compressed device opened at cycle members verdict) a le all it c =
-      emits_same n f g events more hs t _ device a le c
-  caused_same (notes.Sent device cycle) a le all it c = sends_same n f g events more hs t _ device a le c
+      emits_same a le c
+  caused_same (notes.Sent device cycle) a le all it c = sends_same hs _ device a le c
   caused_same (notes.Corrected device cycle by adjustment) a le all it c =
-      record { corrected = comes_same n f g events more hs t _ device a le all c.corrected; sum = c.sum }
+      record { corrected = comes_same hs _ device a le all c.corrected; sum = c.sum }
   caused_same (notes.State device state cause why) a le all it c =
       changes_same n f g events more hs t _ device state cause why a le all c
   caused_same (notes.Left device link cause clock) a le all it c =

@@ -12,7 +12,7 @@ use Rattle.run_law.specs.declared.note.NoteBody.TheVariants as notes
 abbrev IsSourcedAt : Scenario → List Happening → ℕ → ℕ → NoteBody → List ℕ → Type 0
 IsSourcedAt s hs t members body at = (place : List ℕ) × IsOwnSource s hs t members body place × IsSource s hs place × ((place ≡ at) ⊎ IsBefore place at)
 
-module _ (s : Scenario) (hs : List Happening) (t : ℕ) (device : DeviceId) where
+module _ {s : Scenario} {hs : List Happening} {t : ℕ} {device : DeviceId} where
   pub arrival_of_it : {link : LinkId} {cause : ℕ} {is : Arrival} → ArrivesAs s hs device t link cause is
       → IsArriving s hs t device link cause
   arrival_of_it a = record { putting = a.putting; there = a.there; signal = a.signal; arrives = a.arrives }
@@ -35,9 +35,9 @@ module _ (s : Scenario) (hs : List Happening) (t : ℕ) (device : DeviceId) wher
       → IsArriving s hs t device link cause
   taken_of_it a =
       elim a.taken [
-        | inl waits ↦ arrival_of_it s hs t device waits
-        | inr (inl passes) ↦ arrival_of_it s hs t device passes
-        | inr (inr both) ↦ arrival_of_it s hs t device both
+        | inl waits ↦ arrival_of_it waits
+        | inr (inl passes) ↦ arrival_of_it passes
+        | inr (inr both) ↦ arrival_of_it both
       ]
 
   by_state : (state : State) (cause : ℕ) (why : Why) (members : ℕ) → ChangesState s hs device t state cause why
@@ -51,21 +51,26 @@ module _ (s : Scenario) (hs : List Happening) (t : ℕ) (device : DeviceId) wher
   by_state state cause whys.SyncClique m c more = (
     t ∷ 6 ∷ device.0 ∷ [],
     (c.2.0, refl),
-    IsSource.acting t device (doing (correcting c.2.0)) (IsActing.corrects c.2.0 (point_of_it s hs t device c.2.1)),
+    IsSource.acting t device (doing (correcting c.2.0)) (IsActing.corrects c.2.0 (point_of_it c.2.1)),
     inr (inr (refl, inl (omega arith))),
   )
   by_state state cause whys.AsyncClique m c more = (
     t ∷ 6 ∷ device.0 ∷ [],
     (c.2.0, refl),
-    IsSource.acting t device (doing (correcting c.2.0)) (IsActing.corrects c.2.0 (point_of_it s hs t device c.2.1)),
+    IsSource.acting t device (doing (correcting c.2.0)) (IsActing.corrects c.2.0 (point_of_it c.2.1)),
     inr (inr (refl, inl (omega arith))),
   )
 
 module _ (s : Scenario) (hs : List Happening) (t : ℕ) (device : DeviceId) (link : LinkId) (cause : ℕ) where
   by_loss : (members : ℕ) → IsLost s hs device t link cause → (more : List ℕ)
       → IsSourcedAt s hs t members (notes.Lost device link cause) (t ∷ 9 ∷ more)
-  by_loss m (inl departs) more =
-      (_, inl (refl, departs), IsSource.departing t device link cause (departure_of_it s hs t device departs), inr (inr (refl, inl (omega arith))))
+  by_loss m (inl departs) more = (
+    _,
+    inl (refl, departs),
+    IsSource.departing t device link cause (departure_of_it departs),
+    inr
+        (inr (refl, inl (omega arith))),
+  )
   by_loss m (inr (inl d)) more =
       let source = IsSource.acting t device (doing (dispatching (record { 0 = d.2.place }) d.1))
       (IsActing.dispatches link cause d.0 d.1 d.2) in
@@ -75,28 +80,40 @@ module _ (s : Scenario) (hs : List Happening) (t : ℕ) (device : DeviceId) (lin
 
   by_drop : (reason : Reason) (members : ℕ) → IsDropped s hs device t link cause reason → (more : List ℕ)
       → IsSourcedAt s hs t members (notes.Dropped device link cause reason) (t ∷ 13 ∷ more)
-  by_drop reason m (inl arrives) more =
-      (_, inl (refl, arrives), IsSource.arriving t device link cause (arrival_of_it s hs t device arrives), inr (inr (refl, inl (omega arith))))
+  by_drop reason m (inl arrives) more = (
+    _,
+    inl (refl, arrives),
+    IsSource.arriving t device link cause (arrival_of_it arrives),
+    inr
+        (inr (refl, inl (omega arith))),
+  )
   by_drop reason m (inr (inl r)) more = (
     _,
     inr (inl (r.0, r.1, refl)),
     IsSource.ripening t device link cause r.0 (ripening_of_it s hs t device link cause r.0 _ r.1),
     inr (inr (refl, inl (omega arith))),
   )
-  by_drop reason m (inr (inr d)) more =
-      (_, inr (inr (refl, d.0)), IsSource.departing t device link cause (departure_of_it s hs t device d.0), inr (inr (refl, inl (omega arith))))
+  by_drop reason m (inr (inr d)) more = (
+    _,
+    inr (inr (refl, d.0)),
+    IsSource.departing t device link cause (departure_of_it d.0),
+    inr
+        (inr (refl, inl (omega arith))),
+  )
 
 -- the members of the frame of a record of this body, as a number
 abbrev members_by : Network → List Happening → NoteBody → ℕ
 members_by network hs body = option_map_or (λ frame. frame.members.0) (frame_by network hs body) 0
 
 -- the source of a record of this body
-by_body : (s : Scenario) (hs : List Happening) (time : Units) (members : ℕ) (body : NoteBody) → members ≡ members_by s.network hs body → IsCaused s hs time body
+by_body : (s : Scenario) (hs : List Happening) (time : Units) {members : ℕ} (body : NoteBody) → members ≡ members_by
+    s.network hs body → IsCaused s hs time body
     → IsSourcedAt s hs (amount time) members body (amount time ∷ rank body ∷ key members body)
-by_body s hs time members (notes.Event line what) m c = (_, refl, IsSource.befalling time line what c, inr (inr (refl, inr (refl, tt))))
-by_body s hs time members (notes.Arrived device link cause clock) m c =
+by_body s hs time (notes.Event line what) m c =
+    (_, refl, IsSource.befalling time line what c, inr (inr (refl, inr (refl, tt))))
+by_body s hs time (notes.Arrived device link cause clock) m c =
     (_, refl, IsSource.arriving (amount time) device link cause (taken_of_it s hs (amount time) device c), inl refl)
-by_body s hs time members (notes.Permanent device link cause point verdict) m c =
+by_body s hs time (notes.Permanent device link cause point verdict) m c =
     let r = ripening_of_it s hs (amount time) device link cause point _ c in
     let p = r.permanent in
     let frame : frame_from hs cause ≡ Some r.frame = rw p.there p.of_frame in
@@ -107,36 +124,39 @@ by_body s hs time members (notes.Permanent device link cause point verdict) m c 
       IsSource.ripening (amount time) device link cause point r,
       inl (rw same),
     )
-by_body s hs time members (notes.Compressed device opened at cycle of_masters verdict) m c =
+by_body s hs time (notes.Compressed device opened at cycle of_masters verdict) m c =
     (_, refl, IsSource.acting (amount time) device (emitting _) (IsActing.emits _ verdict c), inl refl)
-by_body s hs time members (notes.Sent device cycle) m c =
+by_body s hs time (notes.Sent device cycle) m c =
     (_, refl, IsSource.acting (amount time) device (doing (sending cycle)) (IsActing.sends cycle c), inl refl)
-by_body s hs time members (notes.Corrected device cycle by adjustment) m c = (
+by_body s hs time (notes.Corrected device cycle by adjustment) m c = (
   _,
   refl,
   IsSource.acting (amount time) device (doing (correcting cycle))
-      (IsActing.corrects cycle (point_of_it s hs (amount time) device c.corrected)),
+      (IsActing.corrects cycle (point_of_it c.corrected)),
   inl refl,
 )
-by_body s hs time members (notes.State device state cause why) m c = by_state s hs (amount time) device state cause why members c (device.0 ∷ cause ∷ [])
-by_body s hs time members (notes.Left device link cause clock) m c =
-    (_, refl, IsSource.departing (amount time) device link cause (departure_of_it s hs (amount time) device c), inl refl)
-by_body s hs time members (notes.Lost device link cause) m c = by_loss s hs (amount time) device link cause members c (device.0 ∷ link.0 ∷ cause ∷ [])
-by_body s hs time members (notes.TtSent device link cause vl cycle) m c =
+by_body s hs time {members} (notes.State device state cause why) m c =
+    by_state s hs (amount time) device state cause why members c (device.0 ∷ cause ∷ [])
+by_body s hs time (notes.Left device link cause clock) m c =
+    (_, refl, IsSource.departing (amount time) device link cause (departure_of_it c), inl refl)
+by_body s hs time {members} (notes.Lost device link cause) m c =
+    by_loss s hs (amount time) device link cause members c (device.0 ∷ link.0 ∷ cause ∷ [])
+by_body s hs time (notes.TtSent device link cause vl cycle) m c =
     let source = IsSource.acting (amount time) device (doing (dispatching (record { 0 = c.dispatches.place }) cycle))
     (IsActing.dispatches link cause vl cycle c.dispatches) in
     (_, (c.dispatches, refl), source, inr (inr (refl, inl (omega arith))))
-by_body s hs time members (notes.Accepted device link cause vl cycle) m c =
-    (_, refl, IsSource.arriving (amount time) device link cause (arrival_of_it s hs (amount time) device c), inr (inr (refl, inl (omega arith))))
-by_body s hs time members (notes.Delivered device link cause vl cycle) m c =
-    (_, refl, IsSource.arriving (amount time) device link cause (arrival_of_it s hs (amount time) device c), inr (inr (refl, inl (omega arith))))
-by_body s hs time members (notes.Dropped device link cause reason) m c =
+by_body s hs time (notes.Accepted device link cause vl cycle) m c =
+    (_, refl, IsSource.arriving (amount time) device link cause (arrival_of_it c), inr (inr (refl, inl (omega arith))))
+by_body s hs time (notes.Delivered device link cause vl cycle) m c =
+    (_, refl, IsSource.arriving (amount time) device link cause (arrival_of_it c), inr (inr (refl, inl (omega arith))))
+by_body s hs time {members} (notes.Dropped device link cause reason) m c =
     by_drop s hs (amount time) device link cause reason members c (device.0 ∷ link.0 ∷ cause ∷ [])
-by_body s hs time members (notes.Clock device reading adjustment state) m c = (_, refl, IsSource.ending time device c.is c.there c.ends, inl refl)
+by_body s hs time (notes.Clock device reading adjustment state) m c =
+    (_, refl, IsSource.ending time device c.is c.there c.ends, inl refl)
 
 pub sourced : (s : Scenario) (hs : List Happening) (y : Happening) → IsDue s hs y → IsSourced s hs y
 sourced s hs y due =
-    let found = by_body s hs y.note.time (members_in y) y.note.body (ap members_in due.same) due.cause in record {
+    let found = by_body s hs y.note.time y.note.body (ap members_in due.same) due.cause in record {
       place = found.0;
       own = found.1;
       source = found.2;

@@ -37,7 +37,7 @@ no_clock events others event time running order ends lt =
     ]
 
 module _ {n : Network} {f g : DeviceId → ℕ → ℕ} {events others : List Event} {event : Event} {mark : List ℕ}
-    (may : MayFollow n f g events event others mark) (ps : List Happening) (y : Happening)
+    (may : MayFollow n f g events event others mark) {ps : List Happening} {y : Happening}
     (here : IsBefore (place_of y) mark) where
   due_on : AllBefore place_of ps (place_of y) → IsDue (scenario n f events) ps y
       → IsDue (scenario n g (events ++ event ∷ others)) ps y
@@ -64,7 +64,7 @@ module _ {n : Network} {f g : DeviceId → ℕ → ℕ} {events others : List Ev
           let lt = earlier_by_rank (time_of y) (rank y.note.body) (amount event.time) (length events + 1)
           (key (members_in y) y.note.body) own.1
           (may.sooner (place_of y) here) in
-          caused_same n f g events (events ++ event ∷ others) ps (time_of y) y.note.time y.note.body
+          caused_same ps y.note.time y.note.body
           (may.agree (time_of y) lt) (omega arith)
           (up_to_it ps y before) own.0 due.cause
     ];
@@ -93,7 +93,7 @@ module _ {n : Network} {f g : DeviceId → ℕ → ℕ} {events others : List Ev
           let lt = earlier_by_rank (time_of y) (rank y.note.body) (amount event.time) (length events + 1)
           (key (members_in y) y.note.body) own.1
           (may.sooner (place_of y) here) in
-          caused_same n g f (events ++ event ∷ others) events ps (time_of y) y.note.time y.note.body
+          caused_same ps y.note.time y.note.body
           (agree_back (may.agree (time_of y) lt)) (omega arith) (up_to_it ps y before) own.0 due.cause
     ];
   }
@@ -102,8 +102,8 @@ pub run_stays_under_more : RunStaysUnderMore
 run_stays_under_more n f g events event others mark ns may run = record {
   founded = λ ps qs y e.
       let was = run.founded ps qs y e in
-      (was.0, due_on may ps y (run.within y (rw e (in_right y ps (y ∷ qs) (inl refl)))) was.0 was.1);
+      (was.0, due_on may (run.within y (rw e (in_right y ps (y ∷ qs) (inl refl)))) was.0 was.1);
   full = λ ps qs y e before rest due lt.
-      run.full ps qs y e before rest (due_back may ps y lt before due) lt;
+      run.full ps qs y e before rest (due_back may lt before due) lt;
   within = run.within;
 }

@@ -18,7 +18,7 @@ worked_now : {s : Scenario} {hs : List Happening} (to : List ℕ) (y : Happening
 worked_now {s} {hs} to y worked =
     rw (append-nil hs) worked
 
-module _ {s : Scenario} {hs : List Happening} (z : Happening) (rest : List Happening) {from to : List ℕ}
+module _ {s : Scenario} {hs : List Happening} {z : Happening} {rest : List Happening} {from to : List ℕ}
     {now : ℕ} (settled : AreSettled s hs (z ∷ rest) from to now) where
   -- what stands first is before all others
   pub first_before : (other : Happening) → IsIn other rest → IsBefore (place_of z) (place_of other)
@@ -36,11 +36,11 @@ module _ {s : Scenario} {hs : List Happening} (z : Happening) (rest : List Happe
       never_self (place_of z) (chain (place_of z) (place_of other) (place_of z) order
       (chain (place_of other) p (place_of z) under here))
 
-  not_at : (other : Happening) → IsIn other (z ∷ rest) → (p : List ℕ) → p ≡ place_of other → IsBefore p (place_of z)
+  not_at : (other : Happening) → IsIn other (z ∷ rest) → {p : List ℕ} → p ≡ place_of other → IsBefore p (place_of z)
       → ⊥
-  not_at other (inl e) p at here =
+  not_at other (inl e) at here =
       never_self (place_of z) (rw (at ∙ ap place_of e) at here)
-  not_at other (inr i) p at here =
+  not_at other (inr i) at here =
       never_self (place_of z) (chain (place_of z) (place_of other) (place_of z) (first_before other i)
       (rw at at here))
 
@@ -53,18 +53,18 @@ module _ {s : Scenario} {hs : List Happening} (z : Happening) (rest : List Happe
             (place_of y) here b in
             let found = settled.full [] (z ∷ rest) y refl (λ n i. absurd i) under not (due_now due)
             (worked_now to y (source.place, source.own, source.source, worked)) in
-            not_at found.0 found.1 (place_of y) (sym found.2) here
+            not_at found.0 found.1 (sym found.2) here
         | inr waits ↦ none source.place source.source waits
             (source_before source.place (place_of y) (place_of z) source.no_later here)
       ]
 
 -- the first of what is to come is the next of the run
-pub first_is_next : (s : Scenario) (notes : List Note) (z : Happening) (rest : List Happening)
-    (from to : List ℕ) (now : ℕ)
+pub first_is_next : {s : Scenario} (notes : List Note) {z : Happening} {rest : List Happening}
+    {from to : List ℕ} {now : ℕ}
     → IsScenarioRun s from notes → AreSettled s (happenings s.network notes) (z ∷ rest) from to now
     → NoSourceBefore s (happenings s.network notes) to (place_of z)
     → IsScenarioRun s (behind (place_of z)) (notes ++ note_of notes z ∷ [])
-first_is_next s notes z rest from to now run settled none =
+first_is_next {s} notes {z} {rest} {from} run settled none =
     let hs = happenings s.network notes in
     let x = happening s.network hs (note_of notes z) in
     let first : IsDueAs s hs z = rw (append-nil hs) at (settled.founded [] rest z refl).1 in
@@ -79,13 +79,13 @@ first_is_next s notes z rest from to now run settled none =
     let not : IsBefore (place_of x) from → ⊥ = λ b. settled.after z (inl refl) (rw place at b) in
     let free : NoneDueBefore place_of (IsDue s) from hs (place_of x) = subst
     (NoneDueBefore place_of (IsDue s) from hs) (sym place)
-    (none_before z rest settled none) in
+    (none_before settled none) in
     subst (λ p. IsScenarioRun s (behind p) (notes ++ note_of notes z ∷ [])) place
     (run_goes_on s from notes (note_of notes z) x run refl (is_next (IsDue s) x run not due free))
 
 pub first_settled_is_next : FirstSettledIsNext
 first_settled_is_next s notes z rest frontier now run are none =
-    first_is_next s notes z rest frontier frontier now run (settled_of are) none
+    first_is_next notes run (settled_of are) none
 
 -- where no source that is not worked off is before a place, and nothing to come, the records given are the run up to there
 pub run_to : {s : Scenario} (notes : List Note) {coming : List Happening} {from to : List ℕ} {now : ℕ} (until : List ℕ)

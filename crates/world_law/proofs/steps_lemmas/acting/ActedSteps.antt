@@ -103,12 +103,12 @@ module _ {C M : Type 0} (reading : C → ℕ → ℕ) (stands : M → Network �
       (rw are.4 at put))
 
   -- it acts: what comes of it is to come
-  pub acted_step : (s : Scenario) (world : World C M) (notes : List Note) (device : DeviceId) (after : M)
-      (bodies : List NoteBody) (machines : List M) (settled : List Happening)
-      (old : Stands reading stands s world notes)
+  pub acted_step : (s : Scenario) {world : World C M} {notes : List Note} {device : DeviceId} {after : M}
+      {bodies : List NoteBody} {machines : List M} (settled : List Happening)
+      {old : Stands reading stands s world notes}
       → (a : Acts reading stands s world notes old device after bodies) → IsSet device.0 after world.machines machines
       → ArePutIn s.network (happenings s.network notes) world.now bodies world.settled settled
       → StandsBehind reading stands s (record world { early = false; machines = machines; settled = settled }) notes
       (world.now ∷ rank_of_act a.act ∷ act_rest s.network device a.act)
-  acted_step s world notes device after bodies machines settled old a set put =
+  acted_step s {world} {notes} {device} {after} {bodies} {machines} settled {old} a set put =
       acts_by a.act s world notes device after bodies machines settled old a (acts_on_it a) a.are set put

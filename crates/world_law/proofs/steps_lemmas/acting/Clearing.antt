@@ -164,9 +164,11 @@ cleared_over {s} {hs} {zs} {now} {device} {node} cycle moment heard w off later 
         omega (arith, ints)
 
 -- and what it has cleared is earlier than its next point
-pub cleared_more : (node : Node) (cycle : ℕ) (moment : Moment) (heard : Summary) → node.standing.number ≡ cycle → HasCleared node
+pub cleared_more : (node : Node) {cycle : ℕ} (moment : Moment) (heard : Summary) → node.standing.number ≡ cycle
+    → HasCleared node
     → HasCleared (called moment acting (after_correction node moment heard cycle Cleared))
-cleared_more node cycle moment heard number has n there = elim (Contains-push_cases node.done (correcting cycle) (correcting n) there) [
-  | inl old ↦ let less = has n old in omega arith
-  | inr is ↦ let e : cycle ≡ n = cc in omega arith
-]
+cleared_more node {cycle} moment heard number has n there =
+    elim (Contains-push_cases node.done (correcting cycle) (correcting n) there) [
+      | inl old ↦ let less = has n old in omega arith
+      | inr is ↦ let e : cycle ≡ n = cc in omega arith
+    ]

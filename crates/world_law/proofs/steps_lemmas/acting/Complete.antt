@@ -24,22 +24,23 @@ IsPointCause s js now device (kinds.State other state cause whys.AsyncClique) =
     (other ≡ device) × (state ≡ Integrating) × (cause ≡ 0) × ((cycle : ℕ) × ComesToCorrection s js device now cycle AsyncClique)
 IsPointCause s js now device other = ⊥
 
-here_at : (t now d e : ℕ) → t ∷ 6 ∷ d ∷ [] ≡ now ∷ 6 ∷ e ∷ [] → (t ≡ now) × (d ≡ e)
-here_at t now d e same = (cc, cc)
+here_at : {t now d e : ℕ} → t ∷ 6 ∷ d ∷ [] ≡ now ∷ 6 ∷ e ∷ [] → (t ≡ now) × (d ≡ e)
+here_at same = (cc, cc)
 
 -- what is so of the other at the time is so of the device at the instant
-at_it : (now t : ℕ) (device other : DeviceId) (p : DeviceId → ℕ → Type 0) → now ∷ 6 ∷ device.0 ∷ [] ≡ t ∷ 6 ∷ other.0 ∷ [] → p other t
+at_it : {now t : ℕ} (device other : DeviceId) (p : DeviceId → ℕ → Type 0)
+    → now ∷ 6 ∷ device.0 ∷ [] ≡ t ∷ 6 ∷ other.0 ∷ [] → p other t
     → (t ≡ now) × ((other ≡ device) × p device now)
-at_it now t device other p own c =
-    let e = here_at now t device.0 other.0 own in
+at_it {now} {t} device other p own c =
+    let e = here_at own in
     let same = same_device other device (sym e.1) in
     (sym e.0, (same, rw e.0 (rw same at c)))
 
 -- a row has a place of its own
-no_row : {s : Scenario} {js : List Happening} (now : ℕ) {t : ℕ} (device : DeviceId) {other : DeviceId} {link : _}
+no_row : {s : Scenario} {js : List Happening} {now : ℕ} {t : ℕ} (device : DeviceId) {other : DeviceId} {link : _}
     {cause : ℕ} {vl : _} {cycle : ℕ} (d : Dispatches s js other t link cause vl cycle)
     → now ∷ 6 ∷ device.0 ∷ [] ≡ t ∷ 6 ∷ other.0 ∷ dispatch_order s.network (record { 0 = d.place }) → ⊥
-no_row now device d e =
+no_row device d e =
     let long = ap length e in
     let order = ap length (row_order d) in
     omega arith
@@ -49,19 +50,19 @@ module _ (s : Scenario) (js : List Happening) (now : ℕ) (device : DeviceId) (t
   pub point_cause_of : (body : NoteBody) → IsOwnSource s js (amount time) m body (rows_place now device)
       → IsCaused s js time body → (amount time ≡ now) × IsPointCause s js now device body
   point_cause_of (kinds.Corrected other cycle by adjustment) own c =
-      at_it now (amount time) device other (λ d n. IsCorrectedRecord s js d n cycle by adjustment) own c
+      at_it device other (λ d n. IsCorrectedRecord s js d n cycle by adjustment) own c
   point_cause_of (kinds.State other state cause whys.SyncClique) own c =
-      let x = at_it now (amount time) device other (λ d n. (cycle : ℕ) × ComesToCorrection s js d n cycle SyncClique)
+      let x = at_it device other (λ d n. (cycle : ℕ) × ComesToCorrection s js d n cycle SyncClique)
       own.1 c.2 in
       (x.0, (x.1.0, c.0, c.1, x.1.1))
   point_cause_of (kinds.State other state cause whys.AsyncClique) own c =
-      let x = at_it now (amount time) device other
+      let x = at_it device other
       (λ d n. (cycle : ℕ) × ComesToCorrection s js d n cycle AsyncClique) own.1 c.2 in
       (x.0, (x.1.0, c.0, c.1, x.1.1))
   point_cause_of (kinds.Lost other link cause) (inr (inl own)) c =
-      absurd (no_row now device own.2 own.4)
+      absurd (no_row device own.2 own.4)
   point_cause_of (kinds.TtSent other link cause vl cycle) own c =
-      absurd (no_row now device own.0 own.1)
+      absurd (no_row device own.0 own.1)
   point_cause_of (kinds.Lost other link cause) (inl own) c = absurd (grind arith)
   point_cause_of (kinds.Lost other link cause) (inr (inr own)) c = absurd (grind arith)
   point_cause_of other own c = absurd (grind arith)
@@ -70,10 +71,11 @@ module _ (s : Scenario) (js : List Happening) (now : ℕ) (device : DeviceId) (t
 
 -- ---- what tells of one dispatch stands at one place
 
-pub same_told : (s : Scenario) (now : ℕ) (device : DeviceId) (link : LinkId) (cause : ℕ) (vl : VlId) (cycle : ℕ) (x y : Happening)
+pub same_told : (s : Scenario) {now : ℕ} (device : DeviceId) (link : LinkId) (cause : ℕ) (vl : VlId) (cycle : ℕ)
+    (x y : Happening)
     → x.note.body ≡ dispatch_body s device now link cause vl cycle → y.note.body ≡ dispatch_body s device now link cause vl cycle → time_of x ≡ now
     → time_of y ≡ now → place_of x ≡ place_of y
-same_told s now device link cause vl cycle x y told e at_x at =
+same_told s {now} device link cause vl cycle x y told e at_x at =
     let lost : (h : Happening) → h.note.body ≡ kinds.Lost device link cause → time_of h ≡ now → place_of h ≡ now ∷ 9 ∷ device.0 ∷ link.0 ∷ cause ∷ [] =
     λ h body time.
     rw body

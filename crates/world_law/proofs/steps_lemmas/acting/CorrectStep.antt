@@ -25,15 +25,15 @@ module _ {C M : Type 0} {reading : C → ℕ → ℕ} {stands : M → Network �
       → StandsBehind reading stands s (record world { early = false; machines = machines; settled = settled }) notes
       (rows_place world.now device)
   correct_goes_by Cleared was x =
-      cleared_goes_by old device machine x
+      cleared_goes_by x
   correct_goes_by SyncClique was x =
-      alone_goes_by old device machine x
+      alone_goes_by x
   correct_goes_by AsyncClique was x =
-      outnumbered_goes_by old device machine x
+      outnumbered_goes_by x
   correct_goes_by (Corrected by) Joining x =
-      first_goes_by by x
+      first_goes_by x
   correct_goes_by (Corrected by) Synchronised x =
-      corrected_goes_by by x
+      corrected_goes_by x
   correct_goes_by (Corrected by) Off x =
       absurd (let bad = was_timed
       x in cc)

@@ -73,14 +73,14 @@ one_point_step {stands} {s} {world} {notes} {device} {machine} {after} {node} {b
     let st2 : StageAt stands s hs (p.front ++ p.back) now device machine node 6 (device.0 ∷ []) =
     rw p.parts at st in
     let put = as_put now w refl (omega arith) in
-    let none = none_at_point s hs (p.front ++ p.back) now device node cycle c.old.range c.old.rules st2.steady st2.work point.pending point.due in
+    let none = none_at_point cycle c.old.range c.old.rules st2.steady st2.work point.pending point.due in
     one_goes_by c st p (omega arith) a
     (all_point st2.work point
     (grown_one p.front p.back st2.work put late) out) set
     (kept_over stands after it.is st2.work.sound it.over it.ready it.cleared
-    (it.taken ∙ taken_then stands s hs p.front p.back now device machine node w st2 refl takes)
+    (it.taken ∙ taken_then p.front p.back w st2 refl takes)
     it.bare
-    (turned_then stands s hs p.front p.back now device machine node st2 put) it.phase
+    (turned_then p.front p.back st2 put) it.phase
     st.calm.falls it.worked st.reach
     (inl (out_by_acts s hs now device none)))
 
@@ -100,12 +100,12 @@ corrected_done node moment heard by (doing deed) has = absurd (none_in deed has)
 -- so it had come to it sooner, or that is worked off
 pub corrected_worked : {M : Type 0} {stands : M → Network → DeviceId → Node → Type 0} {s : Scenario}
     {hs coming : List Happening} {now : ℕ} {device : DeviceId} {machine : M} {node : Node}
-    (after : Node) (heard : Summary) (by : Units) (changed : ℕ)
+    {after : Node} (heard : Summary) (by : Units) (changed : ℕ)
     → StageAt stands s hs coming now device machine node 6 (device.0 ∷ []) → after
     ≡ called (moment_of s device now) acting (after_correction node (moment_of s device now) heard 0 (Corrected by))
     → (task : Task) → HasDoneTask after task → HadComeTo s device after changed now task
     ⊎ IsBefore (task_place s.network now device task) (behind (rows_place now device))
-corrected_worked {s} {now} {device} {node} after heard by changed st is task has =
+corrected_worked {s} {now} {device} {node} heard by changed st is task has =
     let x = corrected_done node (moment_of s device now) heard by task (rw is at has) in
     rw x.1 (elim (st.worked (emitting x.0) x.2) [
       | inl sooner ↦ inl sooner
@@ -131,21 +131,21 @@ clique_done node moment heard verdict (doing deed) has = has
 -- what it had done is so still
 still_worked : {M : Type 0} {stands : M → Network → DeviceId → Node → Type 0} {s : Scenario}
     {hs coming : List Happening} {now : ℕ} {device : DeviceId} {machine : M} {node : Node}
-    (after : Node) (changed : ℕ) → StageAt stands s hs coming now device machine node 6 (device.0 ∷ [])
+    (after : Node) {changed : ℕ} → StageAt stands s hs coming now device machine node 6 (device.0 ∷ [])
     → after.standing.adjustment ≡ node.standing.adjustment → changed_at (hs ++ coming) device now ≡ changed
     → (task : Task) → HasDoneTask node task → HadComeTo s device after changed now task
     ⊎ IsBefore (task_place s.network now device task) (behind (rows_place now device))
-still_worked {s} {hs} {coming} {now} {device} {node} after changed st adjustment same task has =
+still_worked {s} {hs} {coming} {now} {device} {node} after {changed} st adjustment same task has =
     elim (st.worked task has) [
-      | inl sooner ↦ inl (still_came s device node after (changed_at (hs ++ coming) device now) changed now task adjustment same sooner)
+      | inl sooner ↦ inl (still_came s device node after now task adjustment same sooner)
       | inr gone ↦ inr (stays (rows_place now device) (task_place s.network now device task) gone)
     ]
 
 -- ---- with none: a joiner clears what it has heard
 
 module _ {C M : Type 0} {reading : C → ℕ → ℕ} {stands : M → Network → DeviceId → Node → Type 0} {s : Scenario}
-    {world : World C M} {notes : List Note} (old : Stands reading stands s world notes) (device : DeviceId)
-    (machine : M) where
+    {world : World C M} {notes : List Note} {old : Stands reading stands s world notes} {device : DeviceId}
+    {machine : M} where
   pub cleared_goes_by : {after : M} {cycle : ℕ} {was : State} {adjustment : Units} {machines : List M}
       {settled : List Happening}
       → IsCorrecting reading stands s world notes old device machine after cycle Cleared was adjustment machines
@@ -164,9 +164,9 @@ module _ {C M : Type 0} {reading : C → ℕ → ℕ} {stands : M → Network �
       let to = act.1.1.1 in
       let is = act.1.1.2 in
       let timed = (point_number node.standing.state node.standing.number cycle first.pending.1.own).0 in
-      let off = not_on s hs world.settled now device node st.work timed in
-      let point = at_point s device now node cycle heard Cleared first to in
-      let quiet = no_frames s device now node cycle heard Cleared first.pending.0 point in
+      let off = not_on st.work timed in
+      let point = at_point s now cycle first to in
+      let quiet = no_frames s now cycle first.pending.0 point in
       let ready = ready_after s act.0 (acts.Correct cycle Cleared) st.work.ready st.steady st.precise st.wide on.may act.1
       (rw is) in
       let there = called (moment_of s device now) acting
@@ -177,10 +177,10 @@ module _ {C M : Type 0} {reading : C → ℕ → ℕ} {stands : M → Network �
       to.verdict_is
       first.pending.1 first.due (st.work.ready.in_time (doing (correcting cycle)) first.pending) st.wide quiet) in
       let cleared : HasCleared act.0 = subst HasCleared (sym is)
-      (cleared_more node cycle (moment_of s device now) heard
+      (cleared_more node (moment_of s device now) heard
       (point_number node.standing.state node.standing.number cycle first.pending.1.own).1 st.cleared) in
       let here = now ∷ 6 ∷ (device.0 ∷ []) in
-      let none = none_at_point s hs world.settled now device node cycle old.range old.rules st.steady st.work
+      let none = none_at_point cycle old.range old.rules st.steady st.work
       first.pending first.due in
       let kept = kept_over stands after act.2 st.work.sound
       over ready cleared (rw is st.taken)
@@ -189,7 +189,7 @@ module _ {C M : Type 0} {reading : C → ℕ → ℕ} {stands : M → Network �
       (rw is) st.calm.falls
       (λ task has. elim (cleared_done s now device node (moment_of s device now) heard cycle task
       (rw is at has)) [
-        | inl did ↦ still_worked act.0 (changed_at (hs ++ world.settled) device (now + 1)) st
+        | inl did ↦ still_worked act.0 st
             (rw is)
             (sym (change_still (hs ++ world.settled) device now (now + 1) (omega arith) (still_now st.work off)))
             task did
@@ -231,8 +231,8 @@ module _ {C M : Type 0} {reading : C → ℕ → ℕ} {stands : M → Network �
       let heard = act.1.1.0 in
       let is = node_is node act.0 heard act.1.1.2 in
       let timed = (point_number node.standing.state node.standing.number cycle first.pending.1.own).0 in
-      let off = not_on s hs world.settled now device node st.work timed in
-      let point = at_point s device now node cycle heard verdict first act.1.1.1 in
+      let off = not_on st.work timed in
+      let point = at_point s now cycle first act.1.1.1 in
       let ready = ready_after s act.0 (acts.Correct cycle verdict) st.work.ready st.steady st.precise st.wide on.may act.1
       (rw is) in
       let body = kinds.State device Integrating 0 why in
@@ -244,13 +244,13 @@ module _ {C M : Type 0} {reading : C → ℕ → ℕ} {stands : M → Network �
       rw p.parts at st in
       let as_it = as_put now w refl (omega arith) in
       let over : IsOver s (hs ++ new) now device act.0 =
-      rw is (clique_over s hs p.front p.back now device node w 0 why (moment_of s device now) heard verdict st2.work off
+      rw is (clique_over hs p.front p.back 0 why (moment_of s device now) heard verdict st2.work off
       st2.calm.off st2.calm.broken
       as_it p.none (lost node.standing.state) (kept node.standing.adjustment) refl ends) in
       let cleared : HasCleared act.0 =
       subst HasCleared (sym is) (λ n there. let less = st.cleared n there in omega arith) in
       one_point_step on.here st p on.room (omega arith)
-      (clique_record stands s hs p.front p.back now device machine node cycle verdict why st2 off
+      (clique_record hs p.front p.back verdict st2 off
       point clique p.none) (λ at. refl)
       point
       (outcome new w (in_right w p.front (w ∷ p.back) (inl refl)) refl)
@@ -263,9 +263,9 @@ module _ {C M : Type 0} {reading : C → ℕ → ℕ} {stands : M → Network �
         bare = bare_act s.network device node (moment_of s device now) (acts.Correct cycle verdict) act.0 act.1 st.bare;
         phase = rw is;
         worked = λ task has.
-            still_worked act.0 (changed_at (hs ++ new) device (now + 1)) st2
+            still_worked act.0 st2
             (rw is (kept node.standing.adjustment))
-            (sym (clique_change s hs p.front p.back now device node w 0 why st2.work off as_it p.none refl)) task
+            (sym (clique_change hs p.front p.back 0 why st2.work off as_it p.none refl)) task
             (clique_done node (moment_of s device now) heard verdict task
             (rw is at has));
       }) x.set
@@ -299,12 +299,13 @@ not_joining e = cc
 
 pub corrected_goes_by : {C M : Type 0} {reading : C → ℕ → ℕ} {stands : M → Network → DeviceId → Node → Type 0}
     {s : Scenario} {world : World C M} {notes : List Note} {old : Stands reading stands s world notes}
-    {device : DeviceId} {machine after : M} {cycle : ℕ} (by : Units) {adjustment : Units} {machines : List M}
+    {device : DeviceId} {machine after : M} {cycle : ℕ} {by : Units} {adjustment : Units} {machines : List M}
     {settled : List Happening} → IsCorrecting reading stands s world notes old device machine after cycle
     (Corrected by) Synchronised adjustment machines settled
     → StandsBehind reading stands s (record world { early = false; machines = machines; settled = settled }) notes
     (rows_place world.now device)
-corrected_goes_by {reading} {stands} {s} {world} {notes} {old} {device} {machine} {after} {cycle} by {adjustment} {settled} x =
+corrected_goes_by {reading} {stands} {s} {world} {notes} {old} {device} {machine} {after} {cycle} {by} {adjustment}
+    {settled} x =
     let hs = happenings s.network notes in
     let now = world.now in
     let on = x.on in
@@ -318,8 +319,8 @@ corrected_goes_by {reading} {stands} {s} {world} {notes} {old} {device} {machine
     let synchronised = sym (x.stood node st.is).0 in
     let sum : adjustment ≡ act.0.standing.adjustment = (x.stands_then act.0 act.2).1 in
     let sum_is : adjustment.0 ≡ (node.standing.adjustment.0 +ℤ by.0) = rw sum (rw is) in
-    let off = not_on s hs world.settled now device node st.work point_is.0 in
-    let point = at_point s device now node cycle heard (Corrected by) first act.1.1.1 in
+    let off = not_on st.work point_is.0 in
+    let point = at_point s now cycle first act.1.1.1 in
     let ready = ready_after s act.0 (acts.Correct cycle (Corrected by)) st.work.ready st.steady st.precise st.wide
     on.may act.1
     (rw is) in
@@ -332,7 +333,7 @@ corrected_goes_by {reading} {stands} {s} {world} {notes} {old} {device} {machine
     rw p.parts at st in
     let so : IsCorrectedSo s device (now + 1) node w cycle by adjustment (moment_of s device now) =
     record { body = refl; before = omega arith; timed = point_is.0; number = point_is.1; sum = sym sum_is; reads = refl } in
-    let quiet = no_frames s device now node cycle heard (Corrected by) first.pending.0 point in
+    let quiet = no_frames s now cycle first.pending.0 point in
     let over : IsOver s (hs ++ new) now device act.0 = rw is
     (corrected_over p.front p.back heard st2.work off st2.calm.off st2.calm.broken
     (as_put now w refl (omega arith)) p.none so synchronised quiet) in
@@ -342,7 +343,7 @@ corrected_goes_by {reading} {stands} {s} {world} {notes} {old} {device} {machine
     not_joining (sym synchronised ∙ st.work.left.state
     ∙ (rw same joining))) in
     one_point_step on.here st p on.room (omega arith)
-    (corrected_record stands s hs p.front p.back now device machine node cycle by adjustment st2
+    (corrected_record hs p.front p.back by adjustment st2
     off point sum_is p.none lone)
     (λ at. refl) point
     (w, in_right w p.front (w ∷ p.back) (inl refl), refl)
@@ -354,5 +355,5 @@ corrected_goes_by {reading} {stands} {s} {world} {notes} {old} {device} {machine
       taken = rw is;
       bare = bare_act s.network device node (moment_of s device now) (acts.Correct cycle (Corrected by)) act.0 act.1 st.bare;
       phase = rw is;
-      worked = corrected_worked act.0 heard by (changed_at (hs ++ new) device (now + 1)) st2 is;
+      worked = corrected_worked heard by (changed_at (hs ++ new) device (now + 1)) st2 is;
     }) x.set

@@ -111,8 +111,8 @@ corrects_it network reading device node t moment heard by reads = record {
   done = λ deed there. absurd (none_in deed there);
 }
 
-module _ (s : Scenario) (device : DeviceId) (node : Node) where
-  kept_so : (b : Bool) {now : ℕ} (sent : Compressed) (clusters : List _) (cluster : _)
+module _ {s : Scenario} {device : DeviceId} {node : Node} where
+  kept_so : (b : Bool) {now : ℕ} {sent : Compressed} (clusters : List _) (cluster : _)
       → is_cm s.network device ≡ true → AreClusters (observation_window s.network)
       (if b then node.points else []) clusters → Contains clusters cluster
       → sent ≡ Rattle.compression.specs.Emission.compressed (observation_window s.network)
@@ -120,7 +120,7 @@ module _ (s : Scenario) (device : DeviceId) (node : Node) where
       → (Contains (if b then node.emitted else []) sent → ⊥)
       → ((c : Compressed) → IsWaiting s.network device node c → pos (s.reading device now) <ℤ c.at.0)
       → HasSentFrom s device node now (now + 1) → (x : ℕ) → x < now + 1 → pos (s.reading device x) <ℤ sent.at.0
-  kept_so true {now} sent clusters cluster cm are there is not_yet none has x lt =
+  kept_so true {now} {sent} clusters cluster cm are there is not_yet none has x lt =
       let waits : IsWaiting s.network device node sent = record {
         cm = cm;
         clusters = clusters;
@@ -134,7 +134,7 @@ module _ (s : Scenario) (device : DeviceId) (node : Node) where
         | inl before ↦ has.unsent sent waits x before
         | inr ge ↦ let at : x ≡ now = omega arith in rw at (none sent waits)
       ]
-  kept_so false sent clusters cluster cm are there is not_yet none has x lt =
+  kept_so false clusters cluster cm are there is not_yet none has x lt =
       absurd (no_cluster (observation_window s.network) clusters cluster are there)
 
   kept_sent : (b : Bool) {now : ℕ} (sent : Compressed) → HasSentFrom s device node now (now + 1)
@@ -149,7 +149,7 @@ module _ (s : Scenario) (device : DeviceId) (node : Node) where
       → pos (s.reading device now) <ℤ c.at.0) → HasSentFrom s device
       (called moment acting (with_corrected node moment heard by)) (now + 1) (now + 1)
   corrected_sent moment heard by has none = record {
-    unsent = λ c u x lt. kept_so (is_synchronised node.standing.state) c u.clusters u.cluster u.cm u.are u.there u.is
+    unsent = λ c u x lt. kept_so (is_synchronised node.standing.state) u.clusters u.cluster u.cm u.are u.there u.is
         u.not_yet none has x lt;
     sent = λ c there. kept_sent (is_synchronised node.standing.state) c has there;
   }
@@ -181,9 +181,9 @@ corrected_over {s} {hs} front back {now} {device} {node} {w} {cycle} {by} {adjus
     record {
       left = left_called moment
           (left_alike (hs ++ (front ++ w ∷ back)) borne_so
-          (corrects s old device (now + 1) node w cycle by adjustment moment heard so synchronised later base));
+          (corrects heard so synchronised later base));
       done = rw at (corrects_it s.network (s.reading device) device node now moment heard by reads);
-      sent = corrected_sent s device node moment heard by work.sent quiet;
+      sent = corrected_sent moment heard by work.sent quiet;
     }
 
 -- ---- a joiner has its first correction
@@ -223,9 +223,9 @@ joiner_over {s} {hs} front mid rest {now} {device} {node} {w} f cause {by} {mome
     record {
       left = left_called moment
           (left_alike whole borne_so
-          (joiner_corrects s old device (now + 1) node f cause heard so joining later e lt base));
+          (joiner_corrects f cause heard so joining later e lt base));
       done = rw changed (corrects_it s.network (s.reading device) device node now moment heard by reads);
-      sent = corrected_sent s device node moment heard by work.sent quiet;
+      sent = corrected_sent moment heard by work.sent quiet;
     }
 
 -- ---- it has found itself outside the others
@@ -236,7 +236,7 @@ no_deed network device node (sending cycle) is own = no_longer (sym is ∙ own.1
 no_deed network device node (correcting cycle) is own = no_point node.standing.state node.standing.number cycle is own
 no_deed network device node (dispatching row cycle) is own = no_longer (sym is ∙ own.0)
 
-module _ (s : Scenario) (hs front back : List Happening) (now : ℕ) (device : DeviceId) (node : Node) (w : Happening)
+module _ {s : Scenario} (hs front back : List Happening) {now : ℕ} {device : DeviceId} {node : Node} {w : Happening}
     (cause : ℕ) (why : Why) where
   -- its adjustment changed last when it did before
   pub clique_change : IsAtWork s hs (front ++ back) now device node → is_turned_on_at s device now ≡ false
@@ -276,7 +276,7 @@ module _ (s : Scenario) (hs front back : List Happening) (now : ℕ) (device : D
       record {
         left = left_called moment
             (left_alike (hs ++ (front ++ w ∷ back)) (borne_in hs front back device w bears)
-            (cliques s old device (now + 1) node w cause why heard verdict lost kept e ends lt later base));
+            (cliques w cause why heard verdict lost kept e ends lt later base));
         done = record {
           undone = λ deed u x from lt. absurd (no_deed s.network device after deed lost u.own);
           done = λ deed there.

@@ -70,13 +70,14 @@ IsRowCause s js now device order (kinds.TtSent other link cause vl cycle) =
     × (dispatch_order s.network (record { 0 = d.place }) ≡ order))
 IsRowCause s js now device order other = ⊥
 
-at_row : (now t d e : ℕ) (order other : List ℕ) → now ∷ 6 ∷ d ∷ order ≡ t ∷ 6 ∷ e ∷ other → (t ≡ now) × (e ≡ d) × (other ≡ order)
-at_row now t d e order other same = (cc, cc, cc)
+at_row : {now t d e : ℕ} {order other : List ℕ} → now ∷ 6 ∷ d ∷ order ≡ t ∷ 6 ∷ e ∷ other → (t ≡ now) × (e ≡ d)
+    × (other ≡ order)
+at_row same = (cc, cc, cc)
 
 -- a correction stands at no row
-no_row : (now t d e : ℕ) (order : List ℕ) → 1 ≤ length order → now ∷ 6 ∷ d ∷ order ≡ t ∷ 6 ∷ e ∷ [] → ⊥
-no_row now t d e order long same =
-    let none : 0 ≡ length order = ap length (at_row now t d e order [] same).2 in
+no_row : {now t d e : ℕ} {order : List ℕ} → 1 ≤ length order → now ∷ 6 ∷ d ∷ order ≡ t ∷ 6 ∷ e ∷ [] → ⊥
+no_row {now} {t} {d} {e} {order} long same =
+    let none : 0 ≡ length order = ap length (at_row same).2 in
     omega arith
 
 module _ (s : Scenario) (js : List Happening) (now : ℕ) (device : DeviceId) (order : List ℕ) (time : Units)
@@ -85,7 +86,7 @@ module _ (s : Scenario) (js : List Happening) (now : ℕ) (device : DeviceId) (o
       (now ∷ 6 ∷ device.0 ∷ order) → IsCaused s js time body
       → (amount time ≡ now) × IsRowCause s js now device order body
   row_cause (kinds.Lost other link cause) long (inr (inl own)) c =
-      let e = at_row now (amount time) device.0 other.0 order _ own.4 in
+      let e = at_row own.4 in
       let same = same_device other device e.1 in (
         e.0,
         (
@@ -94,7 +95,7 @@ module _ (s : Scenario) (js : List Happening) (now : ℕ) (device : DeviceId) (o
         ),
       )
   row_cause (kinds.TtSent other link cause vl cycle) long own c =
-      let e = at_row now (amount time) device.0 other.0 order _ own.1 in
+      let e = at_row own.1 in
       let same = same_device other device e.1 in (
         e.0,
         (
@@ -105,11 +106,11 @@ module _ (s : Scenario) (js : List Happening) (now : ℕ) (device : DeviceId) (o
   row_cause (kinds.Lost other link cause) long (inl own) c = absurd (grind arith)
   row_cause (kinds.Lost other link cause) long (inr (inr own)) c = absurd (grind arith)
   row_cause (kinds.Corrected other cycle by adjustment) long own c =
-      absurd (no_row now (amount time) device.0 other.0 order long own)
+      absurd (no_row long own)
   row_cause (kinds.State other state cause whys.SyncClique) long own c =
-      absurd (no_row now (amount time) device.0 other.0 order long own.1)
+      absurd (no_row long own.1)
   row_cause (kinds.State other state cause whys.AsyncClique) long own c =
-      absurd (no_row now (amount time) device.0 other.0 order long own.1)
+      absurd (no_row long own.1)
   row_cause other long own c = absurd (grind arith)
 
 -- ---- all of it is there
@@ -122,12 +123,12 @@ row_found : {s : Scenario} (hs new front : List Happening) {now : ℕ} {device :
     → IsRowCause s (hs ++ front) now device order body → place_of w ≡ place_of y
 row_found {s} hs new front {now} {device} w y law of_now also t at_w at (kinds.Lost other link cause) is c =
     let x = c.1 in
-    same_told s now device link cause x.0 x.1 w y (same_row hs new front law of_now also t x.2 x.4)
+    same_told s device link cause x.0 x.1 w y (same_row hs new front law of_now also t x.2 x.4)
     (is ∙ (rw c.0
     (sym (rw x.3)))) at_w at
 row_found {s} hs new front {now} {device} w y law of_now also t at_w at (kinds.TtSent other link cause vl cycle) is c =
     let x = c.1 in
-    same_told s now device link cause vl cycle w y (same_row hs new front law of_now also t x.0 x.2)
+    same_told s device link cause vl cycle w y (same_row hs new front law of_now also t x.0 x.2)
     (is ∙ (rw c.0
     (sym (rw x.1)))) at_w at
 row_found hs new front w y law of_now also t at_w at rest is c = absurd c

@@ -82,11 +82,12 @@ second (a ∷ b ∷ more) = b
 second other = 0
 
 -- what stands where the record of a frame that met a cut way does, is one
-lost_at : (t u m d l c : ℕ) (body : NoteBody) → t ∷ 9 ∷ d ∷ l ∷ c ∷ [] ≡ u ∷ rank body ∷ key m body → (other : DeviceId) × (link : LinkId) × (other.0 ≡ d)
+lost_at : {t u : ℕ} (m : ℕ) {d l c : ℕ} (body : NoteBody) → t ∷ 9 ∷ d ∷ l ∷ c ∷ [] ≡ u ∷ rank body ∷ key m body
+    → (other : DeviceId) × (link : LinkId) × (other.0 ≡ d)
     × (link.0 ≡ l) × (body ≡ kinds.Lost other link c)
 unfolding second
-lost_at t u m d l c (kinds.Lost other link from) e = grind arith
-lost_at t u m d l c other e = absurd (let bad = ap second e in omega arith)
+lost_at m (kinds.Lost other link from) e = grind arith
+lost_at m other e = absurd (let bad = ap second e in omega arith)
 
 -- and where that of a dispatch does
 tt_at : (t u m d l c v n : ℕ) (body : NoteBody) → t ∷ 10 ∷ d ∷ l ∷ c ∷ v ∷ n ∷ [] ≡ u ∷ rank body ∷ key m body → (other : DeviceId) × (link : LinkId)
@@ -100,13 +101,14 @@ abbrev body_by : Bool → DeviceId → LinkId → ℕ → VlId → ℕ → NoteB
 body_by cut device link cause vl cycle = if cut then kinds.Lost device link cause else kinds.TtSent device link cause vl cycle
 
 -- what stands at its place is it
-body_at : (cut : Bool) (device : DeviceId) (link : LinkId) (cause : ℕ) (vl : VlId) (cycle t u m : ℕ) (body : NoteBody)
+body_at : (cut : Bool) (device : DeviceId) (link : LinkId) (cause : ℕ) (vl : VlId) (cycle : ℕ) {t u : ℕ} (m : ℕ)
+    (body : NoteBody)
     → t ∷ rank (body_by cut device link cause vl cycle) ∷ key 0 (body_by cut device link cause vl cycle) ≡ u ∷ rank body ∷ key m body
     → body ≡ body_by cut device link cause vl cycle
-body_at true device link cause vl cycle t u m body e =
-    let x = lost_at t u m device.0 link.0 cause body e in
+body_at true device link cause vl cycle {t} {u} m body e =
+    let x = lost_at m body e in
     x.4 ∙ (rw (same_device x.0 device x.2) ((rw (same_link x.1 link x.3))))
-body_at false device link cause vl cycle t u m body e = grind (arith, tt_at, same_device, same_link, same_vl)
+body_at false device link cause vl cycle m body e = grind (arith, tt_at, same_device, same_link, same_vl)
 
 -- what is asked of the record but for its body
 record IsRowRecord (s : Scenario) (hs front back : List Happening) (now : ℕ) (device : DeviceId) (row : RowId) (link : LinkId) (cause : ℕ) (vl : VlId)
@@ -128,7 +130,7 @@ row_record {s} {hs} {front} {now} {device} {link} {cause} {vl} {cycle} true is r
       here = rw r.place at (IsSource.acting now device (doing (dispatching (record { 0 = r.dispatches.place }) cycle))
           (IsActing.dispatches link cause vl cycle r.dispatches));
       caused = inr (inl (vl, cycle, r.dispatches, is));
-      fresh = λ y i e. r.new y i (body_at true device link cause vl cycle now (time_of y) (members_in y) y.note.body e);
+      fresh = λ y i e. r.new y i (body_at true device link cause vl cycle (members_in y) y.note.body e);
       apart = λ other not. (refl, λ at. refl);
       lone = last_unfollowed s hs now (kinds.Lost device link cause) refl;
     }
@@ -139,7 +141,7 @@ row_record {s} {hs} {front} {now} {device} {link} {cause} {vl} {cycle} false is 
       here = rw r.place at (IsSource.acting now device (doing (dispatching (record { 0 = r.dispatches.place }) cycle))
           (IsActing.dispatches link cause vl cycle r.dispatches));
       caused = record { dispatches = r.dispatches; whole = is };
-      fresh = λ y i e. r.new y i (body_at false device link cause vl cycle now (time_of y) (members_in y) y.note.body e);
+      fresh = λ y i e. r.new y i (body_at false device link cause vl cycle (members_in y) y.note.body e);
       apart = λ other not. (refl, λ at. refl);
       lone = last_unfollowed s hs now (kinds.TtSent device link cause vl cycle) refl;
     }
@@ -166,7 +168,7 @@ no_row_told {s} {hs} {coming} {frontier} {now} {device} are founded law z i {lin
     (let y = dispatches_same s (hs ++ split.0) (hs ++ coming) now device link cause other number same x in
     let one = one_row link cause vl cycle law refl y.0 d in
     waits (rw (is ∙ ap place (sym y.1 ∙ one.0)) at by.3)) in
-    elim (dispatch_told s device now link cause vl cycle z.note.body e) [
+    elim (dispatch_told s device now link cause vl cycle e) [
       | inr sent ↦
           let it = subst (λ b. IsOwnSource s (hs ++ split.0) now (members_in z) b by.0) sent own in none vl cycle it.0 it.1
       | inl lost ↦
@@ -234,16 +236,16 @@ dispatches_on : {s : Scenario} {hs : List Happening} (front back : List Happenin
     → IsAtWork s hs (front ++ w ∷ back) now device (called moment acting (with_done node (dispatching row cycle)))
 dispatches_on {s} {hs} front back {now} {device} {node} row cycle moment work p none still due ready =
     let after = called moment acting (with_done node (dispatching row cycle)) in
-    goes_on s hs front back now device node work p
-    (left_on s hs front back now device node work p
+    goes_on front back work p
+    (left_on front back work p
     (record { standing = refl; broken = refl; changed = refl; points = refl }) still
     (sym (append-nil node.heard) ∙ ap (λ o. node.heard ++ option_to_list o) (sym none)) (inl none))
     still
     (does moment (dispatching row cycle) work.done
     (changed_before (hs ++ (front ++ back)) device now) due) (sent_alike after refl refl work.sent) ready
 
-module _ {M : Type 0} (stands : M → Network → DeviceId → Node → Type 0) (s : Scenario)
-    (hs front back : List Happening) (now : ℕ) (device : DeviceId) (machine : M) where
+module _ {M : Type 0} {stands : M → Network → DeviceId → Node → Type 0} {s : Scenario}
+    (hs front back : List Happening) {now : ℕ} {device : DeviceId} {machine : M} where
   -- its record tells of the row
   pub row_told : {node : Node} (row : RowId) {entry : Entry} {cause cycle : ℕ}
       → StageAt stands s hs (front ++ back) now device machine node 6
@@ -259,7 +261,7 @@ module _ {M : Type 0} (stands : M → Network → DeviceId → Node → Type 0) 
       let w = record_of s.network hs front now (dispatch_body s device now entry.row.link cause entry.row.vl cycle) in
       let high = dispatch_late s device now entry.row.link cause entry.row.vl cycle in
       let x = dispatches_it (front ++ w ∷ back) row st.work
-      (λ z i. (put_now s hs front back now device node st.work (as_put now w refl (omega arith)) z i).0)
+      (λ z i. (put_now front back st.work (as_put now w refl (omega arith)) z i).0)
       pending due is hand in
       record {
         link = entry.row.link;
@@ -272,7 +274,7 @@ module _ {M : Type 0} (stands : M → Network → DeviceId → Node → Type 0) 
       }
 
   -- the node that has dispatched, among the records with its own
-  pub has_dispatched_it : (then_ : M) {node : Node} (after : Node) (row : RowId) {entry : Entry} {cause cycle : ℕ}
+  pub has_dispatched_it : (then_ : M) {node : Node} {after : Node} (row : RowId) {entry : Entry} {cause cycle : ℕ}
       → StageAt stands s hs (front ++ back) now device machine node 6
       (device.0 ∷ dispatch_order s.network row) → IsFirstTask s.network device node
       (moment_of s device now).reading.0 (doing (dispatching row cycle))
@@ -282,7 +284,7 @@ module _ {M : Type 0} (stands : M → Network → DeviceId → Node → Type 0) 
       → HasAtHand s.network hs device entry now cause cycle → HasSentIt stands s hs
       (front ++ record_of s.network hs front now (dispatch_body s device now entry.row.link cause entry.row.vl cycle)
       ∷ back) now device then_ node after
-  has_dispatched_it then_ {node} after row {entry} {cause} {cycle} st first act is stood entered hand =
+  has_dispatched_it then_ {node} {after} row {entry} {cause} {cycle} st first act is stood entered hand =
       let link = entry.row.link in
       let vl = entry.row.vl in
       let w = record_of s.network hs front now (dispatch_body s device now link cause vl cycle) in
@@ -308,7 +310,7 @@ module _ {M : Type 0} (stands : M → Network → DeviceId → Node → Type 0) 
         work = rw is work;
         cleared = subst HasCleared (sym is) cleared;
         taken = rw is
-            (taken_then stands s hs front back now device machine node w
+            (taken_then front back w
             st refl (none_taken s device device now link cause vl cycle));
         phase = rw is;
       }
@@ -341,7 +343,7 @@ dispatches_one {reading} {stands} {s} {world} {notes} {old} {device} {machine} {
       on = on;
       apart = λ x. x;
       adjustment = rw act.1.1;
-      did = λ task has. did_deed s now device node act.0 (moment_of s device now) (dispatching row cycle) task act.1.1 has;
+      did = λ task has. did_deed s now device node (moment_of s device now) (dispatching row cycle) task act.1.1 has;
       body = dispatch_body s device now entry.row.link cause entry.row.vl cycle;
       at_place = λ low front. absurd (omega arith);
       late = omega arith;
@@ -349,12 +351,12 @@ dispatches_one {reading} {stands} {s} {world} {notes} {old} {device} {machine} {
       set = set;
       put = put;
       makes = λ front back parts st2 none.
-          let it = has_dispatched_it stands s hs front back now device machine after act.0 row
+          let it = has_dispatched_it hs front back after row
           st2 first act.1
           act.1.1 act.2 is hand in
           record {
             so = dispatching_record front back row st2 first.pending first.due is hand;
-            told = row_told stands s hs front back now device machine row st2 first.pending
+            told = row_told hs front back row st2 first.pending
                 first.due is hand;
             it = it;
           };

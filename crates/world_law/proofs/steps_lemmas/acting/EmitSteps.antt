@@ -69,7 +69,7 @@ emission_record {stands} {s} {hs} front back {now} {device} {machine} {node} sen
       here = IsSource.acting now device (emitting sent)
           (IsActing.emits sent v e);
       caused = e;
-      fresh = fresh_above stands s hs front back now device machine node st
+      fresh = fresh_above front back st
           (record_of s.network hs front now body)
           (omega arith);
       apart = λ other not. (ne_eqb other.0 device.0 not, λ at. refl);
@@ -84,7 +84,7 @@ hears_none s device y other late = refl
 
 has_emitted_it : {M : Type 0} {stands : M → Network → DeviceId → Node → Type 0} {s : Scenario} {hs : List Happening}
     (front back : List Happening) {now : ℕ} {device : DeviceId} {machine : M} (then_ : M)
-    {node : Node} (after : Node) (sent : Compressed) (heard : Ripe)
+    {node : Node} {after : Node} (sent : Compressed) (heard : Ripe)
     → StageAt stands s hs (front ++ back) now device machine node 4 (emission_rest device sent)
     → IsFirstTask s.network device node (moment_of s device now).reading.0 (emitting sent)
     → IsActOf s.network device node (moment_of s device now) (acts.Emit sent heard) after
@@ -94,7 +94,7 @@ has_emitted_it : {M : Type 0} {stands : M → Network → DeviceId → Node → 
     (front
     ++ (record_of s.network hs front now (emission_body device sent (own_judgement s.network device node sent)))
     ∷ back) now device then_ node after
-has_emitted_it {stands} {s} {hs} front back {now} {device} {machine} then_ {node} after sent heard st
+has_emitted_it {stands} {s} {hs} front back {now} {device} {machine} then_ {node} {after} sent heard st
     first act is stays stood =
     let v = own_judgement s.network device node sent in
     let w = record_of s.network hs front now (emission_body device sent v) in
@@ -109,7 +109,7 @@ has_emitted_it {stands} {s} {hs} front back {now} {device} {machine} then_ {node
       work = emits_on front back st.work (as_put now w refl (omega arith)) x
           (λ z i. hears_none s device z z.note.body (st.above z (in_right z front back i))) first.due ready;
       cleared = λ n has. rw x.but.standing (st.cleared n (rw x.done at has));
-      taken = x.taken ∙ taken_then stands s hs front back now device machine node w st refl (λ at. refl);
+      taken = x.taken ∙ taken_then front back w st refl (λ at. refl);
       phase = rw is (called_phase s.network device node moment sent v);
     }
   where
@@ -172,6 +172,6 @@ emits_one {reading} {stands} {s} {world} {notes} {old} {device} {machine} {after
       makes = λ front back parts st2 none. record {
         so = emission_record front back sent st2 first.pending first.due stays;
         told = λ order e. (let four : 4 ≡ 6 = ap second e in absurd (omega arith));
-        it = has_emitted_it front back after act.0 sent heard st2 first act.1 is stays act.2;
+        it = has_emitted_it front back after sent heard st2 first act.1 is stays act.2;
       };
     }

@@ -31,10 +31,10 @@ point_ends {s} {world} {device} cycle (Corrected by) on due =
     let x = on.did in
     let heard = x.1.1.0 in
     let is = x.1.1.2 in
-    let point = at_point s device now node cycle heard (Corrected by) x.1.0 x.1.1.1 in
+    let point = at_point s now cycle x.1.0 x.1.1.1 in
     none_due now (corrects_it s.network (s.reading device) device node now (moment_of s device now) heard by refl)
-    (corrected_sent s device node (moment_of s device now) heard by on.st.work.sent
-    (no_frames s device now node cycle heard (Corrected by) x.1.0.pending.0 point))
+    (corrected_sent (moment_of s device now) heard by on.st.work.sent
+    (no_frames s now cycle x.1.0.pending.0 point))
     (omega arith) (rw is at (due x.0 x.2))
 point_ends {s} {world} {device} cycle SyncClique on due =
     let now = world.now in
@@ -55,12 +55,12 @@ point_ends {s} {world} {notes} {device} cycle Cleared on due =
     let task = x.1.0 in
     let heard = x.1.1.0 in
     let to = x.1.1.1 in
-    let point = at_point s device now node cycle heard Cleared task to in
-    let off = not_on s hs world.settled now device node st.work (point_number node.standing.state node.standing.number cycle task.pending.1.own).0 in
+    let point = at_point s now cycle task to in
+    let off = not_on st.work (point_number node.standing.state node.standing.number cycle task.pending.1.own).0 in
     let over = cleared_over cycle (moment_of s device now) heard st.work off st.calm.off st.calm.broken st.calm.falls
     st.cleared
     to.verdict_is task.pending.1 task.due (st.work.ready.in_time (doing (correcting cycle)) task.pending) st.wide
-    (no_frames s device now node cycle heard Cleared task.pending.0 point) in
+    (no_frames s now cycle task.pending.0 point) in
     not_over (hs ++ world.settled) now over.done over.sent (changed_soon (hs ++ world.settled) device now)
     (rw x.1.1.2 at (due x.0 x.2))
 

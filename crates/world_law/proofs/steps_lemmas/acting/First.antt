@@ -75,8 +75,8 @@ pub record IsActFirst {M : Type 0} (stands : M → Network → DeviceId → Node
   pub past : (h : Happening) → IsIn h (hs ++ coming) → time_of h ≤ now
   pub late : (z : Happening) → IsIn z coming → 4 ≤ rank z.note.body
 
-module _ {M : Type 0} (stands : M → Network → DeviceId → Node → Type 0) (s : Scenario) (hs coming : List Happening)
-    (frontier : List ℕ) (now : ℕ) (device : DeviceId) (machine : M) (task : Task) where
+module _ {M : Type 0} {stands : M → Network → DeviceId → Node → Type 0} {s : Scenario} {hs coming : List Happening}
+    {frontier : List ℕ} {now : ℕ} {device : DeviceId} {machine : M} {task : Task} where
   -- no act of the device that is not worked off stands before it
   act_none : {other : Task} → IsActFirst stands s hs coming frontier now device machine task
       → IsActing s hs now device other → IsBefore (task_place s.network now device other)
@@ -98,23 +98,23 @@ module _ {M : Type 0} (stands : M → Network → DeviceId → Node → Type 0) 
       ]
 
   -- no source is between, that is not worked off
-  act_sources : (r : ℕ) (more : List ℕ) → IsActFirst stands s hs coming frontier now device machine task
+  act_sources : {r : ℕ} {more : List ℕ} → IsActFirst stands s hs coming frontier now device machine task
       → task_place s.network now device task ≡ now ∷ r ∷ device.0 ∷ more → 4 ≤ r → r ≤ 6 → {v : List ℕ}
       → IsSource s hs v → (IsBefore v frontier → ⊥) → IsBefore v (now ∷ r ∷ device.0 ∷ more)
       → (IsBefore v (now ∷ r ∷ device.0 ∷ []) → ⊥) → ⊥
-  act_sources r more x place late low {v} (IsSource.arriving t d link cause a) not b from =
+  act_sources {r} {more} x place late low {v} (IsSource.arriving t d link cause a) not b from =
       let at = between t now 2 r device.0 _ more v refl b from in let two = at.1 in omega arith
-  act_sources r more x place late low {v} (IsSource.ripening t d link cause point a) not b from =
+  act_sources {r} {more} x place late low {v} (IsSource.ripening t d link cause point a) not b from =
       let at = between t now 3 r device.0 _ more v refl b from in omega arith
-  act_sources r more x place late low {v} (IsSource.departing t d link cause a) not b from =
+  act_sources {r} {more} x place late low {v} (IsSource.departing t d link cause a) not b from =
       let at = between t now 8 r device.0 _ more v refl b from in omega arith
-  act_sources r more x place late low {v} (IsSource.following t cause h it) not b from =
+  act_sources {r} {more} x place late low {v} (IsSource.following t cause h it) not b from =
       let at = between t now 2 r device.0 [] more v refl b from in omega arith
-  act_sources r more x place late low {v} (IsSource.befalling time line what it) not b from =
+  act_sources {r} {more} x place late low {v} (IsSource.befalling time line what it) not b from =
       let at = between _ now 1 r device.0 [] more v refl b from in omega arith
-  act_sources r more x place late low {v} (IsSource.ending time d is there it) not b from =
+  act_sources {r} {more} x place late low {v} (IsSource.ending time d is there it) not b from =
       let at = between _ now 14 r device.0 _ more v refl b from in omega arith
-  act_sources r more x place late low {v} (IsSource.acting t d other a) not b from =
+  act_sources {r} {more} x place late low {v} (IsSource.acting t d other a) not b from =
       let p = placed_so s.network t d other in
       let at = between t now p.rank r device.0 (d.0 ∷ p.rest) more v p.is b from in
       let its : d.0 ≡ device.0 = let e = at.2.1 in cc in
@@ -145,9 +145,7 @@ act_next {stands} {s} {world} {notes} {old} {device} {machine} act first apart x
           elim (Rattle.run_law.proofs.runs.Places.before_or_not v (place_of_act world.now device act)) [
             | inl sooner ↦ first.none v source not sooner
             | inr from ↦
-                act_sources stands s (happenings s.network notes) world.settled old.frontier world.now device machine
-                (task_of act) (rank_of_act act)
-                (act_more s.network act) x (act_stands s.network world.now device act) high (low_rank act) source not
+                act_sources x (act_stands s.network world.now device act) high (low_rank act) source not
                 b from
           ];
       after = λ z i b.

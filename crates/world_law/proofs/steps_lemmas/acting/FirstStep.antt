@@ -70,9 +70,9 @@ two_go_by {C} {M} {reading} {stands} {s} {world} {notes} {device} {machine} {aft
     let low = st.low in
     let ranks : rank body ≡ r = ap second a.stands in
     let pair : IsPair s r more q = record {
-      one = one_caused stands s hs [] coming now device machine node st
+      one = one_caused [] coming st
           (λ z i. absurd i) q.first a.caused a.own a.here
-          (fresh_above stands s hs [] coming now device machine node st w (omega arith));
+          (fresh_above [] coming st w (omega arith));
       no_event = λ one. omega arith;
       low = low;
       acts = a.acts;
@@ -100,12 +100,13 @@ two_go_by {C} {M} {reading} {stands} {s} {world} {notes} {device} {machine} {aft
 
 pub first_goes_by : {C M : Type 0} {reading : C → ℕ → ℕ} {stands : M → Network → DeviceId → Node → Type 0}
     {s : Scenario} {world : World C M} {notes : List Note} {old : Stands reading stands s world notes}
-    {device : DeviceId} {machine after : M} {cycle : ℕ} (by : Units) {adjustment : Units} {machines : List M}
+    {device : DeviceId} {machine after : M} {cycle : ℕ} {by : Units} {adjustment : Units} {machines : List M}
     {settled : List Happening} → IsCorrecting reading stands s world notes old device machine after cycle
     (Corrected by) Joining adjustment machines settled → StandsBehind reading stands s
     (record world { early = false; machines = machines; settled = settled }) notes
     (rows_place world.now device)
-first_goes_by {reading} {stands} {s} {world} {notes} {old} {device} {machine} {after} {cycle} by {adjustment} {settled} x =
+first_goes_by {reading} {stands} {s} {world} {notes} {old} {device} {machine} {after} {cycle} {by} {adjustment}
+    {settled} x =
     let hs = happenings s.network notes in
     let now = world.now in
     let on = x.on in
@@ -119,8 +120,8 @@ first_goes_by {reading} {stands} {s} {world} {notes} {old} {device} {machine} {a
     let joining : node.standing.state ≡ Joining = sym (x.stood node st.is).0 in
     let sum : adjustment ≡ act.0.standing.adjustment = (x.stands_then act.0 act.2).1 in
     let sum_is : adjustment.0 ≡ (node.standing.adjustment.0 +ℤ by.0) = rw sum (rw is) in
-    let off = not_on s hs world.settled now device node st.work point_is.0 in
-    let point = at_point s device now node cycle heard (Corrected by) first act.1.1.1 in
+    let off = not_on st.work point_is.0 in
+    let point = at_point s now cycle first act.1.1.1 in
     let ready = ready_after s act.0 (acts.Correct cycle (Corrected by)) st.work.ready st.steady st.precise st.wide
     on.may act.1
     (rw is) in
@@ -141,7 +142,7 @@ first_goes_by {reading} {stands} {s} {world} {notes} {old} {device} {machine} {a
       sum = sym sum_is;
       reads = refl;
     } in
-    let quiet = no_frames s device now node cycle heard (Corrected by) first.pending.0 point in
+    let quiet = no_frames s now cycle first.pending.0 point in
     let over : IsOver s (hs ++ new) now device act.0 = rw is
     (joiner_over [] q.mid q.back v (length hs + 1) heard st3.work off st.calm.off
     st.calm.broken refl (rw q.parts at q.first) so joining refl
@@ -155,13 +156,13 @@ first_goes_by {reading} {stands} {s} {world} {notes} {old} {device} {machine} {a
     (as_put now v refl (omega arith)) (omega arith) in
     let mid_now : (z : Happening) → IsIn z (w ∷ q.mid) → time_of z ≡ now = λ z i.
     g1.of_now z (rw q.parts (in_left z (w ∷ q.mid) q.back i)) in
-    let due = corrected_cause stands s hs [] world.settled now device machine node cycle by
+    let due = corrected_cause hs [] world.settled by
     adjustment st point sum_is q.first in
     two_go_by on.here st q on.room
     (record {
       own = λ m. refl;
       here = IsSource.acting now device (doing (correcting cycle))
-          (IsActing.corrects cycle (at_correction s hs world.settled [] now device node cycle st.work (λ z i. absurd i) point.pending point.due));
+          (IsActing.corrects cycle (at_correction [] cycle st.work (λ z i. absurd i) point.pending point.due));
       caused = due;
       stands = refl;
       acts = λ six. refl;
@@ -178,8 +179,7 @@ first_goes_by {reading} {stands} {s} {world} {notes} {old} {device} {machine} {a
     (all_point st.work point g2 (w, inl refl, refl))
     (kept_over stands {hs = hs} {new = new} {frontier = behind (rows_place now device)} after act.2 st.work.sound over
     ready cleared
-    (rw is (taken_then stands s hs [] world.settled now device machine
-    node w st refl
+    (rw is (taken_then [] world.settled w st refl
     (λ at. refl) ∙ ap (λ (l : List Happening). frames_taken s (hs ++ w ∷ l) device) q.parts
     ∙ frames_put s hs (w ∷ q.mid) q.back now v device
     (λ h i. elim (in_parts h hs (w ∷ (q.mid ++ q.back)) i) [
@@ -188,6 +188,6 @@ first_goes_by {reading} {stands} {s} {world} {notes} {old} {device} {machine} {a
     ]) refl (λ at. refl)))
     (bare_act s.network device node (moment_of s device now) (acts.Correct cycle (Corrected by)) act.0 act.1 st.bare)
     (λ on. absurd (both_ways (is_turned_on_at s device now) off on)) (rw is)
-    st.calm.falls (corrected_worked act.0 heard by (changed_at (hs ++ new) device (now + 1)) st is) st.reach
+    st.calm.falls (corrected_worked heard by (changed_at (hs ++ new) device (now + 1)) st is) st.reach
     (inl (out_by_acts s hs now device
-    (none_at_point s hs world.settled now device node cycle old.range old.rules st.steady st.work point.pending point.due)))) x.set
+    (none_at_point cycle old.range old.rules st.steady st.work point.pending point.due)))) x.set

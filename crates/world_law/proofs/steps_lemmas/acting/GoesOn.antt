@@ -18,58 +18,59 @@ pub record IsPutAs (now : ℕ) (w : Happening) : Type 0 where
   pub at : time_of w ≡ now
   pub late : 4 ≤ rank w.note.body
 
-module _ (s : Scenario) (hs front back : List Happening) (now : ℕ) (device : DeviceId) (node : Node) where
-  pub put_now : {w : Happening} → IsAtWork s hs (front ++ back) now device node → IsPutAs now w → (z : Happening)
-      → IsIn z (front ++ w ∷ back) → (time_of z ≡ now) × (4 ≤ rank z.note.body)
-  put_now {w} work p z i = elim (placed_back [] front back w z i) [
-    | inl e ↦ rw e (p.at, p.late)
-    | inr was ↦ work.of_now z was
-  ]
+module _ {s : Scenario} {hs : List Happening} (front back : List Happening) {now : ℕ} {device : DeviceId} {node : Node}
+  where
+    pub put_now : {w : Happening} → IsAtWork s hs (front ++ back) now device node → IsPutAs now w → (z : Happening)
+        → IsIn z (front ++ w ∷ back) → (time_of z ≡ now) × (4 ≤ rank z.note.body)
+    put_now {w} work p z i = elim (placed_back [] front back w z i) [
+      | inl e ↦ rw e (p.at, p.late)
+      | inr was ↦ work.of_now z was
+    ]
 
-  pub earlier_put : {w : Happening} → IsAtWork s hs (front ++ back) now device node → IsPutAs now w
-      → earlier now (hs ++ (front ++ back)) ≡ earlier now (hs ++ (front ++ w ∷ back))
-  earlier_put {w} work p =
-      all_earlier s hs (front ++ back) (front ++ w ∷ back) now (λ z i. (work.of_now z i).0)
-      (λ z i. (put_now work p z i).0)
+    pub earlier_put : {w : Happening} → IsAtWork s hs (front ++ back) now device node → IsPutAs now w
+        → earlier now (hs ++ (front ++ back)) ≡ earlier now (hs ++ (front ++ w ∷ back))
+    earlier_put {w} work p =
+        all_earlier s hs (front ++ back) (front ++ w ∷ back) now (λ z i. (work.of_now z i).0)
+        (λ z i. (put_now work p z i).0)
 
-  pub left_on : {after : Node} {w : Happening} → IsAtWork s hs (front ++ back) now device node → IsPutAs now w
-      → IsSameBut node after → moves device w.note.body ≡ false
-      → after.heard ≡ node.heard ++ option_to_list (hearing_by s.network device w w.note.body)
-      → (hearing_by s.network device w w.note.body ≡ None) ⊎ (heard_by_these s device back ≡ [])
-      → IsLeft s (hs ++ (front ++ w ∷ back)) device now after
-  left_on {w} work p but still heard either =
-      let same = earlier_put work p in
-      let put =
-      heard_put s hs front back device now w (λ z i. (work.of_now z i).0) p.at either in
-      left_now (hs ++ (front ++ w ∷ back)) same but
-      (λ timed. heard ∙ (rw (work.left.counted.heard timed) (sym put)))
-      (points_put s hs front back now device w (λ z i. let x = work.of_now z i in
-      (work.still z (in_right z hs (front ++ back) i) x.0, x.1)) (inl still) p.late)
-      work.left
+    pub left_on : {after : Node} {w : Happening} → IsAtWork s hs (front ++ back) now device node → IsPutAs now w
+        → IsSameBut node after → moves device w.note.body ≡ false
+        → after.heard ≡ node.heard ++ option_to_list (hearing_by s.network device w w.note.body)
+        → (hearing_by s.network device w w.note.body ≡ None) ⊎ (heard_by_these s device back ≡ [])
+        → IsLeft s (hs ++ (front ++ w ∷ back)) device now after
+    left_on {w} work p but still heard either =
+        let same = earlier_put work p in
+        let put =
+        heard_put s hs front back device w (λ z i. (work.of_now z i).0) p.at either in
+        left_now (hs ++ (front ++ w ∷ back)) same but
+        (λ timed. heard ∙ (rw (work.left.counted.heard timed) (sym put)))
+        (points_put s hs front back now device w (λ z i. let x = work.of_now z i in
+        (work.still z (in_right z hs (front ++ back) i) x.0, x.1)) (inl still) p.late)
+        work.left
 
-  -- what the device has done and sent since, and its readiness, given apart
-  pub goes_on : {after : Node} {w : Happening} → IsAtWork s hs (front ++ back) now device node → IsPutAs now w
-      → IsLeft s (hs ++ (front ++ w ∷ back)) device now after → moves device w.note.body ≡ false
-      → HasDoneFrom s.network (s.reading device) device after (changed_at (hs ++ (front ++ back)) device now) now
-      (now + 1) → HasSentFrom s device after now (now + 1) → IsReadyAt (s.reading device) s.network device after now
-      → IsAtWork s hs (front ++ w ∷ back) now device after
-  goes_on {after} {w} work p left still done sent ready =
-      record {
-        left = left;
-        done = rw (earlier_put work p) at done;
-        sent = sent;
-        ready = ready;
-        still = λ h i at. elim (placed_back hs front back w h i) [
-          | inl e ↦ inl (rw e still)
-          | inr was ↦ work.still h was at
-        ];
-        past = λ h i. elim (placed_back hs front back w h i) [
-          | inl e ↦ let here : time_of h ≡ time_of w = ap time_of e in let at = p.at in omega arith
-          | inr was ↦ work.past h was
-        ];
-        of_now = put_now work p;
-        sound = work.sound;
-      }
+    -- what the device has done and sent since, and its readiness, given apart
+    pub goes_on : {after : Node} {w : Happening} → IsAtWork s hs (front ++ back) now device node → IsPutAs now w
+        → IsLeft s (hs ++ (front ++ w ∷ back)) device now after → moves device w.note.body ≡ false
+        → HasDoneFrom s.network (s.reading device) device after (changed_at (hs ++ (front ++ back)) device now) now
+        (now + 1) → HasSentFrom s device after now (now + 1) → IsReadyAt (s.reading device) s.network device after now
+        → IsAtWork s hs (front ++ w ∷ back) now device after
+    goes_on {after} {w} work p left still done sent ready =
+        record {
+          left = left;
+          done = rw (earlier_put work p) at done;
+          sent = sent;
+          ready = ready;
+          still = λ h i at. elim (placed_back hs front back w h i) [
+            | inl e ↦ inl (rw e still)
+            | inr was ↦ work.still h was at
+          ];
+          past = λ h i. elim (placed_back hs front back w h i) [
+            | inl e ↦ let here : time_of h ≡ time_of w = ap time_of e in let at = p.at in omega arith
+            | inr was ↦ work.past h was
+          ];
+          of_now = put_now work p;
+          sound = work.sound;
+        }
 
 -- ---- a deed is done
 
@@ -108,8 +109,8 @@ sends_on {s} {hs} front back {now} {device} {node} {w} cycle moment work p e due
     let after = called moment acting (with_done node (sending cycle)) in
     let none : hearing_by s.network device w w.note.body ≡ None = ap (hearing_by s.network device w) e in
     let still : moves device w.note.body ≡ false = ap (moves device) e in
-    goes_on s hs front back now device node work p
-    (left_on s hs front back now device node work p
+    goes_on front back work p
+    (left_on front back work p
     (record { standing = refl; broken = refl; changed = refl; points = refl }) still
     (sym (append-nil node.heard) ∙ ap (λ o. node.heard ++ option_to_list o) (sym none)) (inl none))
     still
@@ -217,8 +218,8 @@ pub emits_on : {s : Scenario} {hs : List Happening} (front back : List Happening
     → sent.at.0 ≤ℤ pos (s.reading device now) → IsReadyAt (s.reading device) s.network device after now
     → IsAtWork s hs (front ++ w ∷ back) now device after
 emits_on {s} {hs} front back {now} {device} {node} {after} {sent} work p x none due ready =
-    goes_on s hs front back now device node work p
-    (left_on s hs front back now device node work p x.but x.still x.heard (inr (none_heard s device back none))) x.still
+    goes_on front back work p
+    (left_on front back work p x.but x.still x.heard (inr (none_heard s device back none))) x.still
     (done_alike
     (alike_by s.network device node x) x.done work.done)
     (record {

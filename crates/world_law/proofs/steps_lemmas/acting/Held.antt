@@ -15,9 +15,9 @@ pub record IsHeldFrame (s : Scenario) (hs : List Happening) (stored : List Store
   pub octets : (e : Stored) → IsIn e stored → e.device ≡ device → e.vl ≡ entry.row.vl → e.octets ≡ octets_from hs e.number
 
 -- a number of a record is not 0
-numbered_some : (hs : List Happening) (n : ℕ) (h : Happening) → numbered hs n ≡ Some h → 1 ≤ n
-numbered_some hs zero h e = absurd cc
-numbered_some hs (suc n) h e = omega arith
+numbered_some : (hs : List Happening) (n : ℕ) {h : Happening} → numbered hs n ≡ Some h → 1 ≤ n
+numbered_some hs zero e = absurd cc
+numbered_some hs (suc n) e = omega arith
 
 -- what is stored of it is of the last taking
 stored_of : {hs : List Happening} {stored : List Stored} (device : DeviceId) (vl : VlId) (taking : Happening)
@@ -69,6 +69,6 @@ held_frame stands s hs coming now device machine node row cycle stored r more st
               inr (took.0, accepted);
           some = λ e i of_device of_vl.
               rw (stored_of device vl taken e are taking i of_device of_vl).0
-              (numbered_some hs taken.note.number taken number);
+              (numbered_some hs taken.note.number number);
           octets = grind (arith, stored_of, option_map_or, numbered);
         }

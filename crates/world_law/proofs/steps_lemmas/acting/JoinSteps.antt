@@ -29,10 +29,12 @@ joins_so other e = absurd cc
 -- ---- what bears on it behind its frame
 
 -- while the device acts, what is to come bears on it only as its frames, or by a change of its state as it was turned on
-pub bears_so : (s : Scenario) (device : DeviceId) (now : ℕ) (y : Happening) → 4 ≤ rank y.note.body → time_of y ≡ now → IsAtRest s device now y.note.body
+pub bears_so : (s : Scenario) (device : DeviceId) {now : ℕ} (y : Happening) → 4 ≤ rank y.note.body → time_of y ≡ now
+    → IsAtRest s device now y.note.body
     → ((c : Compressed) (u : Judgement) → y.note.body ≡ emission_body device c u → ⊥) → bears_on device y.note.body ≡ true
     → ChangesIt device (now + 1) y × AsState y.note.body
-bears_so s device now y late at rest not bears = by_body y.note.body refl (subst (IsAtRest s device now) refl rest) bears
+bears_so s device {now} y late at rest not bears = by_body y.note.body refl (subst (IsAtRest s device now) refl rest)
+    bears
   where
     by_body : (body : NoteBody) → y.note.body ≡ body → IsAtRest s device now body → bears_on device body ≡ true → ChangesIt device (now + 1) y
         × AsState y.note.body
@@ -125,7 +127,7 @@ join_goes_by {reading} {stands} {s} {world} {notes} {old} {device} {machine} {af
     let new = pair_put s.network hs now body q.mid device Joining whys.Frame q.back in
     let put1 = as_put now w refl (omega arith) in
     let new1_now : (z : Happening) → IsIn z (w ∷ (q.mid ++ q.back)) → time_of z ≡ now = λ z i.
-    (put_now s hs [] world.settled now device node st.work put1 z
+    (put_now [] world.settled st.work put1 z
     (rw q.parts i)).0 in
     let e : Emits s (hs ++ []) device now sent judgements.Integrates =
     rw v_is at (emits [] world.settled sent st.work refl first.pending first.due) in
@@ -137,7 +139,7 @@ join_goes_by {reading} {stands} {s} {world} {notes} {old} {device} {machine} {af
     let in_rest : (z : Happening) → IsIn z q.back → IsIn z world.settled =
     λ z i. rw q.parts (in_right z q.mid q.back i) in
     let changes_it : (z : Happening) → IsIn z world.settled → bears_on device z.note.body ≡ true → ChangesIt device (now + 1) z = λ z i b.
-    (bears_so s device now z (st.work.of_now z i).1 (st.work.of_now z i).0 (resting z i) (lone_frame z i) b).0 in
+    (bears_so s device z (st.work.of_now z i).1 (st.work.of_now z i).0 (resting z i) (lone_frame z i) b).0 in
     let over : IsOver s (hs ++ new) now device act.0 = rw is
     (joined_over s hs [] q.mid q.back now device node w v sent (n + 1) moment st.work.left.counted.plan
     (st.work.left.counted.broken ∙ sym st.calm.broken) st.calm.off st.calm.falls refl refl refl refl refl refl
@@ -168,7 +170,7 @@ join_goes_by {reading} {stands} {s} {world} {notes} {old} {device} {machine} {af
     turned_aside s hs (w ∷ q.mid) q.back v device
     (rw q.parts at (turned_aside s hs [] world.settled w device
     (turned_by st.moving (st.turned on))
-    (rw (earlier_put s hs [] world.settled now device node st.work put1))))
+    (rw (earlier_put [] world.settled st.work put1))))
     (rw earlier2) in
     two_go_by on.here st q on.room
     (record {
@@ -182,10 +184,9 @@ join_goes_by {reading} {stands} {s} {world} {notes} {old} {device} {machine} {af
       follows = inl refl;
       changes = λ there. (refl, (w, there, eq-eqb device.0 device.0 refl));
     })
-    (all_one s hs new now 4 more w (omega arith) (omega arith) there refl)
+    (all_one s hs new {now = now} {r = 4} {more = more} w (omega arith) (omega arith) there refl)
     (kept_over stands after act.2 st.work.sound over ready cleared
-    (rw is (taken_then stands s hs [] world.settled now device machine
-    node w st refl none_w
+    (rw is (taken_then [] world.settled w st refl none_w
     ∙ ap (λ l. frames_taken s (hs ++ w ∷ l) device) q.parts
     ∙ frames_put s hs (w ∷ q.mid) q.back now v device
     (λ h i. elim (in_parts h hs (w ∷ (q.mid ++ q.back)) i) [

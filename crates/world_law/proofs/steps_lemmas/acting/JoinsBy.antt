@@ -30,8 +30,7 @@ counts_on {s} {js} {device} {u} {node} ks =
     (λ all c. rw (append-nil js) c)
     (λ l k same all c.
     let it = all k (Rattle.run_law.proofs.runs.Places.in_right k l (k ∷ []) (inl refl)) in
-    rw (append_assoc js l (k ∷ [])) at (change_counts s (js ++ l) device u node k it.state it.cause it.why it.is
-    it.before
+    rw (append_assoc js l (k ∷ [])) at (change_counts (js ++ l) k it.state it.cause it.why it.is it.before
     (same (λ y i. all y (Rattle.run_law.proofs.runs.Places.in_left y l (k ∷ []) i)) c))) ks
 
 twice : {X : Type 0} (q : X → Bool) (xs : List X) → filter q (filter q xs) ≡ filter q xs
@@ -92,8 +91,9 @@ joined_over s hs front mid rest now device node w f sent cause moment plan sound
     let counted = counts_on ks changes first.counted in
     let lt : time_of f < u = omega arith in
     let whole : IsLeft s ((((hs ++ front) ++ w ∷ []) ++ ks) ++ f ∷ []) device u lone =
-    change_leaves s (((hs ++ front) ++ w ∷ []) ++ ks) device u lone f Joining cause whys.Frame fe (self device) lt later refl (λ cm. refl)
-    (change_counts s (((hs ++ front) ++ w ∷ []) ++ ks) device u lone f Joining cause whys.Frame fe lt counted) in
+    change_leaves (((hs ++ front) ++ w ∷ []) ++ ks) f Joining cause whys.Frame fe (self device) lt later refl
+    (λ cm. refl)
+    (change_counts (((hs ++ front) ++ w ∷ []) ++ ks) f Joining cause whys.Frame fe lt counted) in
     record {
       left = emitted_left (left_called moment
           (left_alike (hs ++ (front ++ w ∷ (mid ++ f ∷ rest)))

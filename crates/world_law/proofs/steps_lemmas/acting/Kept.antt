@@ -92,8 +92,8 @@ bare_act network device node moment (acts.Dispatch row cycle) new is bare = subs
 
 -- ---- it is kept
 
-no_step : (now : ℕ) → now ≡ now + 1 → ⊥
-no_step now e = omega arith
+no_step : {now : ℕ} → now ≡ now + 1 → ⊥
+no_step e = omega arith
 
 -- where it has done so by the times, and what it has done at the instant is before the frontier
 pub to_worked : {s : Scenario} {device : DeviceId} {node : Node} {changed up : ℕ} (now : ℕ) (frontier : List ℕ)
@@ -152,7 +152,7 @@ kept_on stands {hs} {new} frontier {now} {device} machine {after} is work cleare
       sound = work.sound;
       up = now;
       acted = inl (refl, did);
-      told = λ over. absurd (no_step now over);
+      told = λ over. absurd (no_step over);
       left = work.left;
       taken = taken;
       bare = bare;
@@ -213,7 +213,7 @@ kept_over stands {hs} {new} {frontier} {now} {device} machine {after} is sound o
       worked = to_worked now frontier over.done over.sent worked (changed_soon (hs ++ new) device now) falls past;
       bare = bare;
       ready = ready;
-      still = λ same. absurd (no_step now (sym same));
+      still = λ same. absurd (no_step (sym same));
       turned = turned;
       cleared = cleared;
       phase = λ at. acted_phase after device now frontier phase past;

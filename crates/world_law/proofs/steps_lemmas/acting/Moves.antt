@@ -96,8 +96,8 @@ pub record IsCorrectedSo (s : Scenario) (device : DeviceId) (u : ℕ) (node : No
   pub sum : (node.standing.adjustment.0 +ℤ by.0) ≡ adjustment.0
   pub reads : moment.reading.0 ≡ pos (s.reading device (time_of h))
 
-module _ (s : Scenario) (hs : List Happening) (device : DeviceId) (u : ℕ) (node : Node) (h : Happening) (cycle : ℕ)
-    (by adjustment : Units) (moment : Moment) (heard : Summary) where
+module _ {s : Scenario} {hs : List Happening} {device : DeviceId} {u : ℕ} {node : Node} {h : Happening} {cycle : ℕ}
+    {by adjustment : Units} {moment : Moment} (heard : Summary) where
   pub corrected_counts : IsCorrectedSo s device u node h cycle by adjustment moment → IsBase s hs device u node
       → IsCounted s (hs ++ h ∷ []) device u (with_corrected node moment heard by)
   corrected_counts so left =
@@ -183,7 +183,7 @@ heard_none : (s : Scenario) (device : DeviceId) (w since : List Happening) (u : 
     → heard_in s device w u (since ++ h ∷ []) ≡ heard_in s device w u since
 heard_none s device w since u h none = grind (arith, filter_map, hearing_by, filter-append, not, cleared_in, time_of, heard_none_by, filter)
 
-module _ (s : Scenario) (hs : List Happening) (device : DeviceId) (u : ℕ) (node : Node) (h : Happening)
+module _ {s : Scenario} (hs : List Happening) {device : DeviceId} {u : ℕ} {node : Node} (h : Happening)
     (state : State) (cause : ℕ) (why : Why) (e : h.note.body ≡ notes.State device state cause why) where
   -- all but its state and its points is told by the other records
   pub change_counts : time_of h < u → IsCounted s hs device u node → IsCounted s (hs ++ h ∷ []) device u node
@@ -233,7 +233,7 @@ module _ (s : Scenario) (hs : List Happening) (device : DeviceId) (u : ℕ) (nod
   change_leaves ends lt off is none counted =
       grind (arith, state_changed, earlier, state_after, one_earlier, not_turned_on, filter_map, point_by, behind_yes, ends_stretch)
 
-module _ (s : Scenario) (hs : List Happening) (device : DeviceId) (u : ℕ) (node : Node) where
+module _ {s : Scenario} {hs : List Happening} {device : DeviceId} {u : ℕ} {node : Node} where
   -- a joiner that has its first correction stands as both records leave it
   pub joiner_corrects : {h : Happening} (g : Happening) {cycle : ℕ} (cause : ℕ) {by adjustment : Units}
       {moment : Moment} (heard : Summary) → IsCorrectedSo s device u node h cycle by adjustment moment
@@ -241,12 +241,12 @@ module _ (s : Scenario) (hs : List Happening) (device : DeviceId) (u : ℕ) (nod
       → g.note.body ≡ notes.State device Synchronised cause whys.Correction → time_of g < u
       → IsBase s hs device u node → IsLeft s ((hs ++ h ∷ []) ++ g ∷ []) device u (with_corrected node moment heard by)
   joiner_corrects {h} g {cycle} cause {by} {adjustment} {moment} heard so joining off e lt left =
-      change_leaves s (hs ++ h ∷ []) device u (with_corrected node moment heard by) g Synchronised cause
+      change_leaves (hs ++ h ∷ []) g Synchronised cause
       whys.Correction e (self device) lt off refl
       (λ cm. rw joining)
-      (change_counts s (hs ++ h ∷ []) device u (with_corrected node moment heard by) g Synchronised cause
+      (change_counts (hs ++ h ∷ []) g Synchronised cause
       whys.Correction e lt
-      (corrected_counts s hs device u node h cycle by adjustment moment heard so left))
+      (corrected_counts heard so left))
 
   -- a clique verdict changes no part that counts in the state that it leads to
   clique_counts : (heard : Summary) (verdict : Verdict) → state_by node.standing.state verdict ≡ Integrating
@@ -263,9 +263,9 @@ module _ (s : Scenario) (hs : List Happening) (device : DeviceId) (u : ℕ) (nod
       → is_turned_on_at s device u ≡ false → IsBase s hs device u node
       → IsLeft s (hs ++ h ∷ []) device u (with_clique node heard verdict)
   cliques h cause why heard verdict lost same e ends lt off left =
-      change_leaves s hs device u (with_clique node heard verdict) h Integrating cause why e ends lt off lost
+      change_leaves hs h Integrating cause why e ends lt off lost
       (λ cm. refl)
-      (change_counts s hs device u (with_clique node heard verdict) h Integrating cause why e lt
+      (change_counts hs h Integrating cause why e lt
       (clique_counts heard verdict lost same left))
 
 -- ---- a frame tells the time

@@ -66,9 +66,10 @@ module _ (s : Scenario) (js : List Happening) (t m now r : ℕ) (more : List ℕ
   of_its_kind other o late low = grind arith
 
 -- so its record is all of it
-pub all_one : (s : Scenario) (hs new : List Happening) (now r : ℕ) (more : List ℕ) (w : Happening) → 4 ≤ r → r ≤ 5 → IsIn w new
+pub all_one : (s : Scenario) (hs new : List Happening) {now r : ℕ} {more : List ℕ} (w : Happening) → 4 ≤ r → r ≤ 5
+    → IsIn w new
     → place_of w ≡ now ∷ r ∷ more → IsAllOfIt s hs new (now ∷ r ∷ more)
-all_one s hs new now r more w late low there at front back y e all none due own =
+all_one s hs new {now} {r} {more} w late low there at front back y e all none due own =
     let is = of_its_kind s (hs ++ front) (time_of y) (members_in y) now r more y.note.body own late low in
     (w, there, at ∙ own_here s (hs ++ front) (time_of y) (members_in y) y.note.body (now ∷ r ∷ more) is own)
 
@@ -90,18 +91,19 @@ all_of_act {s} hs new now {device} node then_ (acts.Dispatch row cycle) w acted 
     all_row hs new w law of_now (told (dispatch_order s.network row) refl) there
     (row_long s.network device node row cycle acted.0.pending.1.own)
 all_of_act {s} hs new now {device} node then_ (acts.Send frame) w acted law of_now told apart there at =
-    all_one s hs new now 5 (act_rest s.network device (acts.Send frame)) w (omega arith) (omega arith) there (at (omega arith))
+    all_one s hs new w (omega arith) (omega arith) there (at (omega arith))
 all_of_act {s} hs new now {device} node then_ (acts.Emit sent heard) w acted law of_now told apart there at =
-    all_one s hs new now 4 (act_rest s.network device (acts.Emit sent heard)) w (omega arith) (omega arith) there (at (omega arith))
+    all_one s hs new w (omega arith) (omega arith) there (at (omega arith))
 all_of_act hs new now node then_ (acts.Correct cycle verdict) w acted law of_now told apart there at = absurd (apart tt)
 
 -- ---- what it has done
 
 -- its clock had come to a task as before
-pub still_came : (s : Scenario) (device : DeviceId) (node then_ : Node) (changed again now : ℕ) (task : Task) → then_.standing.adjustment ≡ node.standing.adjustment
+pub still_came : (s : Scenario) (device : DeviceId) (node then_ : Node) {changed again : ℕ} (now : ℕ) (task : Task)
+    → then_.standing.adjustment ≡ node.standing.adjustment
     → changed ≡ again → HadComeTo s device node changed now task → HadComeTo s device then_ again now task
-still_came s device node then_ changed again now (emitting sent) adjustment same x = x
-still_came s device node then_ changed again now (doing deed) adjustment same x = (
+still_came s device node then_ now (emitting sent) adjustment same x = x
+still_came s device node then_ now (doing deed) adjustment same x = (
   x.0,
   rw same at x.1,
   x.2,
@@ -132,8 +134,8 @@ act_goes_by {C} {M} {stands} {s} {world} {notes} {old} {device} {machine} {after
     let made = x.makes p.front p.back p.parts st2 p.none in
     let it = made.it in
     let put = as_put now w refl x.late in
-    let earlier_same = earlier_put s hs p.front p.back now device on.node st2.work put in
-    let law = lawful_then stands s hs p.front p.back now device machine on.node st2 p.before
+    let earlier_same = earlier_put p.front p.back st2.work put in
+    let law = lawful_then p.front p.back st2 p.before
     p.none made.so in
     let none_due : (task : Task) → IsDueTask s device then_ now task → IsBefore (task_place s.network now device task) here → ⊥ = λ task due b.
     let far = what_is_left s.network now device then_ act task old.range old.rules on.st.zero on.may on.did.1 x.apart
@@ -142,7 +144,7 @@ act_goes_by {C} {M} {stands} {s} {world} {notes} {old} {device} {machine} {after
     nothing_between at (task_place s.network now device task)
     (subst (λ q. IsBefore q (task_place s.network now device task)) (act_stands s.network now device act) far) b in
     let turned =
-    turned_then stands s hs p.front p.back now device machine on.node st2 put in
+    turned_then p.front p.back st2 put in
     let same = sym (earlier_still now hs new (λ z i. let t = (it.work.of_now z i).0 in omega arith)) in
     let points = sym (points_same new hs device (λ z i. let t = it.work.of_now z i in
     (quiet_rest s device now z.note.body (it.work.still z (in_right z hs new i) t.0), t.1))) in
@@ -154,7 +156,8 @@ act_goes_by {C} {M} {stands} {s} {world} {notes} {old} {device} {machine} {after
     elim (x.did task has) [
       | inr e ↦ inr (subst (λ q. IsBefore q here) (sym e) (before_behind at))
       | inl before ↦ elim (st2.worked task before) [
-        | inl sooner ↦ inl (still_came s device on.node then_ _ _ now task x.adjustment (ap (change_in device) earlier_same) sooner)
+        | inl sooner ↦ inl (still_came s device on.node then_ now task x.adjustment (ap (change_in device) earlier_same)
+            sooner)
         | inr gone ↦ inr (stays at (task_place s.network now device task) gone)
       ]
     ] in

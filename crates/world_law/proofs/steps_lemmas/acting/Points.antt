@@ -49,12 +49,12 @@ one_point : {s : Scenario} {hs coming front : List Happening} {now : ℕ} {devic
     → IsAtPoint s device now node cycle heard verdict → HearsSame s hs coming front now device
     → ComesToCorrection s (hs ++ front) device now number other → verdict ≡ other
 one_point {s} {hs} {coming} {front} {now} {device} {node} {cycle} {verdict} {other} w p h k =
-    let mine = comes s hs coming front now device node cycle w h.of_now h.heard p.pending p.due p.to in
+    let mine = comes front cycle w h.of_now h.heard p.pending p.due p.to in
     one_verdict (standing_before s (hs ++ front) device now) mine.summary verdict other mine.comes
     (rw (one_summary _ mine.summary k.summary mine.heard k.heard) k.comes)
 
 module _ {s : Scenario} {hs coming : List Happening} (new front : List Happening) {now : ℕ} {device : DeviceId}
-    {node : Node} (cycle : ℕ) (heard : Summary) (verdict : Verdict) (y : Happening)
+    {node : Node} {cycle : ℕ} {heard : Summary} {verdict : Verdict} (y : Happening)
     (w : IsAtWork s hs coming now device node) where
   point_cause : IsAtPoint s device now node cycle heard verdict → HasOutcome new now device verdict
       → HearsSame s hs coming front now device → time_of y ≡ now → (body : NoteBody) → y.note.body ≡ body
@@ -102,8 +102,8 @@ pub grown_none : (s : Scenario) (hs coming : List Happening) (now : ℕ) (device
     → IsGrown s hs coming coming now device
 grown_none s hs coming now device of = grind arith
 
-pub no_less : (t now k r : ℕ) (us ws : List ℕ) → t ≡ now → (IsBefore (t ∷ k ∷ us) (now ∷ r ∷ ws) → ⊥) → r ≤ k
-no_less t now k r us ws e not = elim (cases_lt k r) [ inl lt ↦ absurd (not (inr (e, inl lt))) | inr ge ↦ ge ]
+pub no_less : {t now : ℕ} (k r : ℕ) (us ws : List ℕ) → t ≡ now → (IsBefore (t ∷ k ∷ us) (now ∷ r ∷ ws) → ⊥) → r ≤ k
+no_less k r us ws e not = elim (cases_lt k r) [ inl lt ↦ absurd (not (inr (e, inl lt))) | inr ge ↦ ge ]
 
 -- a record that comes from a correction point stands behind the frames that are heard
 late_cause : (s : Scenario) (js : List Happening) (now : ℕ) (device : DeviceId) (body : NoteBody) → IsPointCause s js now device body → 6 ≤ rank body
@@ -122,7 +122,8 @@ all_point {s} {hs} {new} {now} {device} {cycle} {heard} {verdict} w p g out fron
     let behind_it : (z : Happening) → IsIn z back → IsIn z new = λ z i. rw e (in_right z front back i) in
     let also : (z : Happening) → IsIn z front → time_of z ≡ now = λ z i. g.of_now z (inside z i) in
     let nothing = none_heard s device back (λ z i.
-    let high = no_less (time_of z) (time_of y) (rank z.note.body) (rank y.note.body) (key (members_in z) z.note.body) (key (members_in y) y.note.body)
+    let high = no_less (rank z.note.body) (rank y.note.body) (key (members_in z) z.note.body)
+    (key (members_in y) y.note.body)
     (g.of_now z (behind_it z i) ∙ sym c.0) (none z i) in
     late_none s device z z.note.body (omega arith)) in
     let hears = g.heard
@@ -132,7 +133,7 @@ all_point {s} {hs} {new} {now} {device} {cycle} {heard} {verdict} w p g out fron
     (heard_parts s device front back ∙ ap (λ l. heard_by_these s device front ++ l) nothing
     ∙ Rattle.std.proofs.lemmas.List.append-nil (heard_by_these s device front))
     ∙ sym (heard_more s hs device now front also) in
-    point_cause new front cycle heard verdict y w p out (record { of_now = also; heard = hears }) c.0
+    point_cause new front y w p out (record { of_now = also; heard = hears }) c.0
     y.note.body refl c.1
 
 -- with one record put in
@@ -145,7 +146,7 @@ grown_more {s} {hs} front back {now} {device} {v} g p late =
       of_now = λ z i. elim (placed_back [] front back v z i) [ inl e ↦ ap time_of e ∙ p.at | inr was ↦ g.of_now z was ];
       heard =
           g.heard
-          ∙ sym (heard_put s hs front back device now v (λ z i. g.of_now z i) p.at (inl none)
+          ∙ sym (heard_put s hs front back device v (λ z i. g.of_now z i) p.at (inl none)
           ∙ (rw none
           (Rattle.std.proofs.lemmas.List.append-nil (heard_since s (hs ++ (front ++ back)) device now))));
     }
@@ -159,8 +160,8 @@ grown_one {s} {hs} front back {now} {device} work p late =
 
 -- ---- it is the first of what is due
 
-module _ (s : Scenario) (device : DeviceId) (now : ℕ) (node : Node) (cycle : ℕ) (heard : Summary)
-    (verdict : Verdict) where
+module _ (s : Scenario) {device : DeviceId} (now : ℕ) {node : Node} (cycle : ℕ) {heard : Summary}
+    {verdict : Verdict} where
   pub at_point : IsFirstTask s.network device node (pos (s.reading device now)) (doing (correcting cycle))
       → ComesTo node heard verdict → IsAtPoint s device now node cycle heard verdict
   at_point first to = record {
@@ -178,7 +179,7 @@ module _ (s : Scenario) (device : DeviceId) (now : ℕ) (node : Node) (cycle : �
       → IsWaiting s.network device node c → pos (s.reading device now) <ℤ c.at.0
   no_frames sound p c w = p.no_frame c (sound, w)
 
-module _ (s : Scenario) (hs coming : List Happening) (now : ℕ) (device : DeviceId) (node : Node) where
+module _ {s : Scenario} {hs coming : List Happening} {now : ℕ} {device : DeviceId} {node : Node} where
   -- it was not turned on at the instant
   pub not_on : IsAtWork s hs coming now device node → is_timed node.standing.state ≡ true
       → is_turned_on_at s device now ≡ false
@@ -192,7 +193,7 @@ module _ (s : Scenario) (hs coming : List Happening) (now : ℕ) (device : Devic
       → NoneDispatched s hs now device
   none_at_point cycle range rules steady w pending due other also link cause vl n d =
       no_row_at_correction range rules steady
-      (at_correction s hs coming other now device node cycle w also pending due) d
+      (at_correction other cycle w also pending due) d
 
 -- ---- what it heard is told before its record
 
@@ -202,7 +203,8 @@ pub heard_before : {s : Scenario} {hs : List Happening} (front back : List Happe
     → heard_since s (hs ++ (front ++ back)) device now ≡ heard_since s (hs ++ front) device now
 heard_before {s} {hs} front back {now} {device} w work at late none =
     let nothing = none_heard s device back (λ z i.
-    let high = no_less (time_of z) (time_of w) (rank z.note.body) (rank w.note.body) (key (members_in z) z.note.body) (key (members_in w) w.note.body)
+    let high = no_less (rank z.note.body) (rank w.note.body) (key (members_in z) z.note.body)
+    (key (members_in w) w.note.body)
     ((work.of_now z (in_right z front back i)).0 ∙ sym at) (none z i) in
     late_none s device z z.note.body (omega arith)) in
     heard_more s hs device now (front ++ back) (λ z i. (work.of_now z i).0)
@@ -214,9 +216,10 @@ heard_before {s} {hs} front back {now} {device} w work at late none =
 
 -- ---- what stands where its record does, is one of it
 
-state_at : (t u m d c : ℕ) (body : NoteBody) → t ∷ 7 ∷ d ∷ c ∷ [] ≡ u ∷ rank body ∷ key m body → (device : DeviceId) → d ≡ device.0 → moves device body ≡ true
-state_at t u m d c (kinds.State other state cause why) e device is = eq-eqb device.0 other.0 (sym is ∙ cc)
-state_at t u m d c other e device is = absurd (grind arith)
+state_at : {t u : ℕ} (m : ℕ) {d c : ℕ} (body : NoteBody) → t ∷ 7 ∷ d ∷ c ∷ [] ≡ u ∷ rank body ∷ key m body
+    → (device : DeviceId) → d ≡ device.0 → moves device body ≡ true
+state_at m (kinds.State other state cause why) e device is = eq-eqb device.0 other.0 (sym is ∙ cc)
+state_at m other e device is = absurd (grind arith)
 
 -- a device that was not turned on, and is at rest, is not moved
 pub not_moved : (s : Scenario) (device : DeviceId) (now : ℕ) (body : NoteBody) → is_turned_on_at s device now ≡ false → IsAtRest s device now body
@@ -226,9 +229,9 @@ not_moved s device now body off (inr on) e = both_ways _ off on.1
 
 -- ---- the records
 
-module _ {M : Type 0} (stands : M → Network → DeviceId → Node → Type 0) (s : Scenario)
-    (hs front back : List Happening) (now : ℕ) (device : DeviceId) (machine : M) (node : Node)
-    (cycle : ℕ) where
+module _ {M : Type 0} {stands : M → Network → DeviceId → Node → Type 0} {s : Scenario}
+    (hs front back : List Happening) {now : ℕ} {device : DeviceId} {machine : M} {node : Node}
+    {cycle : ℕ} where
   -- what causes it
   pub corrected_cause : {heard : Summary} (by adjustment : Units)
       → StageAt stands s hs (front ++ back) now device machine node 6 (device.0 ∷ [])
@@ -246,7 +249,7 @@ module _ {M : Type 0} (stands : M → Network → DeviceId → Node → Type 0) 
       st.work.left.counted.adjustment
       ∙ (rw same) in
       record {
-        corrected = comes s hs (front ++ back) front now device node cycle st.work also
+        corrected = comes front cycle st.work also
             (heard_before front back w st.work refl six none) p.pending p.due p.to;
         sum = sum ∙ ap (λ a. a.0 +ℤ by.0) stood;
       }
@@ -264,7 +267,7 @@ module _ {M : Type 0} (stands : M → Network → DeviceId → Node → Type 0) 
       let also : (z : Happening) → IsIn z front → time_of z ≡ now =
       λ z i. (st.work.of_now z (in_left z front back i)).0 in
       let same = all_earlier s hs (front ++ back) front now (λ z i. (st.work.of_now z i).0) also in
-      let c = comes s hs (front ++ back) front now device node cycle st.work also
+      let c = comes front cycle st.work also
       (heard_before front back w st.work refl (omega arith) none) p.pending p.due p.to in
       let stood =
       st.work.left.counted.adjustment
@@ -272,10 +275,10 @@ module _ {M : Type 0} (stands : M → Network → DeviceId → Node → Type 0) 
       record {
         own = λ m. refl;
         here = IsSource.acting now device (doing (correcting cycle))
-            (IsActing.corrects cycle (at_correction s hs (front ++ back) front now device node cycle st.work also
+            (IsActing.corrects cycle (at_correction front cycle st.work also
             p.pending p.due));
         caused = record { corrected = c; sum = sum ∙ ap (λ a. a.0 +ℤ by.0) stood };
-        fresh = fresh_above stands s hs front back now device machine node st w (omega arith);
+        fresh = fresh_above front back st w (omega arith);
         apart = λ other not. (ne_eqb other.0 device.0 not, λ at. refl);
         lone = lone;
       }
@@ -285,55 +288,55 @@ pub data IsClique : Verdict → Why → Type 0 where
   alone : IsClique SyncClique whys.SyncClique
   outnumbered : IsClique AsyncClique whys.AsyncClique
 
-module _ {M : Type 0} (stands : M → Network → DeviceId → Node → Type 0) (s : Scenario)
-    (hs front back : List Happening) (now : ℕ) (device : DeviceId) (machine : M) (node : Node)
-    (cycle : ℕ) where
-  pub clique_record : {heard : Summary} (verdict : Verdict) (why : Why)
+module _ {M : Type 0} {stands : M → Network → DeviceId → Node → Type 0} {s : Scenario}
+    (hs front back : List Happening) {now : ℕ} {device : DeviceId} {machine : M} {node : Node}
+    {cycle : ℕ} where
+  pub clique_record : {heard : Summary} (verdict : Verdict) {why : Why}
       → StageAt stands s hs (front ++ back) now device machine node 6 (device.0 ∷ [])
       → is_turned_on_at s device now ≡ false → IsAtPoint s device now node cycle heard verdict → IsClique verdict why
       → NoneBefore place_of back (place_of (record_of s.network hs front now (kinds.State device Integrating 0 why)))
       → IsActRecordAt s hs front back now device (kinds.State device Integrating 0 why) (rows_place now device)
-  clique_record SyncClique whys.SyncClique st off p IsClique.alone none =
+  clique_record SyncClique st off p IsClique.alone none =
       let body = kinds.State device Integrating 0 whys.SyncClique in
       let w = record_of s.network hs front now body in
       let also : (z : Happening) → IsIn z front → time_of z ≡ now =
       λ z i. (st.work.of_now z (in_left z front back i)).0 in
       let six : 5 ≤ rank w.note.body = omega arith in
-      let c = comes s hs (front ++ back) front now device node cycle st.work also
+      let c = comes front cycle st.work also
       (heard_before front back w st.work refl six none) p.pending p.due p.to in
       record {
         own = λ m. (cycle, refl);
         here = IsSource.acting now device (doing (correcting cycle))
-            (IsActing.corrects cycle (at_correction s hs (front ++ back) front now device node cycle st.work also
+            (IsActing.corrects cycle (at_correction front cycle st.work also
             p.pending p.due));
         caused = (refl, refl, (cycle, c));
         fresh = λ y i e.
             let there = in_right y front back i in
             let at = st.work.of_now y there in
             not_moved s device now y.note.body off (st.work.still y (in_right y hs (front ++ back) there) at.0)
-            (state_at now (time_of y) (members_in y) device.0 0 y.note.body e device refl);
+            (state_at (members_in y) y.note.body e device refl);
         apart = λ other not. (ne_eqb other.0 device.0 not, λ at. refl);
         lone = last_unfollowed s hs now body refl;
       }
-  clique_record AsyncClique whys.AsyncClique st off p IsClique.outnumbered none =
+  clique_record AsyncClique st off p IsClique.outnumbered none =
       let body = kinds.State device Integrating 0 whys.AsyncClique in
       let w = record_of s.network hs front now body in
       let also : (z : Happening) → IsIn z front → time_of z ≡ now =
       λ z i. (st.work.of_now z (in_left z front back i)).0 in
-      let c = comes s hs (front ++ back) front now device node cycle st.work also
+      let c = comes front cycle st.work also
       (heard_before front back w st.work refl (omega arith) none) p.pending p.due p.to in
       record {
         own = λ m. (cycle, refl);
         here = IsSource.acting now device (doing (correcting cycle))
-            (IsActing.corrects cycle (at_correction s hs (front ++ back) front now device node cycle st.work also
+            (IsActing.corrects cycle (at_correction front cycle st.work also
             p.pending p.due));
         caused = (refl, refl, (cycle, c));
         fresh = λ y i e.
             let there = in_right y front back i in
             let at = st.work.of_now y there in
             not_moved s device now y.note.body off (st.work.still y (in_right y hs (front ++ back) there) at.0)
-            (state_at now (time_of y) (members_in y) device.0 0 y.note.body e device refl);
+            (state_at (members_in y) y.note.body e device refl);
         apart = λ other not. (ne_eqb other.0 device.0 not, λ at. refl);
         lone = last_unfollowed s hs now body refl;
       }
-  clique_record verdict why st off p x none = elim x [ ]
+  clique_record verdict st off p x none = elim x [ ]

@@ -28,7 +28,7 @@ sends_one {reading} {stands} {s} {world} {notes} {old} {device} {machine} {after
       on = on;
       apart = λ x. x;
       adjustment = rw act.1.3;
-      did = λ task has. elim (did_deed s now device node act.0 (moment_of s device now) (sending cycle) task act.1.3 has) [
+      did = λ task has. elim (did_deed s now device node (moment_of s device now) (sending cycle) task act.1.3 has) [
         | inl old ↦ inl old
         | inr e ↦ inr (e ∙ (rw (sym same_cycle)))
       ];
@@ -42,9 +42,8 @@ sends_one {reading} {stands} {s} {world} {notes} {old} {device} {machine} {after
           let st3 : StageAt stands s hs (front ++ back) now device machine node 5 (device.0 ∷ cycle ∷ []) =
           rw same_cycle at st2 in
           record {
-            so = rw same_cycle (sending_record stands s hs front back now device machine node cycle st3 first.pending
-                first.due);
+            so = rw same_cycle (sending_record front back st3 first.pending first.due);
             told = λ order e. (let five : 5 ≡ 6 = ap second e in absurd (omega arith));
-            it = has_sent_it front back after act.0 frame cycle st3 first act.1 act.1.3 act.2;
+            it = has_sent_it front back after frame st3 first act.1 act.1.3 act.2;
           };
     }

@@ -17,9 +17,9 @@ use Rattle.run_law.specs.declared.steps.Act.TheVariants as acts
 pub as_put : (now : ℕ) (w : Happening) → time_of w ≡ now → 4 ≤ rank w.note.body → IsPutAs now w
 as_put now w at late = record { at = at; late = late }
 
-module _ {M : Type 0} (stands : M → Network → DeviceId → Node → Type 0) (s : Scenario)
-    (hs front back : List Happening) (now : ℕ) (device : DeviceId) (machine : M)
-    (node : Node) where
+module _ {M : Type 0} {stands : M → Network → DeviceId → Node → Type 0} {s : Scenario}
+    {hs : List Happening} (front back : List Happening) {now : ℕ} {device : DeviceId} {machine : M}
+    {node : Node} where
   -- what it took, and that it was turned on, are told by the records with the new one
   pub taken_then : (w : Happening) {r : ℕ} {more : List ℕ}
       → StageAt stands s hs (front ++ back) now device machine node r more → time_of w ≡ now
@@ -32,23 +32,23 @@ module _ {M : Type 0} (stands : M → Network → DeviceId → Node → Type 0) 
       → is_turned_on_at s device now ≡ true → HasTurnedOn s hs (front ++ w ∷ back) (behind (now ∷ r ∷ more)) device now
   turned_then {w} st p on =
       turned_aside s hs front back w device (turned_by st.moving (st.turned on))
-      (rw (earlier_put s hs front back now device node st.work p))
+      (rw (earlier_put front back st.work p))
 
   -- ---- it sends
 
-  pub sending_record : (cycle : ℕ) → StageAt stands s hs (front ++ back) now device machine node 5
+  pub sending_record : {cycle : ℕ} → StageAt stands s hs (front ++ back) now device machine node 5
       (device.0 ∷ cycle ∷ []) → IsPending s.network device node (doing (sending cycle))
       → reading_for s.network node (doing (sending cycle)) ≤ℤ pos (s.reading device now)
       → IsActRecordAt s hs front back now device (kinds.Sent device cycle) (now ∷ 5 ∷ device.0 ∷ cycle ∷ [])
-  sending_record cycle st pending due =
-      let d = sends s hs (front ++ back) front now device node cycle st.work
+  sending_record {cycle} st pending due =
+      let d = sends front cycle st.work
       (λ z i. (st.work.of_now z (in_left z front back i)).0) pending due in
       record {
         own = λ m. refl;
         here = IsSource.acting now device (doing (sending cycle))
             (IsActing.sends cycle d);
         caused = d;
-        fresh = fresh_above stands s hs front back now device machine node st
+        fresh = fresh_above front back st
             (record_of s.network hs front now (kinds.Sent device cycle)) (omega arith);
         apart = λ other not. (refl, λ at. refl);
         lone = last_unfollowed s hs now (kinds.Sent device cycle) refl;
@@ -65,14 +65,14 @@ pub record HasSentIt {M : Type 0} (stands : M → Network → DeviceId → Node 
 
 pub has_sent_it : {M : Type 0} {stands : M → Network → DeviceId → Node → Type 0} {s : Scenario} {hs : List Happening}
     (front back : List Happening) {now : ℕ} {device : DeviceId} {machine : M} (then_ : M)
-    {node : Node} (after : Node) (frame : Pcf) (cycle : ℕ)
+    {node : Node} {after : Node} (frame : Pcf) {cycle : ℕ}
     → StageAt stands s hs (front ++ back) now device machine node 5 (device.0 ∷ cycle ∷ [])
     → IsFirstTask s.network device node (moment_of s device now).reading.0 (doing (sending cycle))
     → IsActOf s.network device node (moment_of s device now) (acts.Send frame) after
     → after ≡ called (moment_of s device now) acting (with_done node (sending cycle))
     → stands then_ s.network device after → HasSentIt stands s hs
     (front ++ (record_of s.network hs front now (kinds.Sent device cycle)) ∷ back) now device then_ node after
-has_sent_it {stands} {s} {hs} front back {now} {device} {machine} then_ {node} after frame cycle st
+has_sent_it {stands} {s} {hs} front back {now} {device} {machine} then_ {node} {after} frame {cycle} st
     first act is stood =
     let w = record_of s.network hs front now (kinds.Sent device cycle) in
     let moment = moment_of s device now in
@@ -90,17 +90,18 @@ has_sent_it {stands} {s} {hs} front back {now} {device} {machine} then_ {node} a
       is = stood;
       work = rw is work;
       cleared = subst HasCleared (sym is) cleared;
-      taken = rw is (taken_then stands s hs front back now device machine node w
+      taken = rw is (taken_then front back w
           st refl (λ at. refl));
       phase = rw is;
     }
 
 -- it has done what it had done, and that deed
-pub did_deed : (s : Scenario) (now : ℕ) (device : DeviceId) (node new : Node) (moment : Moment) (deed : ClockTask) (task : Task)
+pub did_deed : (s : Scenario) (now : ℕ) (device : DeviceId) (node : Node) {new : Node} (moment : Moment)
+    (deed : ClockTask) (task : Task)
     → new ≡ called moment acting (with_done node deed) → HasDoneTask new task
     → HasDoneTask node task ⊎ (task_place s.network now device task ≡ task_place s.network now device (doing deed))
-did_deed s now device node new moment deed (emitting sent) is has = inl (rw is at has)
-did_deed s now device node new moment deed (doing other) is has =
+did_deed s now device node moment deed (emitting sent) is has = inl (rw is at has)
+did_deed s now device node moment deed (doing other) is has =
     elim (Contains-push_cases node.done deed other (rw is at has)) [
       | inl old ↦ inl old
       | inr e ↦ inr (rw (sym e))

@@ -103,7 +103,7 @@ stage_of {C} {M} reading stands s world notes old device machine after act lt fi
         let now = world.now in
         let task = due k.node k.is in
         let past = are_past old in
-        let up = up_now stands s hs world.settled old.frontier now device machine k old.not_later task in
+        let up = up_now k old.not_later task in
         let may = may_act_now s device k.node now k.ready (old.steady device) old.limit in
         let did = acted k.node k.is may task in
         let law = lawful reading stands s world notes old device in
@@ -154,7 +154,7 @@ stage_of {C} {M} reading stands s world notes old device machine after act lt fi
             reach = reaches_acts s.network now device act;
             given = old.run.founded;
             before = c.run.within;
-            work = at_work stands s hs world.settled old.frontier now device machine k old.not_later old.are.of_now
+            work = at_work k old.not_later old.are.of_now
                 upto late up.0;
             worked = λ other has. elim (before_or_not (task_place s.network now device other) old.frontier) [
               | inl gone ↦ inr (up_on old (rank_of_act act) (act_rest s.network device act) next
@@ -216,9 +216,9 @@ pub record IsActRecordAt (s : Scenario) (hs front back : List Happening) (now : 
   pub apart : (other : DeviceId) → (other.0 ≡ device.0 → ⊥) → (bears_on other body ≡ false) × IsNoTaking other body
   pub lone : IsUnfollowed s hs now body
 
-module _ {M : Type 0} (stands : M → Network → DeviceId → Node → Type 0) (s : Scenario)
-    (hs front back : List Happening) (now : ℕ) (device : DeviceId) (machine : M)
-    (node : Node) where
+module _ {M : Type 0} {stands : M → Network → DeviceId → Node → Type 0} {s : Scenario}
+    {hs : List Happening} (front back : List Happening) {now : ℕ} {device : DeviceId} {machine : M}
+    {node : Node} where
   -- nothing to come stands where a record of the act's own rank does
   pub fresh_above : {r : ℕ} {more : List ℕ} → StageAt stands s hs
       (front ++ back) now device machine node r more → (w : Happening) → rank w.note.body ≤ r
@@ -315,7 +315,8 @@ one_goes_by {C} {M} {reading} {stands} {s} {world} {notes} {device} {machine} {a
     let front = p.front in
     let back = p.back in
     let w = record_of s.network hs front now body in
-    let one = one_act stands s hs front back now device machine node (rw p.parts at st) p.before p.none a in
+    let one = one_act {stands = stands} front back {machine = machine} {node = node} (rw p.parts at st) p.before p.none
+    a in
     let long = put_length front back w in
     let same_long : length world.settled ≡ length (front ++ back) = ap length p.parts in
     rw p.shows (acts_on c st.late st.low (omega arith) (one_by one a.lone all)

@@ -15,8 +15,8 @@ changed_soon hs device now =
     last_within None (filter (λ h. changes_adjustment device h.note.body) (earlier (now + 1) hs)) now tt
     (λ h i. let lt = in_earlier (now + 1) hs h (in_filter _ (earlier (now + 1) hs) h i) in omega arith)
 
-module _ {M : Type 0} (stands : M → Network → DeviceId → Node → Type 0) (s : Scenario) (hs coming : List Happening)
-    (frontier : List ℕ) (now : ℕ) (device : DeviceId) (machine : M) where
+module _ {M : Type 0} {stands : M → Network → DeviceId → Node → Type 0} {s : Scenario} {hs coming : List Happening}
+    {frontier : List ℕ} {now : ℕ} {device : DeviceId} {machine : M} where
   -- how a device stands that is kept, and has something due, is not that its instant is over
   pub up_now : (k : IsKept stands s hs coming frontier now device machine)
       → ((p : List ℕ) → IsBefore p frontier → IsBefore p ((now + 1) ∷ [])) → HasTaskBy s device k.node now
@@ -65,10 +65,9 @@ pub task_acts : {s : Scenario} {hs coming : List Happening} {now : ℕ} {device 
 task_acts {s} {hs} {coming} {now} {device} {node} (emitting c) law taken w p due =
     rw (append-nil hs) at (IsActing.emits c (own_judgement s.network device node c) (emits [] coming c w refl p due))
 task_acts {s} {hs} {coming} {now} {device} {node} (doing (sending cycle)) law taken w p due =
-    rw (append-nil hs) at (IsActing.sends cycle (sends s hs coming [] now device node cycle w (λ z i. absurd i) p due))
+    rw (append-nil hs) at (IsActing.sends cycle (sends [] cycle w (λ z i. absurd i) p due))
 task_acts {s} {hs} {coming} {now} {device} {node} (doing (correcting cycle)) law taken w p due =
-    rw (append-nil hs) at (IsActing.corrects cycle (at_correction s hs coming [] now device node cycle w
-    (λ z i. absurd i) p due))
+    rw (append-nil hs) at (IsActing.corrects cycle (at_correction [] cycle w (λ z i. absurd i) p due))
 task_acts {s} {hs} {coming} {now} {device} (doing (dispatching row cycle)) law taken w p due =
     let frame = p.1.own.1 in
     let d = dispatches_so law w.past taken (record { synchronised = sym w.left.state ∙ p.1.own.0; correct = w.sound })
@@ -94,7 +93,7 @@ pub acts_wait : {M : Type 0} {stands : M → Network → DeviceId → Node → T
     → reading_for s.network k.node task ≤ℤ pos (s.reading device now)
     → IsBefore (task_place s.network now device task) frontier → ⊥
 acts_wait {stands} {s} {hs} {coming} {frontier} {now} {device} {machine} k task law later of past late pending due b =
-    let up = up_now stands s hs coming frontier now device machine k later (task, pending, due) in
+    let up = up_now k later (task, pending, due) in
     undone_task s.network device k.node task pending
-    (up.1 task b (task_acts task law k.taken (at_work stands s hs coming frontier now device machine k later of past
+    (up.1 task b (task_acts task law k.taken (at_work k later of past
     late up.0) pending due))

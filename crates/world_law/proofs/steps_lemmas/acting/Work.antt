@@ -67,12 +67,12 @@ by_option (Some x) front back (inr e) =
     ∙ ap (λ (l : List Hearing). l ++ x ∷ []) (sym (append-nil front) ∙ ap (λ (l : List Hearing). front ++ l) (sym e))
 
 -- one more record between them, behind which none is heard, is heard behind all
-pub heard_put : (s : Scenario) (hs front back : List Happening) (device : DeviceId) (t : ℕ) (w : Happening)
+pub heard_put : (s : Scenario) (hs front back : List Happening) (device : DeviceId) {t : ℕ} (w : Happening)
     → ((z : Happening) → IsIn z (front ++ back) → time_of z ≡ t) → time_of w ≡ t
     → (hearing_by s.network device w w.note.body ≡ None) ⊎ (heard_by_these s device back ≡ [])
     → heard_since s (hs ++ (front ++ w ∷ back)) device t ≡ heard_since s (hs ++ (front ++ back)) device t ++ option_to_list
     (hearing_by s.network device w w.note.body)
-heard_put s hs front back device t w of at either =
+heard_put s hs front back device {t} w of at either =
     let f = λ (h : Happening). hearing_by s.network device h h.note.body in
     let all : (z : Happening) → IsIn z (front ++ w ∷ back) → time_of z ≡ t = λ z i. elim (in_parts z front (w ∷ back) i) [
       | inl one ↦ of z (in_left z front back one)
@@ -161,7 +161,8 @@ pub all_earlier : (s : Scenario) (hs coming other : List Happening) (now : ℕ) 
 all_earlier s hs coming other now of also =
     earlier_still now hs coming (λ z i. omega arith) ∙ sym (earlier_still now hs other (λ z i. omega arith))
 
-module _ (s : Scenario) (hs coming other : List Happening) (now : ℕ) (device : DeviceId) (node : Node)
+module _ {s : Scenario} {hs coming : List Happening} (other : List Happening) {now : ℕ} {device : DeviceId}
+    {node : Node}
     (cycle : ℕ) where
   -- a master that has to send, sends
   pub sends : IsAtWork s hs coming now device node → ((z : Happening) → IsIn z other → time_of z ≡ now)

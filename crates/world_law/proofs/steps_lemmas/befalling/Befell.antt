@@ -38,7 +38,7 @@ moved : {hs : List Happening} (front : List Happening) {now n : ℕ} {h : Happen
     → IsOfThisTime (hs ++ front) now n h
 moved {hs} front {n} {h} it = record { there = numbered_front hs front n h it.there; same_time = it.same_time }
 
-module _ (s : Scenario) (hs front : List Happening) (now : ℕ) where
+module _ {s : Scenario} (hs front : List Happening) {now : ℕ} where
   lost_moved : {n : ℕ} {device : DeviceId} {link : LinkId} → IsSendLost s hs device now link n
       → IsSendLost s (hs ++ front) device now link n
   lost_moved it = grind (arith, moved)
@@ -60,7 +60,7 @@ module _ (s : Scenario) (hs front : List Happening) (now : ℕ) where
     before_behind (now ∷ 2 ∷ []),
   )
 
-module _ (s : Scenario) (hs : List Happening) (now : ℕ) where
+module _ {s : Scenario} {hs : List Happening} {now : ℕ} where
   late_body : {body : NoteBody} → IsOutcome s hs now body
       → (r : ℕ) × (more : List ℕ) × (place_of (settled_as s.network hs now body) ≡ now ∷ r ∷ more) × (7 ≤ r)
   late_body (IsOutcome.turning d n line h sound it is) = (7, d.0 ∷ n ∷ [], refl, omega arith)
@@ -85,10 +85,10 @@ behind_two : (now r : ℕ) (more : List ℕ) → 7 ≤ r → IsBefore (behind (n
 behind_two now r more high = inr (refl, inl (omega arith))
 
 -- none of them is before the place behind the events
-not_yet : (s : Scenario) (hs : List Happening) (now : ℕ) {z : Happening} → IsOne s hs now z
+not_yet : (s : Scenario) {hs : List Happening} {now : ℕ} {z : Happening} → IsOne s hs now z
     → IsBefore (place_of z) (behind (now ∷ 2 ∷ [])) → ⊥
-not_yet s hs now {z} it b =
-    let at = late_place s hs now it in
+not_yet s {hs} {now} {z} it b =
+    let at = late_place it in
     let soon : IsBefore (now ∷ at.0 ∷ at.1) (behind (now ∷ 2 ∷ [])) =
     subst (λ p. IsBefore p (behind (now ∷ 2 ∷ []))) at.2 b in
     never_self (behind (now ∷ 2 ∷ []))
@@ -96,14 +96,16 @@ not_yet s hs now {z} it b =
 
 -- ---- what is due by an event is among them
 
-bodies_out : (s : Scenario) (now number : ℕ) (what : What) (b : NoteBody) (x : Bool) → x ≡ false → IsIn b (b ∷ []) → IsIn b (if x then [] else b ∷ [])
-bodies_out s now number what b x sound i = rw sound i
+bodies_out : (s : Scenario) (now number : ℕ) (what : What) (b : NoteBody) {x : Bool} → x ≡ false → IsIn b (b ∷ [])
+    → IsIn b (if x then [] else b ∷ [])
+bodies_out s now number what b sound i = rw sound i
 
-lost_out : (s : Scenario) (now n : ℕ) (device : DeviceId) (link : LinkId) (way : Link) (o : Option Link) → o ≡ Some way → device ≡ way.child
+lost_out : (s : Scenario) (now n : ℕ) {device : DeviceId} (link : LinkId) {way : Link} {o : Option Link} → o ≡ Some way
+    → device ≡ way.child
     → is_cut s link Up now ≡ true
     → IsIn (notes.Lost device link n) (option_map_or
     (λ l. if is_cut s link Up now then notes.Lost l.child link n ∷ [] else []) o [])
-lost_out s now n device link way o there by cut = grind (arith, option_map_or, is_cut)
+lost_out s now n link there by cut = grind (arith, option_map_or, is_cut)
 
 event_joins : (device : DeviceId) (body : NoteBody) → IsEventBody body → is_joined_by device body ≡ false
 event_joins device (notes.Event line what) is = refl
@@ -120,8 +122,8 @@ of_instant front m calm it = grind (arith, numbered_parts, numbered_in)
 abbrev pub StandsThere : Scenario → List Happening → ℕ → List Happening → List ℕ → Type 0
 StandsThere s hs now settled p = (b : NoteBody) × IsIn (settled_as s.network hs now b) settled × (place_of (settled_as s.network hs now b) ≡ p)
 
-module _ (s : Scenario) (hs front : List Happening) (frontier : List ℕ) (now : ℕ) (befell : List Befell)
-    (settled : List Happening) (time : Units) where
+module _ {s : Scenario} (hs front : List Happening) {frontier : List ℕ} {now : ℕ} {befell : List Befell}
+    {settled : List Happening} (time : Units) where
   came : (members : ℕ) (body : NoteBody) → IsSettling s hs frontier now befell settled
       → ((z : Happening) → IsIn z front → is_calm z.note.body ≡ true) → amount time ≡ now
       → IsOwnSource s (hs ++ front) (amount time) members body (amount time ∷ 2 ∷ [])
@@ -133,7 +135,7 @@ module _ (s : Scenario) (hs front : List Happening) (frontier : List ℕ) (now :
         | inl old ↦ (
           notes.State d Integrating n whys.On,
           m.there n line (events.On d) h old.0 is (notes.State d Integrating n whys.On)
-              (bodies_out s now n (events.On d) (notes.State d Integrating n whys.On) (is_broken s d now)
+              (bodies_out s now n (events.On d) (notes.State d Integrating n whys.On)
               (ap (is_broken s d) (sym at) ∙ sound) (inl refl)),
           rw (sym at),
         )
@@ -155,7 +157,7 @@ module _ (s : Scenario) (hs front : List Happening) (frontier : List ℕ) (now :
         | inl old ↦ (
           notes.Lost d link n,
           m.there n lost.line (events.Send link lost.octets) lost.event old.0 lost.sends (notes.Lost d link n)
-              (lost_out s now n d link lost.way _ lost.there lost.by (ap (is_cut s link Up) (sym at) ∙ lost.cut)),
+              (lost_out s now n link lost.there lost.by (ap (is_cut s link Up) (sym at) ∙ lost.cut)),
           rw (sym at),
         )
       ]
@@ -186,7 +188,7 @@ due_there {s} {hs} front {y} k ws m calm not due own (inr (at, inl few)) =
     absurd (not (event_past (hs ++ front) y m.befallen
     (own_event s (hs ++ front) (time_of y) (members_in y) y.note.body k ws own few) due.cause))
 due_there {s} {hs} front {frontier} {now} {befell} {settled} {y} k ws m calm not due own (inr (at, inr (two, b))) =
-    came s hs front frontier now befell settled y.note.time (members_in y) y.note.body m calm at
+    came hs front y.note.time (members_in y) y.note.body m calm at
     (rw (only_none ws b) at (rw two at own)) due.cause
 
 -- ---- so they are settled
@@ -199,15 +201,15 @@ settled_told {s} {hs} {now} m =
     record {
       of_now = λ z i. ap time_of (one z i).is;
       after = λ z i b.
-          let at = late_place s hs now (one z i) in
+          let at = late_place (one z i) in
           not_under now at.0 at.1 at.3
           (subst (λ p. IsBefore p (now ∷ 2 ∷ [])) at.2 (m.telling.untold.early refl (place_of z) b));
       founded = λ front rest z e.
           let it = one z (rw e (in_here front rest z)) in
-          (m.filled.sorted front rest z e, rw it.is (due_one s hs front now it.out));
+          (m.filled.sorted front rest z e, rw it.is (due_one hs front it.out));
       by = λ front rest z e.
           let it = one z (rw e (in_here front rest z)) in
-          let off = worked_one s hs front now it.out in
+          let off = worked_one hs front it.out in
           rw it.is off;
       full = λ front back y e before none not due worked.
           let calm : (z : Happening) → IsIn z front → is_calm z.note.body ≡ true = λ z i.
@@ -219,13 +221,13 @@ settled_told {s} {hs} {now} m =
           (rw own.2 at worked.3) in
           (settled_as s.network hs now found.0, found.1, found.2);
       not_past = λ z i p b.
-          let at = late_place s hs now (one z i) in
+          let at = late_place (one z i) in
           chain p (place_of z) (behind (place_of z))
           (rw (sym at.2) at (chain p (behind (now ∷ 2 ∷ [])) (now ∷ at.0 ∷ at.1) b (behind_two now at.0 at.1 at.3)))
           (before_behind (place_of z));
       worked = λ z i is.
           let it = one z i in
-          absurd (let bad = sym (not_at_source s hs now it.out) ∙ ap
+          absurd (let bad = sym (not_at_source it.out) ∙ ap
           (λ x. is_at_source x.note.body) (sym it.is) ∙ is
           in cc);
       begun = λ z i. before_behind (now ∷ 2 ∷ []);
@@ -245,7 +247,7 @@ turned_there : {s : Scenario} {hs : List Happening} {frontier : List ℕ} {now :
     → is_turned_on_at s device now ≡ true → is_broken s device now ≡ false → IsTurnedOnBy settled device now
 turned_there {s} {hs} {frontier} {now} device m on sound =
     let it = on_by_event s device now on in
-    let h = recorded s frontier hs it.0 it.1 m.run it.2 (m.befallen.begun it.0 it.1 it.2)
+    let h = recorded s it.0 m.run it.2 (m.befallen.begun it.0 it.1 it.2)
     (m.befallen.told it.0 it.1 it.2) in
     let body = notes.State device Integrating h.0 whys.On in
     let here : IsIn body (bodies_of s now h.0 (events.On device)) = rw sound (inl refl) in
@@ -326,15 +328,15 @@ befell_step {C} {M} reading stands s world notes wires settled old open_ room pu
           let k = old.devices device lt in (
             k.0,
             k.1,
-            held_told stands s hs settled old.frontier now world.befell device k.0 told
+            held_told stands device k.0 told
                 (rw empty at k.2),
           );
       early = λ fresh. absurd (let bad : false ≡ true = fresh in cc);
       untold = none_pending refl refl (λ number h it. before_behind here);
-      wires = wires_told s hs old.frontier now world.befell wires m old.forward
+      wires = wires_told s wires m old.forward
           (rw open_ at old.wires) put_by;
-      ports = ports_told s hs old.frontier now world.befell m old.ports;
-      waiting = waiting_told s hs old.frontier now world.befell m old.waiting;
+      ports = ports_told s m old.ports;
+      waiting = waiting_told s m old.waiting;
       stored = old.stored;
       are = are;
       shown = λ device lt ended. (
@@ -343,4 +345,4 @@ befell_step {C} {M} reading stands s world notes wires settled old open_ room pu
             ((old.shown device lt ended).1 less),
       );
     } in
-    stand_of told_all (λ z i b. not_yet s hs now (filled.each z i) b)
+    stand_of told_all (λ z i b. not_yet s (filled.each z i) b)

@@ -20,7 +20,7 @@ calm_outcome (IsOutcome.losing device link cause it) = refl
 
 -- ---- of one event
 
-module _ (s : Scenario) (hs : List Happening) (now number line : ℕ) where
+module _ (s : Scenario) {hs : List Happening} {now number : ℕ} (line : ℕ) where
   turned_body : (device : DeviceId) {h : Happening} (b : NoteBody) (x : Bool) → is_broken s device now ≡ x
       → IsOfThisTime hs now number h → h.note.body ≡ notes.Event line (events.On device)
       → IsIn b (if x then [] else notes.State device Integrating number On ∷ [])
@@ -30,19 +30,19 @@ module _ (s : Scenario) (hs : List Happening) (now number line : ℕ) where
       (subst (IsOutcome s hs now) (sym same) (IsOutcome.turning device number line h sound it is), ap cause_of same)
   turned_body device b false sound it is (inr none) = absurd none
 
-  cut_body : (link : LinkId) (octets : List ℕ) (way : Link) {h : Happening} (b : NoteBody) (x : Bool)
+  cut_body : (link : LinkId) (octets : List ℕ) {way : Link} {h : Happening} (b : NoteBody) (x : Bool)
       → is_cut s link Up now ≡ x → link_at s.network link ≡ Some way → IsOfThisTime hs now number h
       → h.note.body ≡ notes.Event line (events.Send link octets)
       → IsIn b (if x then notes.Lost way.child link number ∷ [] else [])
       → IsOutcome s hs now b × (cause_of b ≡ number)
-  cut_body link octets way b false cut there it is i = absurd i
-  cut_body link octets way {h} b true cut there it is (inl same) = (
+  cut_body link octets b false cut there it is i = absurd i
+  cut_body link octets {way} {h} b true cut there it is (inl same) = (
     subst (IsOutcome s hs now) (sym same)
         (IsOutcome.losing way.child link number
         (record { event = h; is = it; line = line; octets = octets; sends = is; way = way; there = there; by = refl; cut = cut })),
     ap cause_of same,
   )
-  cut_body link octets way b true cut there it is (inr none) = absurd none
+  cut_body link octets b true cut there it is (inr none) = absurd none
 
   lost_body : (link : LinkId) (octets : List ℕ) {h : Happening} (b : NoteBody) (o : Option Link)
       → link_at s.network link ≡ o → IsOfThisTime hs now number h
@@ -51,7 +51,7 @@ module _ (s : Scenario) (hs : List Happening) (now number line : ℕ) where
       ∷ [] else []) o []) → IsOutcome s hs now b × (cause_of b ≡ number)
   lost_body link octets b None there it is i = absurd i
   lost_body link octets b (Some way) there it is i =
-      cut_body link octets way b (is_cut s link Up now) refl there it is i
+      cut_body link octets b (is_cut s link Up now) refl there it is i
 
   -- each is an outcome, and its cause is the event's record
   each_body : (what : What) {h : Happening} (b : NoteBody) → IsOfThisTime hs now number h
@@ -93,7 +93,7 @@ pub all_bodies : (s : Scenario) (hs : List Happening) (now : ℕ) (befell : List
 all_bodies s hs now befell real b i =
     let at = from_flat (λ e. bodies_of s now e.number e.what) befell b i in
     let it = real at.0 at.1 in
-    let is = each_body s hs now at.0.number it.0 at.0.what b it.2 it.3 at.2 in
+    let is = each_body s it.0 at.0.what b it.2 it.3 at.2 in
     (is.0, (at.0, at.1, is.1))
 
 pub few_all : (s : Scenario) (now : ℕ) (befell : List Befell) → length (befell_bodies s now befell) ≤ length befell
@@ -118,7 +118,7 @@ all_rising s hs now (e ∷ befell) real order =
     let later : HaveRecords hs now befell = λ f i. real f (inr i) in
     let it = real e (inl refl) in
     rising_more (bodies_of s now e.number e.what) (befell_bodies s now befell) (few_bodies s now e.number e.what) (λ b c i j.
-    let first = (each_body s hs now e.number it.0 e.what b it.2 it.3 i).1 in
+    let first = (each_body s it.0 e.what b it.2 it.3 i).1 in
     let next = (all_bodies s hs now befell later c j).1 in
     let lt = order.0 next.0 next.1 in
     let cause = next.2 in

@@ -49,13 +49,13 @@ on_so : (s : Scenario) {hs : List Happening} {now n : ℕ} (line : ℕ) (d : Dev
     → IsFounded place_of (IsDue s) hs → (it : IsOfThisTime hs now n h) → h.note.body ≡ kinds.Event line (events.On d)
     → is_turned_on_at s d now ≡ true
 on_so s {hs} {now} {n} line d {h} founded it is =
-    on_by_record s now d (event_due s hs h line (events.On d) founded (numbered_in hs n h it.there) is) it.same_time
+    on_by_record s d (event_due s hs h line (events.On d) founded (numbered_in hs n h it.there) is) it.same_time
 
-module _ (s : Scenario) (hs : List Happening) (now : ℕ) (device : DeviceId) where
-  pub rest_outcome : (body : NoteBody) → IsFounded place_of (IsDue s) hs → IsOutcome s hs now body
+module _ {s : Scenario} {hs : List Happening} {now : ℕ} (device : DeviceId) where
+  pub rest_outcome : {body : NoteBody} → IsFounded place_of (IsDue s) hs → IsOutcome s hs now body
       → IsAtRest s device now body
-  rest_outcome body founded (IsOutcome.losing d link n it) = inl refl
-  rest_outcome body founded (IsOutcome.turning d n line h sound it is) =
+  rest_outcome founded (IsOutcome.losing d link n it) = inl refl
+  rest_outcome founded (IsOutcome.turning d n line h sound it is) =
       elim (cases_Bool (device.0 == d.0)) [
         | inr other ↦ inl other
         | inl same ↦ inr (
@@ -65,16 +65,16 @@ module _ (s : Scenario) (hs : List Happening) (now : ℕ) (device : DeviceId) wh
       ]
 
   -- it does not move a broken one
-  out_unmoved : (body : NoteBody) → is_broken s device now ≡ true → IsOutcome s hs now body
+  out_unmoved : {body : NoteBody} → is_broken s device now ≡ true → IsOutcome s hs now body
       → moves device body ≡ false
-  out_unmoved body broken (IsOutcome.losing d link n it) = refl
-  out_unmoved body broken (IsOutcome.turning d n line h sound it is) = grind (arith, cases_Bool, is_broken, alike)
+  out_unmoved broken (IsOutcome.losing d link n it) = refl
+  out_unmoved broken (IsOutcome.turning d n line h sound it is) = grind (arith, cases_Bool, is_broken, alike)
 
   -- nor one that no event turns on
-  off_unmoved : (body : NoteBody) → IsFounded place_of (IsDue s) hs → is_turned_on_at s device now ≡ false
+  off_unmoved : {body : NoteBody} → IsFounded place_of (IsDue s) hs → is_turned_on_at s device now ≡ false
       → IsOutcome s hs now body → moves device body ≡ false
-  off_unmoved body founded off (IsOutcome.losing d link n it) = refl
-  off_unmoved body founded off (IsOutcome.turning d n line h sound it is) =
+  off_unmoved founded off (IsOutcome.losing d link n it) = refl
+  off_unmoved founded off (IsOutcome.turning d n line h sound it is) =
       elim (cases_Bool (device.0 == d.0)) [
         | inr other ↦ other
         | inl same ↦
@@ -88,7 +88,7 @@ pub known_told : {s : Scenario} {hs coming : List Happening} {frontier : List �
 known_told {s} {hs} {coming} {now} m known = record {
   unmoved = λ device le h i. elim (in_parts h hs coming i) [
     | inl old ↦ known.unmoved device le h (rw (append-nil hs) old)
-    | inr new ↦ off_unmoved s hs now device h.note.body m.founded (known.never_on device le now) (m.out h new)
+    | inr new ↦ off_unmoved device m.founded (known.never_on device le now) (m.out h new)
   ];
   never_on = known.never_on;
 }
@@ -108,8 +108,8 @@ module _ {hs : List Happening} {frontier : List ℕ} {now : ℕ} {befell : List 
   past_told : (h : Happening) → IsIn h hs → time_of h ≤ now
   past_told h i = elim (m.sooner h i) [ inl lt ↦ omega arith | inr it ↦ omega arith ]
 
-module _ {M : Type 0} (stands : M → Network → DeviceId → Node → Type 0) (s : Scenario) (hs coming : List Happening)
-    (frontier : List ℕ) (now : ℕ) (befell : List Befell) (device : DeviceId) (machine : M) where
+module _ {M : Type 0} (stands : M → Network → DeviceId → Node → Type 0) {s : Scenario} {hs coming : List Happening}
+    {frontier : List ℕ} {now : ℕ} {befell : List Befell} (device : DeviceId) (machine : M) where
   kept_told : AreToldOf s hs coming frontier now befell → IsKept stands s hs [] frontier now device machine
       → IsKept stands s hs coming (behind (now ∷ 2 ∷ [])) now device machine
   kept_told m k =
@@ -149,7 +149,7 @@ module _ {M : Type 0} (stands : M → Network → DeviceId → Node → Type 0) 
         ready = k.ready;
         still = λ up h i at. elim (in_parts h hs coming i) [
           | inl old ↦ k.still up h (rw (append-nil hs) old) at
-          | inr new ↦ rest_outcome s hs now device h.note.body m.founded (m.out h new)
+          | inr new ↦ rest_outcome device m.founded (m.out h new)
         ];
         turned = λ on_now.
             let was = k.turned on_now in
@@ -172,7 +172,7 @@ module _ {M : Type 0} (stands : M → Network → DeviceId → Node → Type 0) 
   held_told m (inl k) = inl (kept_told m k)
   held_told m (inr k) =
       let none : (z : Happening) → IsIn z coming → moves device z.note.body ≡ false =
-      λ z i. out_unmoved s hs now device z.note.body k.broken (m.out z i) in
+      λ z i. out_unmoved device k.broken (m.out z i) in
       let whole = append-nil hs in
       inr (record {
         node = k.node;

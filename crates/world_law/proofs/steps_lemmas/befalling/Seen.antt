@@ -21,7 +21,7 @@ on_within reading stands s world notes old e device i on =
     elim (cases_lt device.0 (length s.network.device)) [
       | inl lt ↦ lt
       | inr ge ↦ absurd (both_ways _ (old.known.never_on device ge world.now)
-          (on_by_record s world.now device due it.2.same_time))
+          (on_by_record s device due it.2.same_time))
     ]
 
 -- ---- what an event puts on wires
@@ -45,7 +45,7 @@ wires_of s now number other = []
 abbrev launch_on : Scenario → LinkId → List ℕ → ℕ → Option Launch
 launch_on s link octets t = if is_cut s link Up t then None else Some (record { link = link; way = Up; signal = signal_of octets })
 
-module _ (s : Scenario) (now number : ℕ) (link : LinkId) (octets : List ℕ) (h : Happening) where
+module _ (s : Scenario) {now : ℕ} (number : ℕ) (link : LinkId) (octets : List ℕ) (h : Happening) where
   sent_real : (e : OnWire) (cut : Bool) (o : Option Link) → time_of h ≡ now → is_cut s link Up now ≡ cut
       → link_at s.network link ≡ o → launched s h (time_of h) h.note.body ≡ launch_on s link octets (time_of h)
       → IsIn e (if cut then [] else option_map_or (λ (l : Link). sent_on s now number link octets l ∷ []) o [])
@@ -57,11 +57,11 @@ module _ (s : Scenario) (now number : ℕ) (link : LinkId) (octets : List ℕ) (
 
   sent_all : (cut : Bool) (o : Option Link) → time_of h ≡ now → is_cut s link Up now ≡ cut
       → link_at s.network link ≡ o → launched s h (time_of h) h.note.body ≡ launch_on s link octets (time_of h)
-      → (device : DeviceId) (by : LinkId) (t : ℕ) (signal : Signal) → Arrives s h device by t signal
+      → {device : DeviceId} {by : LinkId} {t : ℕ} {signal : Signal} → Arrives s h device by t signal
       → (e : OnWire) × IsIn e (if cut then [] else option_map_or (λ (l : Link). sent_on s now number link octets l
       ∷ []) o []) × (wire_place e ≡ t ∷ 2 ∷ device.0 ∷ by.0 ∷ number ∷ [])
-  sent_all true o at cut there put device by t signal a = grind (arith, signal_of, is_cut)
-  sent_all false o at cut there put device by t signal a =
+  sent_all true o at cut there put a = grind (arith, signal_of, is_cut)
+  sent_all false o at cut there put {device} {by} {t} {signal} a =
       let here : Launch = record { link = link; way = Up; signal = signal_of octets } in
       let same : here ≡ ((record { link = by; way = a.way; signal = signal })) = cc in
       let link_is : link ≡ by = ap (λ x. x.link) same in
@@ -94,7 +94,8 @@ module _ (s : Scenario) (now number : ℕ) (link : LinkId) (octets : List ℕ) (
 event_real : (s : Scenario) (now number line : ℕ) (what : What) (h : Happening) (e : OnWire) → time_of h ≡ now → h.note.body ≡ kinds.Event line what
     → IsIn e (wires_of s now number what) → (e.cause ≡ number) × Arrives s h e.device e.link e.at e.signal
 event_real s now number line (events.Send link octets) h e at is i =
-    sent_real s now number link octets h e (is_cut s link Up now) (link_at s.network link) at refl refl (ap (launched s h (time_of h)) is) i
+    sent_real s number link octets h e (is_cut s link Up now) (link_at s.network link) at refl refl
+    (ap (launched s h (time_of h)) is) i
 event_real s now number line other h e at is i = absurd i
 
 event_all : {s : Scenario} (now number line : ℕ) (what : What) {h : Happening} → time_of h ≡ now
@@ -102,7 +103,8 @@ event_all : {s : Scenario} (now number line : ℕ) (what : What) {h : Happening}
     → Arrives s h device link t signal → (e : OnWire) × IsIn e (wires_of s now number what)
     × (wire_place e ≡ t ∷ 2 ∷ device.0 ∷ link.0 ∷ number ∷ [])
 event_all {s} now number line (events.Send by octets) {h} at is {device} {link} {t} {signal} a =
-    sent_all s now number by octets h (is_cut s by Up now) (link_at s.network by) at refl refl (ap (launched s h (time_of h)) is) device link t signal a
+    sent_all s number by octets h (is_cut s by Up now) (link_at s.network by) at refl refl
+    (ap (launched s h (time_of h)) is) a
 event_all {s} now number line other {h} at is {link} {signal} a =
     absurd (cc)
 

@@ -27,9 +27,9 @@ event_due s hs h line what founded i is =
     subst (λ b. IsCaused s at.front h.note.time b) is at.due.cause
 
 -- by the record of its event the device is turned on at the time
-pub on_by_record : (s : Scenario) {time : Units} {line : ℕ} (now : ℕ) (device : DeviceId)
+pub on_by_record : (s : Scenario) {time : Units} {line : ℕ} {now : ℕ} (device : DeviceId)
     → IsEventRecord s.events time line (events.On device) → amount time ≡ now → is_turned_on_at s device now ≡ true
-on_by_record s now device r at =
+on_by_record s {now} device r at =
     let on : turns_on device r.event.what ≡ true = ap (turns_on device) (sym r.same) ∙ eq-eqb device.0 device.0 refl in
     let then_ = eq-eqb (amount r.event.time) now (ap amount (sym r.at) ∙ at) in
     in_any (λ e. turns_on device e.what && amount e.time == now) s.events r.event (in_at s.events r.before r.event r.is)
@@ -43,12 +43,12 @@ pub on_by_event : (s : Scenario) (device : DeviceId) (now : ℕ) → is_turned_o
 on_by_event s device now on = grind (arith, any_from, turns_on, amount, and_parts, on_by, eqb-true)
 
 -- an event before the frontier has its record
-pub recorded : (s : Scenario) (frontier : List ℕ) (hs : List Happening) (i : ℕ) (e : Event)
+pub recorded : (s : Scenario) {frontier : List ℕ} {hs : List Happening} (i : ℕ) {e : Event}
     → IsRun place_of (IsDue s) frontier hs → slice_get s.events i ≡ Some e
     → pos 0 ≤ℤ e.time.0 → IsBefore (amount e.time ∷ 1 ∷ (i + 1) ∷ []) frontier → (n : ℕ) × (h : Happening)
     × (numbered hs n ≡ Some h) × (h.note.time ≡ e.time)
     × (h.note.body ≡ notes.Event (i + 1) e.what)
-recorded s frontier hs i e run get begun told =
+recorded s {hs} i {e} run get begun told =
     let at = split place_of (IsDue s) hs (amount e.time ∷ 1 ∷ (i + 1) ∷ []) run.founded in
     let note : Note = record { number = length at.front + 1; time = e.time; body = notes.Event (i + 1) e.what } in
     let x = happening s.network at.front note in

@@ -86,7 +86,7 @@ put_all {s} hs (y ∷ befell) old new (mid, g, at, first, later) x
 put_all hs (y ∷ befell) old new (mid, g, at, first, later) x (inr i) there arrives =
     put_all hs befell mid new later x i there arrives
 
-module _ (s : Scenario) (hs : List Happening) (frontier : List ℕ) (now : ℕ) (befell : List Befell) where
+module _ (s : Scenario) {hs : List Happening} {frontier : List ℕ} {now : ℕ} {befell : List Befell} where
   pub wires_told : {wires : List OnWire} (new : List OnWire) → IsTelling hs frontier now befell → IsForward s
       → AreOnWires s hs frontier now true wires → ArePutBy s hs befell wires new
       → AreOnWires s hs (behind (now ∷ 2 ∷ [])) now false new

@@ -80,13 +80,13 @@ module _ (n : ℕ) (device : DeviceId) where
   few_corrected was cycle adjustment (verdicts.Corrected by) = let few = few_first was in omega arith
   few_corrected was cycle adjustment other = omega arith
 
-of_length : (bodies others : List NoteBody) → bodies ≡ others → length others ≤ 2 → length bodies ≤ 2
-of_length bodies others is few = rw is few
+of_length : {bodies others : List NoteBody} → bodies ≡ others → length others ≤ 2 → length bodies ≤ 2
+of_length is few = rw is few
 
 pub acts_bring_few : ActsBringFew
-acts_bring_few s hs now device was adjustment (acts.Send frame) bodies are = of_length bodies _ are (omega arith)
+acts_bring_few s hs now device was adjustment (acts.Send frame) bodies are = of_length are (omega arith)
 acts_bring_few s hs now device was adjustment (acts.Emit sent heard) bodies are =
-    let few = few_joining (length hs + 1) device heard in of_length bodies _ are (omega arith)
+    let few = few_joining (length hs + 1) device heard in of_length are (omega arith)
 acts_bring_few s hs now device was adjustment (acts.Correct cycle verdict) bodies are =
-    of_length bodies _ are (few_corrected (length hs + 1) device was cycle adjustment verdict)
-acts_bring_few s hs now device was adjustment (acts.Dispatch row cycle) bodies are = of_length bodies _ are.4 (omega arith)
+    of_length are (few_corrected (length hs + 1) device was cycle adjustment verdict)
+acts_bring_few s hs now device was adjustment (acts.Dispatch row cycle) bodies are = of_length are.4 (omega arith)

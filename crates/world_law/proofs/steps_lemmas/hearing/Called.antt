@@ -35,8 +35,8 @@ pub kept_by : {M : Type 0} {stands : M → Network → DeviceId → Node → Typ
     → then_ machine s.network device k.node → IsKept then_ s hs coming frontier now device machine
 kept_by then_ k is = grind arith
 
-module _ {M : Type 0} (stands : M → Network → DeviceId → Node → Type 0) (s : Scenario) (hs coming : List Happening)
-    (frontier : List ℕ) where
+module _ {M : Type 0} (stands : M → Network → DeviceId → Node → Type 0) {s : Scenario} {hs coming : List Happening}
+    {frontier : List ℕ} where
   -- a sound device that is called so is kept, where the call's kind is not later than the frontier
   pub kept_called : {now : ℕ} {device : DeviceId} {machine : M} (after : M) (phase : Phase)
       (k : IsKept (After stands after (called (moment_of s device now) phase)) s hs coming frontier now device machine)

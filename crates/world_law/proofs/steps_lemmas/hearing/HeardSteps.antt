@@ -18,8 +18,8 @@ use Rattle.run_law.specs.declared.steps.Arrival.TheVariants as arrivals
 
 -- A frame arrives: the world stands behind it, where its devices do.
 
-wire_at : (e : OnWire) (now : ℕ) → e.at ≡ now → wire_place e ≡ now ∷ 2 ∷ e.device.0 ∷ e.link.0 ∷ e.cause ∷ []
-wire_at e now at = rw at
+wire_at : (e : OnWire) {now : ℕ} → e.at ≡ now → wire_place e ≡ now ∷ 2 ∷ e.device.0 ∷ e.link.0 ∷ e.cause ∷ []
+wire_at e at = rw at
 
 module _ {C M : Type 0} (reading : C → ℕ → ℕ) (stands : M → Network → DeviceId → Node → Type 0) (s : Scenario)
     (world : World C M) (notes : List Note) (e : OnWire) where
@@ -28,7 +28,7 @@ module _ {C M : Type 0} (reading : C → ℕ → ℕ) (stands : M → Network �
       → ComesFirst reading stands s world notes old (wire_place e)
       → StandsHere reading stands s world notes 2 (e.device.0 ∷ e.link.0 ∷ e.cause ∷ [])
   arriving_first {old} i at first =
-      comes_first old 2 (e.device.0 ∷ e.link.0 ∷ e.cause ∷ []) (inr (refl, inr (refl, tt))) (wire_at e world.now at)
+      comes_first old 2 (e.device.0 ∷ e.link.0 ∷ e.cause ∷ []) (inr (refl, inr (refl, tt))) (wire_at e at)
       (old.wires.real e i).2 first
 
   abbrev hs_of : List Happening
@@ -52,7 +52,7 @@ module _ {C M : Type 0} (reading : C → ℕ → ℕ) (stands : M → Network �
       let c = arriving_first i at first in
       stands_on c machines world.shown (omega arith) are known devices
       (wires_move (goes_by s hs_of wire_here) wires c.wires
-      (rw (wire_at e world.now at) at without))
+      (rw (wire_at e at) at without))
       (ports_still c (λ eight. omega arith)) (waiting_still c (λ three. omega arith))
       (shown_still c (omega arith))
 
@@ -90,8 +90,8 @@ pub record IsHearingIt {M : Type 0} (stands : M → Network → DeviceId → Nod
   pub may : MayArrive s.network e.device e.link octets
   pub hears : HasHeard stands s.network e.device (moment_of s e.device now) e.link octets result machine heard
 
-module _ {M : Type 0} (stands : M → Network → DeviceId → Node → Type 0) (s : Scenario) (hs coming : List Happening)
-    (now : ℕ) (e : OnWire) (machine heard : M) (octets : List ℕ) (result : Arrival) where
+module _ {M : Type 0} {stands : M → Network → DeviceId → Node → Type 0} {s : Scenario} {hs coming : List Happening}
+    {now : ℕ} {e : OnWire} {machine heard : M} {octets : List ℕ} {result : Arrival} where
   -- a broken device drops it, as the records say, and is kept
   pub out_heard : IsHearingIt stands s hs coming now e machine heard octets result
       → IsOut stands s hs coming (now ∷ 2 ∷ e.device.0 ∷ e.link.0 ∷ e.cause ∷ []) now e.device machine
@@ -105,7 +105,7 @@ module _ {M : Type 0} (stands : M → Network → DeviceId → Node → Type 0) 
       let so = h.hears k.node k.is call h.may in
       let drops = so.0 ∙ out_drops s.network e.device k.node m e.link (signal_of octets) k.shows in (
         drops ∙ sym (broken_drops s (hs ++ coming) e.device now e.link e.cause e.signal k.broken),
-        out_called stands s hs coming here (behind here) heard arriving k (rw drops at so.1) (after_here s now e),
+        out_called stands (behind here) heard arriving k (rw drops at so.1) (after_here s now e),
       )
 
   -- a sound device judges it as the records say
@@ -184,10 +184,10 @@ plain_there : {M : Type 0} {stands : M → Network → DeviceId → Node → Typ
 plain_there {stands} {s} {hs} {front} {back} {now} e heard {w} quiet at none k is =
     let more = e.device.0 ∷ e.link.0 ∷ e.cause ∷ [] in
     let by = After stands heard (called (moment_of s e.device now) arriving) in
-    let on = kept_moves (goes_by s hs (now ∷ 2 ∷ more)) by (longer_place now e.device.0 e.link.0 e.cause)
+    let on = kept_moves (goes_by s hs (now ∷ 2 ∷ more)) (longer_place now e.device.0 e.link.0 e.cause)
     (no_task_at s.network now e.device 2 more (inl (omega arith))) (kept_by by k is) in
     held_aside s hs front back w e.device quiet.bears at (frames_aside s hs front back w e.device quiet.bears none)
-    (inl (kept_called stands s hs (front ++ back) (behind (now ∷ 2 ∷ more)) heard arriving on (after_here s now e)))
+    (inl (kept_called stands heard arriving on (after_here s now e)))
 
 -- no place behind it, and before what acts, is before the frontier
 not_over : (now d : ℕ) (more : List ℕ) → IsBefore (now ∷ 2 ∷ (d + 1) ∷ []) (now ∷ 2 ∷ d ∷ more) → ⊥
@@ -196,8 +196,8 @@ not_over now d more (inr (e, inl lt)) = omega arith
 not_over now d more (inr (e, inr (f, inl lt))) = omega arith
 not_over now d more (inr (e, inr (f, inr (g, b)))) = omega arith
 
-module _ {M : Type 0} (stands : M → Network → DeviceId → Node → Type 0) (s : Scenario)
-    (hs front back : List Happening) (now : ℕ) (e : OnWire) where
+module _ {M : Type 0} (stands : M → Network → DeviceId → Node → Type 0) {s : Scenario}
+    {hs front back : List Happening} {now : ℕ} (e : OnWire) where
   -- it takes a frame
   taken_there : {machine : M} (heard : M) {w : Happening} {vl : VlId} {cycle : ℕ}
       → IsTakingBy s hs front back now w e.device vl cycle
@@ -210,7 +210,7 @@ module _ {M : Type 0} (stands : M → Network → DeviceId → Node → Type 0) 
       let more = e.device.0 ∷ e.link.0 ∷ e.cause ∷ [] in
       let over = e.link.0 ∷ e.cause ∷ 0 ∷ [] in
       let by = After stands heard (took (moment_of s e.device now) vl cycle) in
-      let on = kept_moves (goes_by s hs (now ∷ 2 ∷ more)) by (longer_place now e.device.0 e.link.0 e.cause)
+      let on = kept_moves (goes_by s hs (now ∷ 2 ∷ more)) (longer_place now e.device.0 e.link.0 e.cause)
       (no_task_at s.network now e.device 2 more (inl (omega arith))) (kept_by by k is) in
       let up : on.up ≡ now = elim on.acted [
         | inl still ↦ still.0
@@ -232,7 +232,7 @@ module _ {M : Type 0} (stands : M → Network → DeviceId → Node → Type 0) 
     takes = λ z. ap (taken_in e.device z) r.body ∙ takes z;
     behind = λ h i.
         no_taking a h (in_right h front back i) (rank (arrival_body e.device e.link e.cause is))
-        (subst (λ q. IsBefore (place_of h) q → ⊥) (placed_at now e is w r.one.at r.body) (r.one.none h i)) high;
+        (subst (λ q. IsBefore (place_of h) q → ⊥) (placed_at e is w r.one.at r.body) (r.one.none h i)) high;
   }
 
 abbrev frame_of : VlId → ℕ → ℤ → TakenFrame
@@ -241,8 +241,8 @@ frame_of vl cycle z = record { vl = vl; cycle = cycle; at = z }
 self_takes : (device : DeviceId) (vl : VlId) (cycle : ℕ) (z : ℤ) → (if device.0 == device.0 then frame_of vl cycle z ∷ [] else []) ≡ frame_of vl cycle z ∷ []
 self_takes device vl cycle z = rw (eq-eqb device.0 device.0 refl)
 
-module _ {M : Type 0} (stands : M → Network → DeviceId → Node → Type 0) (s : Scenario)
-    (hs front back : List Happening) (now : ℕ) (e : OnWire) (machine heard : M)
+module _ {M : Type 0} (stands : M → Network → DeviceId → Node → Type 0) {s : Scenario}
+    {hs front back : List Happening} {now : ℕ} {e : OnWire} (machine heard : M)
     (octets : List ℕ) (result : Arrival) where
   kept_there : (is : Arrival) {w : Happening} → IsHearingIt stands s hs
       (front ++ back) now e machine heard octets result
@@ -253,14 +253,14 @@ module _ {M : Type 0} (stands : M → Network → DeviceId → Node → Type 0) 
       → IsHeld stands s hs (front ++ w ∷ back) (behind (now ∷ 2 ∷ e.device.0 ∷ e.link.0 ∷ e.cause
       ∷ [])) now e.device heard
   kept_there (arrivals.Accepted vl cycle) h r so k is =
-      taken_there stands s hs front back now e heard
-      (taking_by stands s hs front back now e vl cycle h.given r
+      taken_there stands e heard
+      (taking_by stands e vl cycle h.given r
       (accepted_high s e.device now e.link e.cause e.signal (hs ++ (front ++ back)) vl cycle (sym so))
       (self_takes e.device vl cycle))
       h.steady h.precise k is
   kept_there (arrivals.Delivered vl cycle) h r so k is =
-      taken_there stands s hs front back now e heard
-      (taking_by stands s hs front back now e vl cycle h.given r (delivered_high s.network e.device)
+      taken_there stands e heard
+      (taking_by stands e vl cycle h.given r (delivered_high s.network e.device)
       (self_takes e.device vl cycle)) h.steady h.precise k is
   kept_there (arrivals.Dropped reason) h r so k is =
       plain_there e heard (quiet_for stands h.given r e.device) r.one.at
@@ -284,7 +284,7 @@ module _ {M : Type 0} (stands : M → Network → DeviceId → Node → Type 0) 
       → IsHeld stands s hs (front ++ w ∷ back) (behind (now ∷ 2 ∷ e.device.0 ∷ e.link.0 ∷ e.cause
       ∷ [])) now e.device heard
   held_there {is} h r so (inl k) =
-      let it = kept_answers stands s hs (front ++ back) now e machine heard octets result h k in
+      let it = kept_answers h k in
       kept_there is h r so k
       (rw (it.0 ∙ sym so) at it.1)
   held_there {w} h r so (inr k) =
@@ -293,12 +293,12 @@ module _ {M : Type 0} (stands : M → Network → DeviceId → Node → Type 0) 
       held_aside s hs front back w e.device quiet.bears r.one.at
       (frames_aside s hs front back w e.device quiet.bears
       (λ at. ap (taken_in e.device at) (r.body ∙ ap (arrival_body e.device e.link e.cause) dropped)))
-      (inr (out_heard stands s hs (front ++ back) now e machine heard octets result h k).1)
+      (inr (out_heard h k).1)
 
 -- the first frame on a wire arrives: the machine of its device hears it, and its record is to come
-pub heard_step : {C M : Type 0} (reading : C → ℕ → ℕ) (stands : M → Network → DeviceId → Node → Type 0) (s : Scenario)
-    (world : World C M) (notes : List Note) (e : OnWire) (machine heard : M) (octets : List ℕ) (result : Arrival)
-    (machines : List M) (wires : List OnWire) (settled : List Happening) (old : Stands reading stands s world notes)
+pub heard_step : {C M : Type 0} {reading : C → ℕ → ℕ} {stands : M → Network → DeviceId → Node → Type 0} (s : Scenario)
+    {world : World C M} {notes : List Note} (e : OnWire) {machine heard : M} {octets : List ℕ} (result : Arrival)
+    {machines : List M} (wires : List OnWire) (settled : List Happening) {old : Stands reading stands s world notes}
     → IsIn e world.wires → e.at ≡ world.now → ComesFirst reading stands s world notes old (wire_place e)
     → slice_get world.machines e.device.0 ≡ Some machine → signal_of octets ≡ e.signal
     → MayArrive s.network e.device e.link octets
@@ -309,7 +309,8 @@ pub heard_step : {C M : Type 0} (reading : C → ℕ → ℕ) (stands : M → Ne
     → StandsBehind reading stands s
     (record world { early = false; machines = machines; wires = wires; settled = settled }) notes
     (world.now ∷ 2 ∷ e.device.0 ∷ e.link.0 ∷ e.cause ∷ [])
-heard_step {C} {M} reading stands s world notes e machine heard octets result machines wires settled old i at first got octets_of
+heard_step {C} {M} {reading} {stands} s {world} {notes} e {machine} {heard} {octets} result {machines} wires settled
+    {old} i at first got octets_of
     may hears set without put =
     let hs = happenings s.network notes in
     let now = world.now in
@@ -330,17 +331,17 @@ heard_step {C} {M} reading stands s world notes e machine heard octets result ma
       may = may;
       hears = hears;
     } in
-    let answer = held_answers stands s hs world.settled now e machine heard octets result h held in
+    let answer = held_answers h held in
     let r = heard_put reading stands s world notes e settled is i at first
     (heard_as_all a) (rank_is s e.device now e.link e.cause e.signal)
     (rw answer at put) in
     let quiet = quiet_for stands (rw r.whole at a) r.it in
     rw r.shows (heard_behind reading stands s world notes e machines wires i at first without r.long
-    (arrival_put s hs r.front r.back now e is r.w r.it)
+    (arrival_put r.it)
     (known_aside hs r.front r.back r.w (λ device le. moves_no_other device r.w.note.body (quiet device).bears)
     (rw r.whole at old.known))
     (devices_then c e.device (λ other not. no_task_at s.network now other 2 more (inl (omega arith))) set
-    (held_there stands s hs r.front r.back now e machine heard octets result
+    (held_there stands machine heard octets result
     (rw r.whole at h) r.it
     (ap (λ l. arrival_of s (hs ++ l) e.device now e.link e.cause e.signal) r.whole)
     (rw r.whole at held))

@@ -17,7 +17,7 @@ pub record IsMomentOf (s : Scenario) (device : DeviceId) (t : ℕ) (moment : Mom
 amount_is : (u : Units) (n : ℕ) → u.0 ≡ pos n → amount u ≡ n
 amount_is u n e = ap unsigned_abs e
 
-module _ (s : Scenario) (hs : List Happening) (device : DeviceId) (t : ℕ) (node : Node) (moment : Moment) where
+module _ {s : Scenario} {hs : List Happening} {device : DeviceId} {t : ℕ} {node : Node} (moment : Moment) where
   -- the node stands where the records say
   pub same_standpoint : IsLeft s hs device t node → IsMomentOf s device t moment
       → standpoint_at node moment ≡ standpoint s hs device t

@@ -28,23 +28,24 @@ of_link network link l P e h = rw e at h
 relay_no_cm : (network : Network) (channel : Channel) (device : DeviceId) → IsRoleOf network Relay channel device → IsCmOf network channel device → ⊥
 relay_no_cm network channel device relay cm = grind (arith, at_some)
 
-no_way_up : {network : Network} → IsTree network → (channel : Channel) (device : DeviceId) (link : LinkId) (l : Link)
+no_way_up : {network : Network} → IsTree network → (channel : Channel) {device : DeviceId} (link : LinkId) {l : Link}
     → link_at network link ≡ Some l → l.child ≡ device → l.parent ≡ device → IsUplink network channel device link
     → IsRoleOf network Relay channel device → (links : List LinkId) → IsPath network channel device links → ⊥
-no_way_up {network} tree channel device link l e child parent up relay [] path =
+no_way_up {network} tree channel {device} link e child parent up relay [] path =
     relay_no_cm network channel device relay path
-no_way_up {network} tree channel device link l e child parent up relay (first ∷ links) path =
+no_way_up {network} tree channel {device} link {l} e child parent up relay (first ∷ links) path =
     let p = at_some _ _ path in
     let leads = closed _ _ p.0 p.1 (p.2.0, p.2.1) in
     let one = tree.one_uplink channel device first link leads up in
     let same : p.0 ≡ l = (let both = sym p.1 ∙ ap (link_at network) one ∙ e in cc) in
     let back : p.0.parent ≡ device = rw same parent in
-    no_way_up tree channel device link l e child parent up relay links
+    no_way_up tree channel link e child parent up relay links
     (rw back at p.2.2)
 
 -- whether a device is an end system
-end_of : (network : Network) (device : DeviceId) (d : Device) → device_at network device ≡ Some d → is_end network device ≡ is_end_system d.role
-end_of network device d e = rw e
+end_of : (network : Network) (device : DeviceId) {d : Device} → device_at network device ≡ Some d → is_end network
+    device ≡ is_end_system d.role
+end_of network device e = rw e
 
 no_loop : (network : Network) → KeepsRules network → (link : LinkId) (l : Link) → link_at network link ≡ Some l → is_end network l.child ≡ false
     → l.child ≡ l.parent → ⊥
@@ -55,11 +56,11 @@ no_loop network rules link l e switch loop =
     elim joint.2 [
       | inl end ↦
           let d = at_some (λ x. is_end_system x.role ≡ true) (device_at network l.child) end in
-          let bad = sym (end_of network l.child d.0 d.1 ∙ d.2) ∙ switch in cc
+          let bad = sym (end_of network l.child d.1 ∙ d.2) ∙ switch in cc
       | inr relay ↦
           let d = at_some (λ x. (x.role ≡ Relay) × (x.channel ≡ Some channel)) (device_at network l.child) relay in
           let reach = tree.reach channel l.child (closed _ _ d.0 d.1 (inr d.2.1)) in
-          no_way_up tree channel l.child link l e refl (sym loop) (closed _ _ l e (refl, joint.1)) relay reach.0 reach.2
+          no_way_up tree channel link e refl (sym loop) (closed _ _ l e (refl, joint.1)) relay reach.0 reach.2
     ]
 
 -- ---- what a record puts on a link
@@ -149,7 +150,7 @@ pub record IsArrivalOf (s : Scenario) (js : List Happening) (device : DeviceId) 
   pub arrives : Arrives s putting device link t (control (Ok frame))
   pub own : is_of_other_member s.network device link frame.members ≡ false
 
-module _ (s : Scenario) (js : List Happening) (device : DeviceId) (t : ℕ) (link : LinkId) (cause : ℕ) where
+module _ {s : Scenario} {js : List Happening} {device : DeviceId} {t : ℕ} {link : LinkId} {cause : ℕ} where
   arrival_is : {is : Arrival} → rank (arrival_body device link cause is) ≡ 2 → ArrivesAs s js device t link cause is
       → IsArrivalOf s js device t link cause
   arrival_is two a =
@@ -181,10 +182,11 @@ and_last true false c x y e = absurd cc
 and_last false b c x y e = absurd cc
 
 -- the end system at the link's lower end is that master
-own_master : (network : Network) (device : DeviceId) (link : LinkId) (l : Link) (members : Members) → link_at network link ≡ Some l → l.parent ≡ device
+own_master : (network : Network) {device : DeviceId} (link : LinkId) {l : Link} (members : Members) → link_at network
+    link ≡ Some l → l.parent ≡ device
     → is_end network l.child ≡ true → is_of_other_member network device link members ≡ false
     → IsSomeAnd (member_of network l.child) (λ member. members.0 ≡ 2 ^ member)
-own_master network device link l members e parent end own = grind (arith, is_end, option_map_or, others_not, and_last, eq-eqb)
+own_master network link members e parent end own = grind (arith, is_end, option_map_or, others_not, and_last, eq-eqb)
 
 -- ---- going up from a switch
 
@@ -209,10 +211,10 @@ from_below {s} n up {device} {t} {link} {cause} le a parent =
     let own : (child : DeviceId) → IsChildOf s.network child link → is_end s.network child ≡ true
     → IsSomeAnd (member_of s.network child) (λ member. a.frame.members.0 ≡ 2 ^ member) = λ child of end.
     let is = of_link s.network link l.0 (λ x. x.child ≡ child) l.1 of in
-    rw is at (own_master s.network device link l.0 a.frame.members l.1 l.2 (ap (is_end s.network) is ∙ end) a.own) in
+    rw is at (own_master s.network link a.frame.members l.1 l.2 (ap (is_end s.network) is ∙ end) a.own) in
     record {
       one = elim (cases_Bool (is_end s.network l.0.child)) [
-        | inl end ↦ (l.0.child, own_master s.network device link l.0 a.frame.members l.1 l.2 end a.own)
+        | inl end ↦ (l.0.child, own_master s.network link a.frame.members l.1 l.2 end a.own)
         | inr switch ↦ up cause a.putting device link t a.frame le a.there a.arrives
             (record {
               parent = parent;
@@ -230,25 +232,32 @@ parent_is network device link l e parent =
     (eq-eqb l.parent.0 device.0 (rw parent))
 
 -- what comes to the link's upper end comes up
-upward : (network : Network) → KeepsRules network → (sender device : DeviceId) (link : LinkId) (l : Link) → link_at network link ≡ Some l
-    → is_end network l.child ≡ false → l.parent ≡ device → (way : Way) → way ≡ way_from network sender link → receiver_of network link way ≡ Some device
+upward : (network : Network) → KeepsRules network → (sender : DeviceId) {device : DeviceId} (link : LinkId) {l : Link}
+    → link_at network link ≡ Some l
+    → is_end network l.child ≡ false → l.parent ≡ device → {way : Way} → way ≡ way_from network sender link
+    → receiver_of network link way ≡ Some device
     → is_parent_of network sender link ≡ false
-upward network rules sender device link l e switch parent way is receives = grind (arith, cases_Bool, is_parent_of, option_map, target_by, no_loop)
+upward network rules sender link e switch parent is receives =
+    grind (arith, cases_Bool, is_parent_of, option_map, target_by, no_loop)
 
 -- what a switch gives to its link up, it took from below
 given_up : (s : Scenario) (hs : List Happening) (n : ℕ) → IsFounded place_of (IsDue s) hs → IsUpTo s hs n → (giving : Happening) → IsIn giving hs
-    → giving.note.number ≤ n + 1 → (device : DeviceId) (link : LinkId) (l : Link) → link_at s.network link ≡ Some l → is_end s.network l.child ≡ false
-    → is_parent_of s.network device link ≡ false → (frame : Pcf) → giving.frame ≡ Some frame → (body : NoteBody) → giving.note.body ≡ body
+    → giving.note.number ≤ n + 1 → (device : DeviceId) (link : LinkId) {l : Link} → link_at s.network link ≡ Some l
+    → is_end s.network l.child ≡ false
+    → is_parent_of s.network device link ≡ false → {frame : Pcf} → giving.frame ≡ Some frame → (body : NoteBody)
+    → giving.note.body ≡ body
     → Gives s.network body device link → IsOneMaster s.network frame.members
-given_up s hs n founded up giving i le device link l e switch above frame of_frame (kinds.Sent master cycle) is g =
+given_up s hs n founded up giving i le device link {l} e switch above of_frame (kinds.Sent master cycle) is g =
     let at = founded_at s hs giving founded i in
     let sends = subst (IsCaused s at.front giving.note.time) is at.due.cause in
     let child = of_link s.network link l (λ x. x.child ≡ device) e g.1 in
     let end : is_end s.network device ≡ true = ap (is_end s.network) g.0 ∙ master_end s.network master sends.master in
     absurd cc
-given_up s hs n founded up giving i le device link l e switch above frame of_frame (kinds.Compressed cm opened at cycle members verdict) is g =
+given_up s hs n founded up giving i le device link e switch above of_frame
+    (kinds.Compressed cm opened at cycle members verdict) is g =
     grind (arith, of_link, parent_is)
-given_up s hs n founded up giving i le device link l e switch above frame of_frame (kinds.Arrived relay by cause clock) is g =
+given_up s hs n founded up giving i le device link {l} e switch above {frame} of_frame
+    (kinds.Arrived relay by cause clock) is g =
     elim g.1.on [
       | inr down ↦
           let parent = of_link s.network link l (λ x. x.parent ≡ device) e down.1 in
@@ -256,7 +265,7 @@ given_up s hs n founded up giving i le device link l e switch above frame of_fra
       | inl passed ↦
           let at = founded_at s hs giving founded i in
           let arrived : IsArrivedRecord s at.front relay (time_of giving) by cause clock = subst (IsCaused s at.front giving.note.time) is at.due.cause in
-          let a = arrival_by s at.front relay (time_of giving) by cause arrived in
+          let a = arrival_by arrived in
           let lt = numbered_within at.front cause a.putting a.there in
           let number = at.due.number in
           let there : numbered hs cause ≡ Some a.putting = ap (λ x. numbered x cause) at.whole
@@ -276,7 +285,7 @@ given_up s hs n founded up giving i le device link l e switch above frame of_fra
           same in
           subst (IsOneMaster s.network) members ((from_below n up (omega arith) a_hs parent).one)
     ]
-given_up s hs n founded up giving i le device link l e switch above frame of_frame other is g = absurd g
+given_up s hs n founded up giving i le device link e switch above of_frame other is g = absurd g
 
 goes_up : {s : Scenario} (hs : List Happening) → KeepsRules s.network → SendsAreOfEnds s
     → IsFounded place_of (IsDue s) hs → (n : ℕ) → IsUpTo s hs n → IsUpTo s hs (suc n)
@@ -305,11 +314,11 @@ goes_up {s} hs rules sends founded n up cause putting device link t frame le the
           let same = sym shown ∙ of_frame in
           let members : departs.frame.members ≡ frame.members =
           ap (λ o. option_map_or (λ f. f.members) o frame.members) same in
-          let above = upward s.network rules sender device link l.0 l.1 l.2 parent arrives.way way arrives.receiver
+          let above = upward s.network rules sender link l.1 l.2 parent way arrives.receiver
           in
           subst (IsOneMaster s.network) members
-          (given_up s hs n founded up departs.giving giving_in (omega arith) sender link l.0 l.1 l.2 above
-          departs.frame departs.of_frame departs.giving.note.body refl departs.gives)
+          (given_up s hs n founded up departs.giving giving_in (omega arith) sender link l.1 l.2 above departs.of_frame
+          departs.giving.note.body refl departs.gives)
     ]
 
 none_up : (s : Scenario) (hs : List Happening) → IsUpTo s hs 0
@@ -336,17 +345,18 @@ at_link : (network : Network) (way : Way) (link : LinkId) (device : DeviceId) (l
 at_link network Up link device l e same = inr (closed (λ x. x.parent ≡ device) (link_at network link) l e same)
 at_link network Down link device l e same = inl (closed (λ x. x.child ≡ device) (link_at network link) l e same)
 
-received_at : (network : Network) (way : Way) (link : LinkId) (device : DeviceId) (o : Option Link) → link_at network link ≡ o
+received_at : (network : Network) (way : Way) (link : LinkId) {device : DeviceId} (o : Option Link) → link_at network
+    link ≡ o
     → option_map (target_by way) o ≡ Some device → IsLinkAt network device link
-received_at network way link device None e receives = absurd cc
-received_at network way link device (Some l) e receives = at_link network way link device l e (cc)
+received_at network way link None e receives = absurd cc
+received_at network way link {device} (Some l) e receives = at_link network way link device l e (cc)
 
 -- octets of a length that frames have, which are what is on a wire, may arrive
 pub may_arrive : (s : Scenario) (hs : List Happening) (e : OnWire) (octets : List ℕ) → KeepsRules s.network → SendsAreOfEnds s
     → IsFounded place_of (IsDue s) hs → IsOnWire s hs e → signal_of octets ≡ e.signal → 60 ≤ length octets → length octets ≤ 1514
     → MayArrive s.network e.device e.link octets
 may_arrive s hs e octets rules sends founded it signal least most = record {
-  at = received_at s.network it.arrives.way e.link e.device (link_at s.network e.link) refl it.arrives.receiver;
+  at = received_at s.network it.arrives.way e.link (link_at s.network e.link) refl it.arrives.receiver;
   least = least;
   most = most;
   one_master = λ from frame is.

@@ -74,7 +74,7 @@ received {s} {hs} {coming} {now} {e} is m founded it at so least_is put =
     rw all (least_is (hs ++ coming)) in
     let judged =
     so front back (rank body) shown.parts (subst (λ q. NoneBefore place_of back q) key_is shown.none) ranked in
-    let arrives = arrives_now front now is it at judged in
+    let arrives = arrives_now front it at judged in
     record {
       front = front;
       back = back;
@@ -90,7 +90,7 @@ received {s} {hs} {coming} {now} {e} is m founded it at so least_is put =
           none = shown.none;
           fresh = λ y i same.
               never_from moving y (in_right y front back i)
-              (λ js u own. own_there s js now e is (time_of y) (members_in y) y.note.body u (sym key_is ∙ same) own);
+              (λ js u own. own_there s js e is (members_in y) y.note.body u (sym key_is ∙ same) own);
           mine = body_own (members_in w) is arrives;
           here =
               IsSource.arriving now e.device e.link e.cause

@@ -40,9 +40,10 @@ body_own m (arrivals.Dropped reason) a = inl (refl, a)
 body_own m other a = refl
 
 -- where it stands
-pub placed_at : (now : ℕ) (e : OnWire) (is : Arrival) (w : Happening) → time_of w ≡ now → w.note.body ≡ arrival_body e.device e.link e.cause is
+pub placed_at : {now : ℕ} (e : OnWire) (is : Arrival) (w : Happening) → time_of w ≡ now → w.note.body ≡ arrival_body
+    e.device e.link e.cause is
     → place_of w ≡ now ∷ rank (arrival_body e.device e.link e.cause is) ∷ e.device.0 ∷ e.link.0 ∷ e.cause ∷ []
-placed_at now e is w at body = grind (arith, time_of, rank, key, members_in, arrival_body, body_key)
+placed_at e is w at body = grind (arith, time_of, rank, key, members_in, arrival_body, body_key)
 
 -- ---- it arrives so
 
@@ -50,10 +51,10 @@ pub few_cause : {s : Scenario} {hs : List Happening} {e : OnWire} → IsOnWire s
 few_cause {hs} {e} it = let lt = numbered_within hs e.cause it.putting it.there in omega arith
 
 -- what becomes of it, given more records
-pub arrives_now : {s : Scenario} {hs : List Happening} (zs : List Happening) (now : ℕ) {e : OnWire} (is : Arrival)
+pub arrives_now : {s : Scenario} {hs : List Happening} (zs : List Happening) {now : ℕ} {e : OnWire} {is : Arrival}
     → IsOnWire s hs e → e.at ≡ now → is ≡ arrival_of s (hs ++ zs) e.device now e.link e.cause e.signal
     → ArrivesAs s (hs ++ zs) e.device now e.link e.cause is
-arrives_now {s} {hs} zs now {e} is it at so = record {
+arrives_now {s} {hs} zs {e} it at so = record {
   putting = it.putting;
   there = numbered_prefix hs zs e.cause (few_cause it) ∙ it.there;
   signal = e.signal;
@@ -61,16 +62,16 @@ arrives_now {s} {hs} zs now {e} is it at so = record {
   becomes = so;
 }
 
-target_in : {network : Network} (way : Way) {l : Link} (device : DeviceId) → IsLinkInRange network l
+target_in : {network : Network} (way : Way) {l : Link} {device : DeviceId} → IsLinkInRange network l
     → target_by way l ≡ device → device.0 < length network.device
-target_in {network} Up device range e = rw e at range.parent
-target_in {network} Down device range e = rw e at range.child
+target_in {network} Up range e = rw e at range.parent
+target_in {network} Down range e = rw e at range.child
 
 pub receiver_in : (network : Network) (way : Way) (link : LinkId) (o : Option Link) (device : DeviceId) → link_at network link ≡ o → IsInRange network
     → Rattle.std.specs.Prelude.option_map (target_by way) o ≡ Some device → device.0 < length network.device
 receiver_in network way link None device is range e = absurd cc
 receiver_in network way link (Some l) device is range e =
-    target_in way device (in_all (IsLinkInRange network) network.link link.0 l range.links is) cc
+    target_in way {device = device} (in_all (IsLinkInRange network) network.link link.0 l range.links is) cc
 
 pub device_there : (s : Scenario) (hs : List Happening) (e : OnWire) → IsInRange s.network → IsOnWire s hs e → e.device.0 < length s.network.device
 device_there s hs e range it = receiver_in s.network it.arrives.way e.link (link_at s.network e.link) e.device refl range it.arrives.receiver
@@ -84,9 +85,9 @@ record IsSameWire (e : OnWire) (now t : ℕ) (device : DeviceId) (link : LinkId)
   on : e.link ≡ link
   from : e.cause ≡ cause
 
-same_wire : (e : OnWire) (now t : ℕ) (device : DeviceId) (link : LinkId) (cause : ℕ)
+same_wire : (e : OnWire) {now t : ℕ} (device : DeviceId) (link : LinkId) {cause : ℕ}
     → now ∷ 2 ∷ e.device.0 ∷ e.link.0 ∷ e.cause ∷ [] ≡ t ∷ 2 ∷ device.0 ∷ link.0 ∷ cause ∷ [] → IsSameWire e now t device link cause
-same_wire e now t device link cause same = grind arith
+same_wire e device link same = grind arith
 
 moved : {s : Scenario} {js : List Happening} {e : OnWire} {now t : ℕ} {device : DeviceId} {link : LinkId} {cause : ℕ}
     {is : Arrival} → IsSameWire e now t device link cause → ArrivesAs s js device t link cause is
@@ -103,15 +104,15 @@ pub record ComesAs (s : Scenario) (js : List Happening) (now : ℕ) (e : OnWire)
   pub so : ArrivesAs s js e.device now e.link e.cause is
   pub place : now ∷ rank (arrival_body e.device e.link e.cause is) ∷ e.device.0 ∷ e.link.0 ∷ e.cause ∷ [] ≡ t ∷ rank body ∷ key members body
 
-module _ (s : Scenario) (js : List Happening) (now : ℕ) (e : OnWire) (t members : ℕ) (device : DeviceId)
-    (link : LinkId) (cause : ℕ) where
+module _ (s : Scenario) (js : List Happening) {now : ℕ} (e : OnWire) {t : ℕ} (members : ℕ) (device : DeviceId)
+    (link : LinkId) {cause : ℕ} where
   comes : (body : NoteBody) {is : Arrival} → now ∷ 2 ∷ e.device.0 ∷ e.link.0 ∷ e.cause ∷ [] ≡ t ∷ 2 ∷ device.0
       ∷ link.0 ∷ cause ∷ [] → ArrivesAs s js device t link cause is
       → rank (arrival_body e.device e.link e.cause is) ≡ rank body
       → device.0 ∷ link.0 ∷ cause ∷ [] ≡ key members body → ComesAs s js now e t members body
   comes body {is} at a ranks keys = record {
     is = is;
-    so = moved (same_wire e now t device link cause at) a;
+    so = moved (same_wire e device link at) a;
     place = rw ranks (ap (ranked (rank body)) at ∙ (rw keys));
   }
 
@@ -129,26 +130,26 @@ pub comes_as : (s : Scenario) (js : List Happening) (now : ℕ) (e : OnWire) (t 
     → IsOwnSource s js t members body (now ∷ 2 ∷ e.device.0 ∷ e.link.0 ∷ e.cause ∷ [])
     → (time : Units) → amount time ≡ t → IsCaused s js time body → ComesAs s js now e t members body
 comes_as s js now e t m (kinds.Arrived device link cause clock) o time is c =
-    arrived_as s js now e t m device link cause o
+    arrived_as s js e m device link o
     (rw is at c)
 comes_as s js now e t m (kinds.Accepted device link cause vl cycle) o time is c =
-    comes s js now e t m device link cause _ o (rw is at c) refl refl
+    comes s js e m device link _ o (rw is at c) refl refl
 comes_as s js now e t m (kinds.Delivered device link cause vl cycle) o time is c =
-    comes s js now e t m device link cause _ o (rw is at c) refl refl
+    comes s js e m device link _ o (rw is at c) refl refl
 comes_as s js now e t m (kinds.Dropped device link cause reason) (inl o) time is c =
-    comes s js now e t m device link cause _ o.0 o.1 refl refl
+    comes s js e m device link _ o.0 o.1 refl refl
 comes_as s js now e t m (kinds.Dropped device link cause reason) (inr o) time is c = absurd (grind arith)
 comes_as s js now e t m (kinds.State device state cause whys.SyncClique) o time is c = absurd (grind arith)
 comes_as s js now e t m other o time is c = absurd (grind arith)
 
 -- what is judged so by the same records is at the same place
-pub outcome_at : {s : Scenario} {hs : List Happening} (zs : List Happening) {now : ℕ} {e : OnWire} (is : Arrival)
+pub outcome_at : {s : Scenario} {hs : List Happening} (zs : List Happening) {now : ℕ} {e : OnWire} {is : Arrival}
     → IsOnWire s hs e → e.at ≡ now → {t members : ℕ} {body : NoteBody}
     → is ≡ arrival_of s (hs ++ zs) e.device now e.link e.cause e.signal → ComesAs s (hs ++ zs) now e t members body
     → now ∷ rank (arrival_body e.device e.link e.cause is) ∷ e.device.0 ∷ e.link.0 ∷ e.cause ∷ [] ≡ t ∷ rank body
     ∷ key members body
-outcome_at {s} {hs} zs {now} {e} is it at so c =
-    rw (same_arrival (arrives_now zs now is it at so) c.so) c.place
+outcome_at {s} {hs} zs {now} {e} {is} it at so c =
+    rw (same_arrival (arrives_now zs it at so) c.so) c.place
 
 -- ---- whatever stands at the place of an outcome comes from the arrival, or from a source behind it
 
@@ -161,22 +162,24 @@ other_kind device link cause (arrivals.Accepted vl cycle) k r o = o.1 r
 other_kind device link cause (arrivals.Delivered vl cycle) k r o = o.2 r
 other_kind device link cause other k r o = o.0 r
 
-behind_here : (now t r : ℕ) (more ws w : List ℕ) → now ≡ t → 2 < r → w ≡ t ∷ r ∷ ws → IsBefore (now ∷ 2 ∷ more) w
-behind_here now t r more ws w e lt is = rw is (inr (e, inl lt))
+behind_here : {now t r : ℕ} (more : List ℕ) {ws w : List ℕ} → now ≡ t → 2 < r → w ≡ t ∷ r ∷ ws → IsBefore
+    (now ∷ 2 ∷ more) w
+behind_here more e lt is = rw is (inr (e, inl lt))
 
 abbrev first_of : List ℕ → ℕ
 first_of [] = 0
 first_of (a ∷ more) = a
 
-pub own_there : (s : Scenario) (js : List Happening) (now : ℕ) (e : OnWire) (is : Arrival) (t members : ℕ) (body : NoteBody) (w : List ℕ)
+pub own_there : (s : Scenario) (js : List Happening) {now : ℕ} (e : OnWire) (is : Arrival) {t : ℕ} (members : ℕ)
+    (body : NoteBody) (w : List ℕ)
     → now ∷ rank (arrival_body e.device e.link e.cause is) ∷ e.device.0 ∷ e.link.0 ∷ e.cause ∷ [] ≡ t ∷ rank body ∷ key members body
     → IsOwnSource s js t members body w → (w ≡ now ∷ 2 ∷ e.device.0 ∷ e.link.0 ∷ e.cause ∷ []) ⊎ IsBefore (now ∷ 2 ∷ e.device.0 ∷ e.link.0 ∷ e.cause ∷ []) w
-own_there s js now e is t m (kinds.Dropped device link cause reason) w place (inl o) = inl (o.0 ∙ sym (ap (ranked 2) place))
-own_there s js now e is t m (kinds.Dropped device link cause reason) w place (inr (inl o)) =
-    inr (behind_here now t 3 _ _ w (ap first_of place) (omega arith) o.2)
-own_there s js now e is t m (kinds.Dropped device link cause reason) w place (inr (inr o)) =
-    inr (behind_here now t 8 _ _ w (ap first_of place) (omega arith) o.0)
-own_there s js now e is t m (kinds.Arrived device link cause clock) w place o = inl (o ∙ sym (ap (ranked 2) place))
-own_there s js now e is t m (kinds.Accepted device link cause vl cycle) w place o = inl (o ∙ sym (ap (ranked 2) place))
-own_there s js now e is t m (kinds.Delivered device link cause vl cycle) w place o = inl (o ∙ sym (ap (ranked 2) place))
-own_there s js now e is t m other w place o = grind (arith, other_kind, second)
+own_there s js e is m (kinds.Dropped device link cause reason) w place (inl o) = inl (o.0 ∙ sym (ap (ranked 2) place))
+own_there s js {now} e is {t} m (kinds.Dropped device link cause reason) w place (inr (inl o)) =
+    inr (behind_here _ (ap first_of place) (omega arith) o.2)
+own_there s js {now} e is {t} m (kinds.Dropped device link cause reason) w place (inr (inr o)) =
+    inr (behind_here _ (ap first_of place) (omega arith) o.0)
+own_there s js e is m (kinds.Arrived device link cause clock) w place o = inl (o ∙ sym (ap (ranked 2) place))
+own_there s js e is m (kinds.Accepted device link cause vl cycle) w place o = inl (o ∙ sym (ap (ranked 2) place))
+own_there s js e is m (kinds.Delivered device link cause vl cycle) w place o = inl (o ∙ sym (ap (ranked 2) place))
+own_there s js e is m other w place o = grind (arith, other_kind, second)

@@ -14,14 +14,14 @@ last_body : (device : DeviceId) (link : LinkId) (cause : ℕ) (is : Arrival) →
 last_body device link cause (arrivals.Dropped reason) = refl
 last_body device link cause other = refl
 
-module _ (s : Scenario) (hs front back : List Happening) (now : ℕ) (e : OnWire) (is : Arrival) (w : Happening)
+module _ {s : Scenario} {hs front back : List Happening} {now : ℕ} {e : OnWire} {is : Arrival} {w : Happening}
     (p : IsReceiving s hs front back now e is w) where
   -- the frame is judged with it as without it
   judged_put : (c d : List Happening) → back ≡ c ++ d → arrival_of s (hs ++ (front ++ c)) e.device now e.link e.cause e.signal
       ≡ arrival_of s (hs ++ (front ++ w ∷ c)) e.device now e.link e.cause e.signal
   judged_put c d whole =
       let near = two_at (well_of p.one.moving)
-      (placing_one p.one) now c d whole refl in
+      (placing_one p.one) {t = now} c d whole refl in
       arrival_near s (hs ++ (front ++ c)) (hs ++ (front ++ w ∷ c)) now e.device e.link e.cause e.signal near.before
       (λ vl. near.taken e.device e.link e.cause vl (never_self (now ∷ 2 ∷ (e.device.0 ∷ e.link.0 ∷ e.cause ∷ []))))
 
@@ -30,7 +30,7 @@ module _ (s : Scenario) (hs front back : List Happening) (now : ℕ) (e : OnWire
   all_of_arrival f rest y whole before none due own =
       let c = comes_as s (hs ++ f) now e (time_of y) (members_in y) y.note.body own y.note.time refl due.cause in
       let c_is =
-      same_arrival c.so (arrives_now f now _ p.wire p.arrives refl) in
+      same_arrival c.so (arrives_now f {is = _} p.wire p.arrives refl) in
       let r = rank (arrival_body e.device e.link e.cause c.is) in
       let high : least_rank s.network e.device e.signal ≤ r =
       rw c_is (rank_is s e.device now e.link e.cause e.signal (hs ++ f)) in
@@ -47,7 +47,7 @@ module _ (s : Scenario) (hs front back : List Happening) (now : ℕ) (e : OnWire
       ] in (
         w,
         in_right w front (w ∷ back) (inl refl),
-        placed_at now e is w p.one.at p.body ∙ outcome_at f is p.wire p.arrives so c,
+        placed_at e is w p.one.at p.body ∙ outcome_at f p.wire p.arrives so c,
       )
 
   pub arrival_put : AreSettled s hs (front ++ w ∷ back) (now ∷ 2 ∷ e.device.0 ∷ e.link.0 ∷ e.cause ∷ [])

@@ -28,23 +28,26 @@ abbrev cycle_by : Option Happening → Option ℕ
 cycle_by o = option_and_then (λ h. taken_cycle h.note.body) o
 
 -- one record by which it takes one, or another device does
-taking_step : (device other : DeviceId) (vl of_vl : VlId) (cycle : ℕ) (at : ℤ) (o : Option TakenFrame) (p : Option Happening) (h : Happening)
+taking_step : (device other : DeviceId) (vl of_vl : VlId) {cycle : ℕ} (at : ℤ) (o : Option TakenFrame)
+    (p : Option Happening) (h : Happening)
     → taken_cycle h.note.body ≡ Some cycle → cycle_of o ≡ cycle_by p → (b c : Bool) → (of_vl.0 == vl.0) ≡ c
     → cycle_of (last_or o (filter (λ taking. taking.vl.0 == vl.0) (if b then record { vl = of_vl; cycle = cycle; at = at } ∷ [] else [])))
     ≡ cycle_by (if (b && c) then Some h else p)
-taking_step device other vl of_vl cycle at o p h is same true true e =
+taking_step device other vl of_vl at o p h is same true true e =
     rw e (sym is)
-taking_step device other vl of_vl cycle at o p h is same true false e =
+taking_step device other vl of_vl at o p h is same true false e =
     rw e same
-taking_step device other vl of_vl cycle at o p h is same false c e = same
+taking_step device other vl of_vl at o p h is same false c e = same
 
 last_step : (device : DeviceId) (vl : VlId) (at : ℤ) (o : Option TakenFrame) (p : Option Happening) (h : Happening) (body : NoteBody) → h.note.body ≡ body
     → cycle_of o ≡ cycle_by p
     → cycle_of (last_or o (filter (λ taking. taking.vl.0 == vl.0) (taken_in device at body))) ≡ cycle_by (if is_taking device vl body then Some h else p)
 last_step device vl at o p h (notes.Accepted other by from of_vl cycle) is same =
-    taking_step device other vl of_vl cycle at o p h (ap taken_cycle is) same (device.0 == other.0) (vl.0 == of_vl.0) (flips of_vl.0 vl.0)
+    taking_step device other vl of_vl at o p h (ap taken_cycle is) same (device.0 == other.0) (vl.0 == of_vl.0)
+    (flips of_vl.0 vl.0)
 last_step device vl at o p h (notes.Delivered other by from of_vl cycle) is same =
-    taking_step device other vl of_vl cycle at o p h (ap taken_cycle is) same (device.0 == other.0) (vl.0 == of_vl.0) (flips of_vl.0 vl.0)
+    taking_step device other vl of_vl at o p h (ap taken_cycle is) same (device.0 == other.0) (vl.0 == of_vl.0)
+    (flips of_vl.0 vl.0)
 last_step device vl at o p h other is same = same
 
 last_by : (device : DeviceId) (vl : VlId) (at : ℕ → ℤ) (hs : List Happening) (o : Option TakenFrame) (p : Option Happening) → cycle_of o ≡ cycle_by p
@@ -161,7 +164,7 @@ kept_taking stands {s} {hs} {front} {back} {w} {frontier} {now} {device} after {
     let done : HasDoneFrom s.network (s.reading device) device k.node (changed_at js device k.up) now k.up =
     subst (λ n. HasDoneFrom s.network (s.reading device) device k.node (changed_at js device k.up) n k.up) up rests.done in
     let done_then = subst (λ n. HasDoneFrom s.network (s.reading device) device new (changed_at js device k.up) n k.up) (sym up)
-    (done_took s now device k.node vl cycle steady done) in
+    (done_took s now vl cycle steady done) in
     let left_now : IsLeft s js device now k.node = rw (sym up) k.left in
     let shows : local_at k.node m ≡ local_before s js device now =
     rw left_now.counted.adjustment in
@@ -181,16 +184,16 @@ kept_taking stands {s} {hs} {front} {back} {w} {frontier} {now} {device} after {
       up = k.up;
       acted = k.acted;
       told = λ over. absurd (omega (arith, over, up));
-      left = left_took m vl cycle (left_aside s hs front back w device none k.up k.node k.left);
+      left = left_took m vl cycle (left_aside s hs front back w device none k.left);
       taken = took_it;
       worked = worked_by {s = s} {device = device} {node = new} {changed = changed_at gs device k.up}
           {t = k.up} frontier (record {
             done = subst (λ c. HasDoneFrom s.network (s.reading device) device new c k.up k.up)
                 (changed_aside s hs front back w device none k.up) done_then;
-            sent = sent_took s now device k.node vl cycle rests.sent;
+            sent = sent_took s now vl cycle rests.sent;
           }) (λ x task lt. come _ (inl (omega (arith, lt, up))));
       bare = k.bare;
-      ready = ready_took s now device k.node vl cycle steady precise k.ready;
+      ready = ready_took s now vl cycle steady precise k.ready;
       still = λ same. still_aside s hs front back w device now (moves_no_other device w.note.body none) (k.still same);
       turned = λ on. turned_aside s hs front back w device (k.turned on) (earlier_aside s hs front back w device none now);
       cleared = k.cleared;

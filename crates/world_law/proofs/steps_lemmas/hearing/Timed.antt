@@ -43,25 +43,25 @@ module _ {s : Scenario} {hs coming : List Happening} {now : ℕ} {e : OnWire}
   given_sooner other is = tt
 
 -- of one device and one time, the source by the link and cause is before the other
-source_sooner : (now t : ℕ) (device other link by cause from : ℕ) → t ≡ now → other ≡ device
+source_sooner : {now t : ℕ} {device other : ℕ} (link by cause from : ℕ) → t ≡ now → other ≡ device
     → IsBefore (t ∷ 2 ∷ other ∷ by ∷ from ∷ []) (now ∷ 2 ∷ device ∷ link ∷ cause ∷ []) → (by < link) ⊎ ((by ≡ link) × (from < cause))
-source_sooner now t device other link by cause from at same (inl lt) = absurd (omega arith)
-source_sooner now t device other link by cause from at same (inr (e, inl lt)) = absurd (omega arith)
-source_sooner now t device other link by cause from at same (inr (e, inr (f, inl lt))) = absurd (omega arith)
-source_sooner now t device other link by cause from at same (inr (e, inr (f, inr (g, inl lt)))) = inl lt
-source_sooner now t device other link by cause from at same (inr (e, inr (f, inr (g, inr (h, inl lt))))) = inr (h, lt)
-source_sooner now t device other link by cause from at same (inr (e, inr (f, inr (g, inr (h, inr (k, none)))))) = absurd none
+source_sooner link by cause from at same (inl lt) = absurd (omega arith)
+source_sooner link by cause from at same (inr (e, inl lt)) = absurd (omega arith)
+source_sooner link by cause from at same (inr (e, inr (f, inl lt))) = absurd (omega arith)
+source_sooner link by cause from at same (inr (e, inr (f, inr (g, inl lt)))) = inl lt
+source_sooner link by cause from at same (inr (e, inr (f, inr (g, inr (h, inl lt))))) = inr (h, lt)
+source_sooner link by cause from at same (inr (e, inr (f, inr (g, inr (h, inr (k, none)))))) = absurd none
 
 module _ {s : Scenario} {hs coming : List Happening} {now : ℕ} {e : OnWire}
     (a : IsAfterGiven s hs coming now e) where
-  coming_sooner : (z : Happening) → IsIn z coming → (other : DeviceId) (by : LinkId) (from : ℕ)
+  coming_sooner : (z : Happening) → IsIn z coming → {other : DeviceId} (by : LinkId) (from : ℕ)
       → ((js : List Happening) (w : List ℕ) → IsOwnSource s js (time_of z) (members_in z) z.note.body w
       → w ≡ time_of z ∷ 2 ∷ other.0 ∷ by.0 ∷ from ∷ []) → e.device ≡ other → IsBefore2 by from e.link e.cause
-  coming_sooner z i other by from source same =
+  coming_sooner z i {other} by from source same =
       let split = parted z coming i in
       let off = a.moving.are.by split.0 split.1 z split.2 in
       let at = a.moving.are.of_now z i in
-      source_sooner now (time_of z) e.device.0 other.0 e.link.0 by.0 e.cause
+      source_sooner {device = e.device.0} {other = other.0} e.link.0 by.0 e.cause
       from at (rw (sym same))
       (rw (source (hs ++ split.0) off.0 off.1) at off.3)
 
@@ -70,13 +70,13 @@ module _ {s : Scenario} {hs coming : List Happening} {now : ℕ} {e : OnWire}
   come_sooner z i (notes.Accepted other by from vl cycle) is = λ same.
       inr (
         a.moving.are.of_now z i,
-        coming_sooner z i other by from
+        coming_sooner z i by from
             (λ js w o. rw is at o) same,
       )
   come_sooner z i (notes.Delivered other by from vl cycle) is = λ same.
       inr (
         a.moving.are.of_now z i,
-        coming_sooner z i other by from
+        coming_sooner z i by from
             (λ js w o. rw is at o) same,
       )
   come_sooner z i other is = tt
@@ -97,16 +97,16 @@ pub kept_judges : {M : Type 0} {stands : M → Network → DeviceId → Node →
     ≡ arrival_of s (hs ++ coming) e.device now e.link e.cause signal
 kept_judges {stands} {s} {hs} {coming} {now} {e} signal a k =
     let here = now ∷ 2 ∷ e.device.0 ∷ e.link.0 ∷ e.cause ∷ [] in
-    let up = not_yet_acted stands s hs coming here (e.device.0 ∷ e.link.0 ∷ e.cause ∷ []) k (never_self here) in
+    let up = not_yet_acted stands (e.device.0 ∷ e.link.0 ∷ e.cause ∷ []) k (never_self here) in
     by (rw up at k.left) signal
   where
     by : IsLeft s (hs ++ coming) e.device now k.node → (signal : Signal)
         → arrival_at s.network e.device k.node (moment_of s e.device now) e.link signal ≡ arrival_of s (hs ++ coming) e.device now e.link e.cause signal
     by left (control frame) =
-        control_judged s (hs ++ coming) e.device now k.node (moment_of s e.device now) e.link e.cause frame left (record { time = refl; reading = refl })
+        control_judged (moment_of s e.device now) e.link e.cause frame left (record { time = refl; reading = refl })
     by left (timed octets) =
         ap (λ p. timed_arrival s.network e.device e.link p octets (last_taken_by k.node))
-        (same_standpoint s (hs ++ coming) e.device now k.node (moment_of s e.device now) left (record { time = refl; reading = refl }))
+        (same_standpoint (moment_of s e.device now) left (record { time = refl; reading = refl }))
         ∙ timed_by s e.device e.link (standpoint s (hs ++ coming) e.device now) octets (last_taken_by k.node)
         (last_taken (hs ++ coming) e.device now e.link e.cause)
         (taken_last s (hs ++ coming) e.device now e.link e.cause k.node k.taken
@@ -114,9 +114,10 @@ kept_judges {stands} {s} {hs} {coming} {now} {e} signal a k =
 
 -- ---- and as those say that leave none before its place
 
-place_sooner : (now t r k : ℕ) (device other link by cause from : ℕ) → t ≡ now → device ≡ other → k ≤ r → (by < link) ⊎ ((by ≡ link) × (from < cause))
+place_sooner : {now t : ℕ} (r k : ℕ) (device other link by cause from : ℕ) → t ≡ now → device ≡ other → k ≤ r
+    → (by < link) ⊎ ((by ≡ link) × (from < cause))
     → IsBefore (t ∷ k ∷ other ∷ by ∷ from ∷ []) (now ∷ r ∷ device ∷ link ∷ cause ∷ [])
-place_sooner now t r k device other link by cause from at same le before = grind (arith, cases_lt)
+place_sooner r k device other link by cause from at same le before = grind (arith, cases_lt)
 
 -- a taking of the device by what is left would stand before it
 at_least_low : (b : Bool) (r : ℕ) → (if b then 12 else 11) ≤ r → 11 ≤ r
@@ -138,11 +139,11 @@ apart {s} {now} {e} a z i r none high (notes.Accepted other by from of_vl cycle)
       | inr other_one ↦ other_one
       | inl same ↦
           let one : e.device ≡ other = rw (eqb-true e.device.0 other.0 same) in
-          let sooner = coming_sooner a z i other by from
+          let sooner = coming_sooner a z i by from
           (λ js w o. rw is at o) one in
           let low = at_least_low (is_end s.network e.device) r high in
-          absurd (none (rw is (place_sooner now (time_of z) r 11 e.device.0 other.0 e.link.0 by.0 e.cause from
-          (a.moving.are.of_now z i) (rw one) low
+          absurd (none (rw is (place_sooner r 11 e.device.0 other.0 e.link.0 by.0 e.cause from (a.moving.are.of_now z i)
+          (rw one) low
           sooner)))
     ]
 apart {s} {hs} {coming} {now} {e} a z i r none high (notes.Delivered other by from of_vl cycle) is =
@@ -150,7 +151,7 @@ apart {s} {hs} {coming} {now} {e} a z i r none high (notes.Delivered other by fr
       | inr other_one ↦ other_one
       | inl same ↦
           let one : e.device ≡ other = rw (eqb-true e.device.0 other.0 same) in
-          let sooner = coming_sooner a z i other by from
+          let sooner = coming_sooner a z i by from
           (λ js w o. rw is at o) one in
           let split = parted z coming i in
           let due = (a.moving.are.founded split.0 split.1 z split.2).1 in
@@ -159,8 +160,8 @@ apart {s} {hs} {coming} {now} {e} a z i r none high (notes.Delivered other by fr
           let end : is_end s.network e.device ≡ true = ap (is_end s.network) one ∙ delivered_end s (hs ++ split.0) other (time_of z) by from of_vl cycle caused
           in
           let low : 12 ≤ r = rw end at high in
-          absurd (none (rw is (place_sooner now (time_of z) r 12 e.device.0 other.0 e.link.0 by.0 e.cause from
-          (a.moving.are.of_now z i) (rw one) low
+          absurd (none (rw is (place_sooner r 12 e.device.0 other.0 e.link.0 by.0 e.cause from (a.moving.are.of_now z i)
+          (rw one) low
           sooner)))
     ]
 apart a z i r none high other is = tt

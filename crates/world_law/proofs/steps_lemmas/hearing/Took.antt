@@ -1,19 +1,20 @@
 -- A device that took a frame has the tasks that it had, and such as are for later readings.
-use Rattle.{run_law.specs.machines.Answers.with_taken, world_law.proofs.steps_lemmas.Words.{reading_for, refl, sending, true, value_of, ℕ}}
+use Rattle.{run_law.specs.machines.Answers.with_taken, world_law.proofs.steps_lemmas.Words.{reading_for, refl, sending, value_of, ℕ}}
 use Rattle.{run_law.specs.machines.Nodes.{last_taken_frame, local_at}, tte_units.proofs.general_lemmas.{Integers.ahead_yet, Lists.{last_kept, last_pushed}}}
 use Rattle.world_law.proofs.steps_lemmas.Words.{◌<ℤ◌, ◌==◌, ◌≡◌, ◌≤ℤ◌, ◌⊎◌, Bool, ClockTask, DeviceId, Happening, HasDoneFrom, HasSentFrom, IsDeedOf}
 use Rattle.world_law.proofs.steps_lemmas.Words.{IsLeft, IsPending, IsReadyAt, IsSteady, IsUndone, IsWaiting, List, Moment, Network, Node, Scenario}
 use Rattle.world_law.proofs.steps_lemmas.Words.{Some, Task, VlId, amount, arith, arriving, called, cases_Bool, correcting, dispatching}
-use Rattle.world_law.proofs.steps_lemmas.Words.{doing, emitting, false, filter, filter-append, if◌then◌else◌, inl, inr, ints, last_or, moment_of, pos}
+use Rattle.world_law.proofs.steps_lemmas.Words.{doing, emitting, filter, filter-append, if◌then◌else◌, inl, inr, ints, last_or, moment_of, pos}
 
 -- the device that took a frame by the call
 abbrev pub took : Moment → VlId → ℕ → Node → Node
 took moment vl cycle node = called moment arriving (with_taken node moment vl cycle)
 
 -- the frame that it took last of a virtual link is that one, or the one before
-last_took : (node : Node) (moment : Moment) (vl own : VlId) (cycle : ℕ) (b : Bool) → (vl.0 == own.0) ≡ b → last_taken_frame (took moment vl cycle node) own
+last_took : (node : Node) (moment : Moment) (vl own : VlId) (cycle : ℕ) {b : Bool} → (vl.0 == own.0) ≡ b
+    → last_taken_frame (took moment vl cycle node) own
     ≡ (if b then Some (record { vl = vl; cycle = cycle; at = local_at node moment }) else last_taken_frame node own)
-last_took node moment vl own cycle b e = grind (arith, last_or, filter-append, filter, last_pushed, last_kept)
+last_took node moment vl own cycle e = grind (arith, last_or, filter-append, filter, last_pushed, last_kept)
 
 -- a deed of it was one before, or is for a later reading
 was_deed : (network : Network) (device : DeviceId) (node : Node) (moment : Moment) (vl : VlId) (cycle : ℕ) (deed : ClockTask)
@@ -25,10 +26,10 @@ was_deed network device node moment vl cycle (dispatching row number) own =
       | inl sender ↦ inl (own.0, record { entry = own.1.entry; is = own.1.is; leaves = own.1.leaves; occurs = own.1.occurs; has = inl sender })
       | inr taken ↦ elim (cases_Bool (vl.0 == own.1.entry.row.vl.0)) [
         | inl of_it ↦
-            let last = rw (last_took node moment vl own.1.entry.row.vl cycle true of_it) at taken.1.last in
+            let last = rw (last_took node moment vl own.1.entry.row.vl cycle of_it) at taken.1.last in
             inr (ahead_yet moment.reading.0 node.standing.adjustment.0 (local_at node moment) (value_of network (dispatching row number)) refl last.1)
         | inr other ↦
-            let last = rw (last_took node moment vl own.1.entry.row.vl cycle false other) at taken.1.last in
+            let last = rw (last_took node moment vl own.1.entry.row.vl cycle other) at taken.1.last in
             inl (
               own.0,
               record {
@@ -63,7 +64,7 @@ same_reading : (network : Network) (node : Node) (moment : Moment) (vl : VlId) (
 same_reading network node moment vl cycle (emitting sent) = refl
 same_reading network node moment vl cycle (doing deed) = refl
 
-module _ (s : Scenario) (now : ℕ) (device : DeviceId) (node : Node) (vl : VlId) (cycle : ℕ) where
+module _ (s : Scenario) (now : ℕ) {device : DeviceId} {node : Node} (vl : VlId) (cycle : ℕ) where
   -- it is ready at the instant
   pub ready_took : IsSteady (s.reading device) (amount s.network.precision) → pos 0 ≤ℤ s.network.precision.0
       → IsReadyAt (s.reading device) s.network device node now

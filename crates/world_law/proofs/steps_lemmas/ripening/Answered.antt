@@ -77,7 +77,7 @@ pub hears_now : {M : Type 0} {stands : M → Network → DeviceId → Node → T
     (r : IsRipe s hs coming now e) (k : IsKept stands s hs coming (now ∷ 3 ∷ ripe_more e) now e.device machine)
     → Hears s hs e.device now k.node
 hears_now {stands} {s} {hs} {coming} {e} {machine} r k =
-    let yet = is_yet stands machine r k in
+    let yet = is_yet r k in
     elim yet.stands [
       | inl here ↦ hears_before r (rw here at k.left) (k.still here)
       | inr over ↦ hears_told over.1 (rw over.0 at k.left)
@@ -90,15 +90,15 @@ pub record IsAsked (s : Scenario) (hs : List Happening) (now : ℕ) (e : Waiting
   pub hearing : IsHearing s.network e.device node
   pub ripens : MayRipen s.network e.device node (moment_of s e.device now) e.link e.frame e.point
 
-module _ {M : Type 0} (stands : M → Network → DeviceId → Node → Type 0) (s : Scenario) (hs coming : List Happening)
-    (now : ℕ) (e : Waiting) (machine : M) where
+module _ {M : Type 0} {stands : M → Network → DeviceId → Node → Type 0} {s : Scenario} {hs coming : List Happening}
+    {now : ℕ} {e : Waiting} {machine : M} where
   pub may_be_asked : (r : IsRipe s hs coming now e)
       (k : IsKept stands s hs coming (now ∷ 3 ∷ ripe_more e) now e.device machine)
       → (IsParentOf s.network e.device e.link → IsOfMaster s.network e.device e.link e.frame.members)
       → IsAsked s hs now e k.node
   may_be_asked r k master =
       let device = e.device in
-      let yet = is_yet stands machine r k in
+      let yet = is_yet r k in
       let hears = hears_now r k in
       let c = come_of s hs e r.it r.run.founded in
       let sound = sound_of r.it c in
@@ -124,21 +124,21 @@ module _ {M : Type 0} (stands : M → Network → DeviceId → Node → Type 0) 
       let call = may_call ripening (ripe_more e) k r.steady r.limit (never_self (now ∷ 3 ∷ ripe_more e)) in
       let points : (p : Point) → IsIn p k.node.points → p.reading ≤ℤ e.point.0 =
       λ p i. elim (cases_Bool (is_cm s.network device)) [
-        | inl cm ↦ points_no_later s hs coming now r (all_late r.moving r.run.within) p
+        | inl cm ↦ points_no_later r (all_late r.moving r.run.within) p
             (rw (k.left.points cm) at i)
         | inr other ↦ absurd (rw (k.bare other).0 at i)
       ] in
       let emitted : (x : Compressed) → Contains k.node.emitted x → x.at.0 ≤ℤ e.point.0 =
       λ x there. elim (cases_Bool (is_cm s.network device)) [
         | inl cm ↦ elim yet.stands [
-          | inl here ↦ emitted_no_later s hs coming now r
-              (rw here at (rests_yet stands machine r k).sent) x there
+          | inl here ↦ emitted_no_later r
+              (rw here at (rests_yet r k).sent) x there
           | inr over ↦ absurd (both_ways (is_cm s.network device) over.1.just.other cm)
         ]
         | inr other ↦ absurd (Rattle.compression.proofs.Elements.in_none x
             (rw (k.bare other).1 at there))
       ] in
-      record { hears = hears; call = call; hearing = hearing; ripens = may_ripen s hs coming now r k.ready master points emitted }
+      record { hears = hears; call = call; hearing = hearing; ripens = may_ripen r k.ready master points emitted }
 
   pub answered : (after : M) (result : Ripe) (r : IsRipe s hs coming now e)
       (k : IsKept stands s hs coming (now ∷ 3 ∷ ripe_more e) now e.device machine)
@@ -165,7 +165,7 @@ pub high_now : {s : Scenario} {hs coming : List Happening} {now : ℕ} {e : Wait
     → IsRipe s hs coming now e → (z : Happening) → IsIn z coming
     → (time_of z ≡ now) × (4 ≤ rank z.note.body)
 high_now {s} {hs} {coming} {now} r z i =
-    (r.moving.are.of_now z i, all_high s hs coming now r z i)
+    (r.moving.are.of_now z i, all_high r z i)
 
 -- ---- the frame is collected, or heard
 
@@ -180,8 +180,8 @@ pub quiet_kept : {M : Type 0} {stands : M → Network → DeviceId → Node → 
 quiet_kept {s} {hs} [] back {now} {e} {after} w verdict r k a role body of_frame at place before =
     kept_next after
     (after_permanence k.node (moment_of s e.device now) (channel_of_link s.network e.link) e.frame e.point (ripe_as verdict)) r k a.is
-    (carried_by_role s hs back now e k.node verdict r role (λ cm q i.
-    points_no_later s hs back now r (all_late r.moving r.run.within) q
+    (carried_by_role k.node verdict r role (λ cm q i.
+    points_no_later r (all_late r.moving r.run.within) q
     (rw (k.left.points cm) at i)))
     (next_by_role w verdict r k a.hears role body of_frame at)
 quiet_kept (f ∷ front) back w verdict r k a role body of_frame at place before =

@@ -31,8 +31,9 @@ may_ask reading stands s world notes e old i reached first =
         there = held.1;
         node = k.node;
         is = k.is;
-        asked = may_be_asked stands s hs world.settled world.now e held.0 r k (λ parent.
-            of_master s hs it.arrival e.device e.link it.awaited.from it.awaited.clock e.frame old.range old.rules old.befallen.sent old.run.founded
+        asked = may_be_asked r k (λ parent.
+            of_master s hs it.arrival e.device e.link it.awaited.from it.awaited.clock old.range old.rules
+            old.befallen.sent old.run.founded
             (numbered_in hs e.cause it.arrival it.there) it.awaited.arrived it.awaited.of_frame parent);
       }
     ]

@@ -167,8 +167,8 @@ module _ (network : Network) (device : DeviceId) (node : Node) (moment : Moment)
   points_not other r = absurd r
 
 pub is_grown : (s : Scenario) (device : DeviceId) (node : Node) (moment : Moment) (phase : Phase) (w : Happening) (link : LinkId) (cause : ℕ) (point : Units)
-    (frame : Pcf)
+    {frame : Pcf}
     (verdict : Judgement) → w.frame ≡ Some frame → w.note.body ≡ kinds.Permanent device link cause point verdict → IsByRole (is_cm s.network device) verdict
     → IsGrown s device w node (called moment phase (after_permanence node moment (channel_of_link s.network link) frame point (ripe_as verdict)))
-is_grown s device node moment phase w link cause point frame verdict of_frame body role =
+is_grown s device node moment phase w link cause point verdict of_frame body role =
     grind (arith, option_to_list, hearing_by, point_by, called, after_permanence, channel_of_link, ripe_as, is_cm, append-nil, heard_so, point_so)

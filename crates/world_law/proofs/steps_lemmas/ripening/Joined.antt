@@ -33,8 +33,8 @@ at_join : {B : Type 0} (f : B → Happening → B) (z : B) (hs zs : List Happeni
     → fold f z (hs ++ w ∷ zs) ≡ f (fold f z hs) w
 at_join f z hs zs w same = ap (fold f z) (sym (append_assoc hs (w ∷ []) zs)) ∙ fold_rest f z (hs ++ w ∷ []) zs same ∙ fold-append f z hs (w ∷ [])
 
-module _ (s : Scenario) (hs zs : List Happening) (device : DeviceId) (now : ℕ) (w : Happening) (link : LinkId)
-    (cause : ℕ) (point : Units) (frame : Pcf) where
+module _ {s : Scenario} {hs zs : List Happening} {device : DeviceId} {now : ℕ} {w : Happening} {link : LinkId}
+    {cause : ℕ} {point : Units} {frame : Pcf} where
   pub joined_changes : IsJoin s hs zs device now w link cause point frame
       → changed_at (hs ++ w ∷ zs) device (now + 1) ≡ now
   joined_changes j =
@@ -141,7 +141,7 @@ kept_joined {s} {hs} {zs} {now} {e} after {w} r k is other precise looking j tim
     let here = now ∷ 3 ∷ ripe_more e in
     let sound = k.left.counted.broken
     ∙ same_breaks k.up (elim k.acted [ inl yet ↦ inl yet.0 | inr over ↦ inr over.0 ]) in
-    let changed = joined_changes s hs zs device now w e.link e.cause e.point e.frame j in
+    let changed = joined_changes j in
     let at = j.at in
     let same : earlier now (hs ++ w ∷ zs) ≡ earlier now hs = grind (arith, earlier_still, time_of) in
     let off = not_on_after (now + 1) device r.befallen (omega arith) in
@@ -156,7 +156,7 @@ kept_joined {s} {hs} {zs} {now} {e} after {w} r k is other precise looking j tim
             looking = rw same looking;
             other = other;
           }));
-      left = left_joined s hs zs device now w e.link e.cause e.point e.frame k.node moment ripening j refl k.left.counted.plan sound off other;
+      left = left_joined k.node moment ripening j refl k.left.counted.plan sound off other;
       taken = k.taken ∙ frames;
       worked = record {
         undone = λ deed u x from lt.

@@ -165,10 +165,11 @@ pub last_behind : (xs ys : List Happening) (j : Happening) (o : Option Happening
 last_behind [] ys j o = refl
 last_behind (x ∷ xs) ys j o = last_behind xs ys j (Some x)
 
-last_time : (now : ℕ) (x : Happening) (ys : List Happening) → time_of x ≡ now → ((y : Happening) → IsIn y ys → time_of y ≡ now)
+last_time : {now : ℕ} (x : Happening) (ys : List Happening) → time_of x ≡ now
+    → ((y : Happening) → IsIn y ys → time_of y ≡ now)
     → option_map_or time_of (last_or (Some x) ys) 0 ≡ now
-last_time now x [] at all = at
-last_time now x (y ∷ ys) at all = last_time now y ys (all y (inl refl)) (λ z i. all z (inr i))
+last_time x [] at all = at
+last_time {now} x (y ∷ ys) at all = last_time y ys (all y (inl refl)) (λ z i. all z (inr i))
 
 changed_now : {s : Scenario} {hs coming : List Happening} {now : ℕ} {e : Waiting}
     → IsRipe s hs coming now e → has_joined_at hs e.device now ≡ true
@@ -195,7 +196,7 @@ changed_now {s} {hs} {coming} {now} {e} r joined =
     (joined_changes device j.note.body flags.1) in
     rw lists
     (ap (λ o. option_map_or time_of o 0) (last_behind (filter p at.0) (filter p at.1) j None)
-    ∙ last_time now j (filter p at.1) j_now rest)
+    ∙ last_time j (filter p at.1) j_now rest)
   where
     joined_changes : (device : DeviceId) (body : _) → is_joined_by device body ≡ true → changes_adjustment device body ≡ true
     joined_changes device (Rattle.run_law.specs.declared.note.NoteBody.TheVariants.Corrected other cycle by adjustment) e = absurd cc
@@ -205,15 +206,17 @@ changed_now {s} {hs} {coming} {now} {e} r joined =
 pub not_yet : (a v : ℤ) → (int_lt a v && int_le v a) ≡ false
 not_yet a v = grind (arith, and_right)
 
-none_cleared : (s : Scenario) (hs : List Happening) (device : DeviceId) (now : ℕ) → changed_at hs device (now + 1) ≡ now
+none_cleared : (s : Scenario) (hs : List Happening) (device : DeviceId) {now : ℕ} → changed_at hs device (now + 1) ≡ now
     → has_cleared s hs device (now + 1) (now + 1) ≡ false
-none_cleared s hs device now at =
+none_cleared s hs device at =
     grind (arith, correction_value, recorded_cycle, earlier, adjustment_before, and_right, is_integration_cycle, int_lt, int_le, not_yet)
 
 -- a device that has a next correction point then was told the time
-pub timed_joined : (s : Scenario) (hs : List Happening) (device : DeviceId) (now : ℕ) (state : State) → state ≡ state_at_hearing s hs device now
+pub timed_joined : (s : Scenario) (hs : List Happening) (device : DeviceId) (now : ℕ) {state : State}
+    → state ≡ state_at_hearing s hs device now
     → state_before s hs device now ≡ Integrating → is_timed state ≡ true → has_joined_at hs device now ≡ true
-timed_joined s hs device now state is looking timed = grind (arith, cases_Bool, has_joined_at, both_ways, is_timed, state_before)
+timed_joined s hs device now is looking timed = grind
+    (arith, cases_Bool, has_joined_at, both_ways, is_timed, state_before)
 
 pub cleared_told : {s : Scenario} {hs coming : List Happening} {now : ℕ} {e : Waiting}
     {node : Node} → IsTold s hs coming now e → Hears s hs e.device now node
@@ -223,5 +226,5 @@ cleared_told {s} {hs} {coming} {now} {e} {node} told hears timed =
     let same = earlier_still now hs coming (λ z i. omega arith) in
     let looking =
     sym (rw same) ∙ told.just.looking in
-    none_cleared s (hs ++ coming) e.device now
-    (changed_now r (timed_joined s hs e.device now node.standing.state hears.state looking timed))
+    none_cleared s (hs ++ coming) e.device
+    (changed_now r (timed_joined s hs e.device now hears.state looking timed))

@@ -130,11 +130,11 @@ IsSaid hs device now body =
     × (time_of h ≡ now)
     × (is_joined_by device h.note.body ≡ true)))
 
-said_by : (s : Scenario) (hs front : List Happening) (device : DeviceId) (now : ℕ) (time : Units) (body : NoteBody)
+said_by : (s : Scenario) (hs front : List Happening) (device : DeviceId) {now : ℕ} (time : Units) (body : NoteBody)
     → ((y : Happening) → IsIn y front → IsLateKind y.note.body)
     → ((y : Happening) → IsIn y front → 4 ≤ rank y.note.body) → IsLateKind body → amount time ≡ now → IsCaused s (hs ++ front) time body
     → IsSaid hs device now body
-said_by s hs front device now time (kinds.State other state cause whys.On) late high kind at c =
+said_by s hs front device time (kinds.State other state cause whys.On) late high kind at c =
     elim (cases_Bool (device.0 == other.0)) [
       | inr misses ↦ inl misses
       | inl own ↦
@@ -150,7 +150,7 @@ said_by s hs front device now time (kinds.State other state cause whys.On) late 
             | inr more ↦ let four = high h more in absurd (omega arith)
           ]
     ]
-said_by s hs front device now time (kinds.State other state cause whys.Frame) late high kind at c =
+said_by s hs front device time (kinds.State other state cause whys.Frame) late high kind at c =
     elim (cases_Bool (device.0 == other.0)) [
       | inr misses ↦ inl misses
       | inl own ↦
@@ -171,9 +171,9 @@ said_by s hs front device now time (kinds.State other state cause whys.Frame) la
             | inr more ↦ absurd (both_ways (is_joined_by other h.note.body) (mere_joins other h.note.body (late_mere other h.note.body (late h more))) c.1.2)
           ]
     ]
-said_by s hs front device now time other late high kind at c = inl (grind arith)
+said_by s hs front device time other late high kind at c = inl (grind arith)
 
-module _ (s : Scenario) (hs coming : List Happening) (now : ℕ) where
+module _ {s : Scenario} {hs coming : List Happening} {now : ℕ} where
   high_rank : {more : List ℕ} → IsMoving s hs coming now 3 more
       → ((h : Happening) → IsIn h hs → IsBefore (place_of h) (now ∷ 3 ∷ more)) → (y : Happening) → IsIn y coming
       → 4 ≤ rank y.note.body
@@ -199,7 +199,7 @@ module _ (s : Scenario) (hs coming : List Happening) (now : ℕ) where
       λ y j. rw at.2 (in_left y at.0 (z ∷ at.1) j) in
       let late = all_late r.moving r.run.within in
       let due = (r.moving.are.founded at.0 at.1 z at.2).1 in
-      said_by s hs at.0 e.device now z.note.time z.note.body (λ y j. late y (inside y j))
+      said_by s hs at.0 e.device z.note.time z.note.body (λ y j. late y (inside y j))
       (λ y j. all_high r y (inside y j))
       (late z i)
       (r.moving.are.of_now z i) due.cause
@@ -253,16 +253,18 @@ split_sorted p (z ∷ zs) sorted =
 state_parts : {d e : DeviceId} {s t : State} {c k : ℕ} {w y : Why} → kinds.State d s c w ≡ kinds.State e t k y → (s ≡ t) × (c ≡ k)
 state_parts same = (cc, cc)
 
-place_state : (t m now d n : ℕ) (body : NoteBody) → t ∷ rank body ∷ key m body ≡ now ∷ 7 ∷ d ∷ n ∷ [] → (other : DeviceId) × (state : State) × (cause : ℕ)
+place_state : {t : ℕ} (m : ℕ) {now d n : ℕ} (body : NoteBody) → t ∷ rank body ∷ key m body ≡ now ∷ 7 ∷ d ∷ n ∷ []
+    → (other : DeviceId) × (state : State) × (cause : ℕ)
     × (why : Why)
     × (body ≡ kinds.State other state cause why) × (other.0 ≡ d) × (cause ≡ n)
-place_state t m now d n (kinds.State other state cause why) e = (other, state, cause, why, refl, cc, cc)
-place_state t m now d n other e = absurd (grind arith)
+place_state m (kinds.State other state cause why) e = (other, state, cause, why, refl, cc, cc)
+place_state m other e = absurd (grind arith)
 
 -- of two records of the time, the event has the lower number
-event_first : (s : Scenario) (hs : List Happening) (now n c : ℕ) (j h : Happening) → IsFounded place_of (IsDue s) hs → numbered hs n ≡ Some j
+event_first : (s : Scenario) (hs : List Happening) {now : ℕ} (n c : ℕ) {j h : Happening} → IsFounded place_of (IsDue s)
+    hs → numbered hs n ≡ Some j
     → numbered hs c ≡ Some h → time_of j ≡ now → time_of h ≡ now → rank h.note.body ≡ 1 → 2 ≤ rank j.note.body → c < n
-event_first s hs now n c j h founded at_n at_c j_now h_now one two =
+event_first s hs n c {j} {h} founded at_n at_c j_now h_now one two =
     let split = founded_at s hs j founded (numbered_in hs n j at_n) in
     let number = number_is s hs n j founded at_n in
     let due = split.due.number in
@@ -317,11 +319,11 @@ told_joining {s} {hs} {coming} {now} {e} z told joined =
     let there = m.are.full cut.0 cut.1 y cut.2 cut.3 cut.4 not_marked (due_of s hs cut.0 now body (refl, (j, of_time, flags.1)))
     (now ∷ 2 ∷ [], refl, IsSource.following now n j of_time, m.later) in
     let g = there.0 in
-    let shape = place_state (time_of g) (members_in g) now device.0 n g.note.body there.2 in
+    let shape = place_state (members_in g) g.note.body there.2 in
     let own = eq-eqb device.0 (shape.0).0 (sym shape.5) in
     let at = parted g coming there.1 in
     let sets : (old : State) → state_with device old g.note.body ≡ Joining =
-    λ old. elim (said s hs coming now r g there.1) [
+    λ old. elim (said r g there.1) [
       | inl quiet ↦ absurd (both_ways (stirs device g.note.body) quiet (ap (stirs device) shape.4 ∙ own))
       | inr (inl on) ↦
           let by = on.1 in
@@ -338,7 +340,7 @@ told_joining {s} {hs} {coming} {now} {e} z told joined =
     ] in
     let rest : (h : Happening) → IsIn h at.1 → state_with device Joining h.note.body ≡ Joining = λ h i.
     let inside : IsIn h coming = rw at.2 (in_right h at.0 (g ∷ at.1) (inr i)) in
-    elim (said s hs coming now r h inside) [
+    elim (said r h inside) [
       | inl quiet ↦ was_on device Joining h.note.body quiet
       | inr (inr frame) ↦ ap (state_with device Joining) frame.3 ∙ if_same (device.0 == (frame.0).0) Joining
       | inr (inl on) ↦
@@ -347,7 +349,8 @@ told_joining {s} {hs} {coming} {now} {e} z told joined =
           let whole = at.2 ∙ ap (λ l. at.0 ++ g ∷ l) more.2
           ∙ sym (append_assoc at.0 (g ∷ more.0) (h ∷ more.1)) in
           let before = (m.are.founded (at.0 ++ g ∷ more.0) more.1 h whole).0 g (in_right g at.0 (g ∷ more.0) (inl refl)) in
-          let first = event_first s hs now n by.1 j by.2 r.run.founded at_n by.4 j_now by.5 by.6 (joined_rank device j.note.body flags.1) in
+          let first = event_first s hs n by.1 r.run.founded at_n by.4 j_now by.5 by.6
+          (joined_rank device j.note.body flags.1) in
           let own_h = eqb-true device.0 (by.0).0 (sym (ap (is_turning device) by.3) ∙ on.0) in
           let h_now = m.are.of_now h inside in
           let placed : IsBefore (now ∷ 7 ∷ device.0 ∷ n ∷ []) (now ∷ 7 ∷ (by.0).0 ∷ by.1 ∷ []) =
@@ -379,7 +382,7 @@ module _ {s : Scenario} {hs coming : List Happening} {now : ℕ} {e : Waiting}
       let late = all_late m r.run.within in
       let quiet : (h : Happening) → IsIn h coming → Rattle.world_law.proofs.devices.TurnedOn.IsQuiet device
       h.note.body = λ h i.
-      elim (said s hs coming now r h i) [
+      elim (said r h i) [
         | inl still ↦ inl (late_still device h.note.body (late h i) still)
         | inr (inl on) ↦ inr on.0
         | inr (inr frame) ↦

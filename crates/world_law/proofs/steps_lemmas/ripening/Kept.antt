@@ -28,8 +28,8 @@ pub record IsYet (s : Scenario) (hs coming : List Happening) (now up : ℕ) (e :
 under_act : (now d : ℕ) (more : List ℕ) → IsBefore (now ∷ 3 ∷ more) (now ∷ 4 ∷ d ∷ [])
 under_act now d more = inr (refl, inl (omega arith))
 
-module _ {M : Type 0} (stands : M → Network → DeviceId → Node → Type 0) {s : Scenario} {hs coming : List Happening}
-    {now : ℕ} {e : Waiting} (machine : M) (r : IsRipe s hs coming now e) where
+module _ {M : Type 0} {stands : M → Network → DeviceId → Node → Type 0} {s : Scenario} {hs coming : List Happening}
+    {now : ℕ} {e : Waiting} {machine : M} (r : IsRipe s hs coming now e) where
   pub is_yet : (k : IsKept stands s hs coming (now ∷ 3 ∷ ripe_more e) now e.device machine) → IsYet s hs coming now k.up e
   is_yet k =
       let here = now ∷ 3 ∷ ripe_more e in
@@ -117,8 +117,8 @@ kept_next {stands} {s} {hs} {coming} {coming2} {now} {e} {machine} after base r 
     let more = ripe_more e in
     let new = called (moment_of s e.device now) ripening base in
     let here = now ∷ 3 ∷ more in
-    let yet = is_yet stands machine r k in
-    let rests = rests_yet stands machine r k in
+    let yet = is_yet r k in
+    let rests = rests_yet r k in
     let a = alike_of c.same in
     let soon = in_time r in
     let adjusted : new.standing.adjustment ≡ k.node.standing.adjustment = rw c.same.standing in
@@ -212,7 +212,7 @@ pub next_aside : {s : Scenario} (hs front back : List Happening) (now : ℕ) {up
     → IsNoTaking device w.note.body → IsLeft s (hs ++ (front ++ back)) device up new
     → IsNext s hs (front ++ back) (front ++ w ∷ back) now up device new
 next_aside {s} hs front back now {up} {device} w {new} misses none left = record {
-  left = left_aside s hs front back w device misses up new left;
+  left = left_aside s hs front back w device misses left;
   change = sym (changed_aside s hs front back w device misses up);
   before = before_aside s hs front back w device misses now;
   still = still_aside s hs front back w device now (Rattle.world_law.proofs.devices.Borne.moves_no_other device w.note.body misses);
@@ -257,7 +257,7 @@ with_point_waiting s e node p {sent} at points emitted some no_later w =
           inr (rw w.is (omega (arith, ints)))
     ]
 
-module _ (s : Scenario) (hs coming : List Happening) (now : ℕ) (e : Waiting) where
+module _ {s : Scenario} {hs coming : List Happening} {now : ℕ} {e : Waiting} where
   calc_some : IsRipe s hs coming now e → pos 1 ≤ℤ pos (amount s.network.calc)
   calc_some r = grind (arith, natural, ints)
 
@@ -286,11 +286,12 @@ keep_of false b so = refl
 keep_of true b (inl e) = absurd cc
 keep_of true b (inr e) = sym e
 
-role_still : (cm : Bool) (device : DeviceId) (body : NoteBody) (link : _) (cause : ℕ) (point : Units) (verdict : Judgement)
+role_still : (cm : Bool) (device : DeviceId) {body : NoteBody} (link : _) (cause : ℕ) (point : Units)
+    (verdict : Judgement)
     → body ≡ kinds.Permanent device link cause point verdict
     → IsByRole cm verdict → (is_joined_by device body ≡ false) × (moves device body ≡ false) × (changes_adjustment device body ≡ false)
     × (Rattle.run_law.specs.control.Collections.ends_stretch device body ≡ false)
-role_still cm device body link cause point verdict e role = grind (arith, is_joined_by, moves, changes_adjustment)
+role_still cm device link cause point verdict e role = grind (arith, is_joined_by, moves, changes_adjustment)
 
 pub next_by_role : {M : Type 0} {stands : M → Network → DeviceId → Node → Type 0} {s : Scenario}
     {hs coming : List Happening} {now : ℕ} {e : Waiting} {machine : M} (w : Happening)
@@ -303,9 +304,9 @@ pub next_by_role : {M : Type 0} {stands : M → Network → DeviceId → Node �
     s.network e.link) e.frame e.point (ripe_as verdict)))
 next_by_role {stands} {s} {hs} {coming} {now} {e} {machine} w verdict r k hears role body of_frame at =
     let device = e.device in
-    let yet = is_yet stands machine r k in
+    let yet = is_yet r k in
     let late = all_late r.moving r.run.within in
-    let quiet = role_still (is_cm s.network device) device w.note.body e.link e.cause e.point verdict body role in
+    let quiet = role_still (is_cm s.network device) device e.link e.cause e.point verdict body role in
     let first : IsFirst s coming device k.up w = record {
       mere = λ z i. late_mere device z.note.body (late z i);
       open_ = λ cm z i. elim yet.stands [
@@ -316,7 +317,8 @@ next_by_role {stands} {s} {hs} {coming} {now} {e} {machine} w verdict r k hears 
       still = quiet.1;
       goes_on = quiet.3;
     } in
-    let grown = is_grown s device k.node (moment_of s device now) ripening w e.link e.cause e.point e.frame verdict of_frame body role in
+    let grown = is_grown s device k.node (moment_of s device now) ripening w e.link e.cause e.point verdict of_frame
+    body role in
     let keep : is_timed k.node.standing.state ≡ true
     → (not (has_cleared s (hs ++ coming) device k.up k.up) || has_cleared s (hs ++ coming) device k.up (time_of w)) ≡ true =
     grind (arith, keep_of, yet.stands, has_cleared, cleared_told) in

@@ -30,8 +30,8 @@ record IsOwnDrop (s : Scenario) (js : List Happening) (t : ℕ) (body : NoteBody
   pub becomes : BecomesPermanent s js device t link cause point (ripe.Dropped reason)
   pub at : here ≡ t ∷ 3 ∷ device.0 ∷ amount point ∷ becomes.frame.members.0 ∷ link.0 ∷ cause ∷ []
 
-pub rank_at : (now t k : ℕ) (more ws : List ℕ) → now ∷ 3 ∷ more ≡ t ∷ k ∷ ws → 3 ≡ k
-rank_at now t k more ws e = cc
+pub rank_at : {now t k : ℕ} {more ws : List ℕ} → now ∷ 3 ∷ more ≡ t ∷ k ∷ ws → 3 ≡ k
+rank_at e = cc
 
 kind_at : (s : Scenario) (js : List Happening) (t m now : ℕ) (body : NoteBody) (more : List ℕ) → IsOwnSource s js t m body (now ∷ 3 ∷ more)
     → IsOwnPermanent t m body (now ∷ 3 ∷ more) ⊎ IsOwnDrop s js t body (now ∷ 3 ∷ more)
@@ -73,8 +73,8 @@ one_outcome {s} {hs} {coming} f {now} {e} {node} {point} is {other} r hears so a
 
 -- ---- so its record is at the place
 
-module _ (s : Scenario) (hs coming coming2 : List Happening) (now : ℕ) (e : Waiting)
-    (node : Node) where
+module _ {s : Scenario} {hs coming : List Happening} (coming2 : List Happening) {now : ℕ} {e : Waiting}
+    {node : Node} where
   -- where it is permanent
   pub permanent_all : (w : Happening) (verdict : Judgement) → IsRipe s hs coming now e
       → Hears s hs e.device now node → IsPermanenceOutcomeAt s.network e.device node e.frame e.point
@@ -109,11 +109,12 @@ module _ (s : Scenario) (hs coming coming2 : List Happening) (now : ℕ) (e : Wa
 
 -- ---- no other drop is there yet
 
-place_drop : (t m now d l c : ℕ) (body : NoteBody) → now ∷ 13 ∷ d ∷ l ∷ c ∷ [] ≡ t ∷ rank body ∷ key m body → (other : DeviceId) × (link : LinkId) × (cause : ℕ)
+place_drop : {t : ℕ} (m : ℕ) {now d l c : ℕ} (body : NoteBody) → now ∷ 13 ∷ d ∷ l ∷ c ∷ [] ≡ t ∷ rank body ∷ key m body
+    → (other : DeviceId) × (link : LinkId) × (cause : ℕ)
     × (reason : Reason)
     × (body ≡ kinds.Dropped other link cause reason) × (other.0 ≡ d) × (link.0 ≡ l) × (cause ≡ c)
-place_drop t m now d l c (kinds.Dropped device link cause reason) e = (device, link, cause, reason, refl, cc, cc, cc)
-place_drop t m now d l c other e = absurd (grind arith)
+place_drop m (kinds.Dropped device link cause reason) e = (device, link, cause, reason, refl, cc, cc, cc)
+place_drop m other e = absurd (grind arith)
 
 same_place : {s : Scenario} {js : List Happening} {t : ℕ} {device : DeviceId} {link : LinkId} {cause : ℕ} {a b : Pcf}
     {p q : Units} → IsPermanent s js device t link cause a p → IsPermanent s js device t link cause b q
@@ -126,7 +127,7 @@ pub drop_fresh : {s : Scenario} {hs coming : List Happening} {now : ℕ} {e : Wa
     → IsPermanent s (hs ++ f) e.device now e.link e.cause e.frame e.point) (y : Happening) → IsIn y coming
     → now ∷ 13 ∷ e.device.0 ∷ e.link.0 ∷ e.cause ∷ [] ≡ place_of y → ⊥
 drop_fresh {s} {hs} {coming} {now} {e} r permanent y i at =
-    let of = place_drop (time_of y) (members_in y) now e.device.0 e.link.0 e.cause y.note.body at in
+    let of = place_drop (members_in y) y.note.body at in
     let device : of.0 ≡ e.device = ap (λ n. (record { 0 = n })) of.5 in
     let link : of.1 ≡ e.link = ap (λ n. (record { 0 = n })) of.6 in
     let body =

@@ -178,7 +178,7 @@ frame_is {hs} front {e} r =
     rw (numbered_front hs front e.cause r.it.arrival r.it.there)
     r.it.awaited.of_frame
 
-module _ (s : Scenario) (hs coming : List Happening) (now : ℕ) (e : Waiting) where
+module _ {s : Scenario} {hs coming : List Happening} {now : ℕ} {e : Waiting} where
   few_cause : IsRipe s hs coming now e → e.cause ≤ length hs
   few_cause r = let lt = numbered_within hs e.cause r.it.arrival r.it.there in omega arith
 
@@ -197,9 +197,10 @@ module _ (s : Scenario) (hs coming : List Happening) (now : ℕ) (e : Waiting) w
     correct = r.sound;
   }
 
-here_place : (t now : ℕ) (m : ℕ) (e : Waiting) (verdict : Judgement) (body : NoteBody) → body ≡ kinds.Permanent e.device e.link e.cause e.point verdict
+here_place : (t now : ℕ) {m : ℕ} (e : Waiting) (verdict : Judgement) (body : NoteBody) → body ≡ kinds.Permanent e.device
+    e.link e.cause e.point verdict
     → m ≡ e.frame.members.0 → t ≡ now → t ∷ rank body ∷ key m body ≡ now ∷ 3 ∷ ripe_more e
-here_place t now m e verdict body is members at =
+here_place t now {m} e verdict body is members at =
     rw at (ap (λ b. now ∷ rank b ∷ key m b) is
     ∙ ap (λ n. now ∷ 3 ∷ e.device.0 ∷ amount e.point ∷ n ∷ e.link.0 ∷ e.cause ∷ []) members)
 
@@ -224,8 +225,9 @@ bears_not : (device : DeviceId) (e : Waiting) (verdict : Judgement) (body : Note
     → body ≡ kinds.Permanent e.device e.link e.cause e.point verdict → bears_on device body ≡ false
 bears_not device e verdict body ne is = ap (bears_on device) is ∙ ne_eqb device.0 e.device.0 ne
 
-rank_not : (a b : Happening) (now : ℕ) (more : List ℕ) → place_of a ≡ now ∷ 3 ∷ more → 4 ≤ rank b.note.body → place_of a ≡ place_of b → ⊥
-rank_not a b now more at high same = grind (arith, time_of, rank, key, members_in)
+rank_not : (a b : Happening) {now : ℕ} {more : List ℕ} → place_of a ≡ now ∷ 3 ∷ more → 4 ≤ rank b.note.body → place_of
+    a ≡ place_of b → ⊥
+rank_not a b at high same = grind (arith, time_of, rank, key, members_in)
 
 -- ---- what is common to all outcomes
 
@@ -251,7 +253,7 @@ module _ {C M : Type 0} (reading : C → ℕ → ℕ) (stands : M → Network �
       notes (ripe_place world.now e)
 
   one_behind : {result : Ripe} (x : IsStep reading stands s world notes e machine after result machines waiting)
-      (front back : List Happening) (w : Happening) → world.settled ≡ front ++ back
+      {front back : List Happening} {w : Happening} → world.settled ≡ front ++ back
       → IsOne s (happenings s.network notes) front back world.now 3 (ripe_more e) w
       → IsUnfollowed s (happenings s.network notes) world.now w.note.body
       → IsAllOfIt s (happenings s.network notes) (front ++ w ∷ back) (world.now ∷ 3 ∷ ripe_more e)
@@ -259,7 +261,7 @@ module _ {C M : Type 0} (reading : C → ℕ → ℕ) (stands : M → Network �
       → ((device : DeviceId) → IsNoTaking device w.note.body)
       → IsKept stands s (happenings s.network notes) (front ++ w ∷ back) (behind (world.now ∷ 3 ∷ ripe_more e)) world.now
       e.device after → Behind (front ++ w ∷ back)
-  one_behind x front back w parts one last all misses none kept =
+  one_behind x {front} {back} {w} parts one last all misses none kept =
       let hs = happenings s.network notes in
       let now = world.now in
       let old = x.c.old in
@@ -290,7 +292,7 @@ module _ {C M : Type 0} (reading : C → ℕ → ℕ) (stands : M → Network �
       let old = x.c.old in
       let here = now ∷ 3 ∷ ripe_more e in
       let body = kinds.Permanent e.device e.link e.cause e.point verdict in
-      let shown = one_shown s.network hs now body (few_cause s hs world.settled now e x.r)
+      let shown = one_shown s.network hs now body (few_cause x.r)
       put in
       let front = shown.front in
       let back = shown.back in
@@ -299,14 +301,14 @@ module _ {C M : Type 0} (reading : C → ℕ → ℕ) (stands : M → Network �
       rw shown.parts at x.r in
       let k : IsKept stands s hs (front ++ back) (now ∷ 3 ∷ ripe_more e) now e.device machine =
       rw shown.parts at x.k in
-      let a = answered stands s hs (front ++ back) now e machine after (ripe_as verdict) r k x.master x.has in
+      let a = answered after (ripe_as verdict) r k x.master x.has in
       let kind = outcome_kind s.network e.device k.node.standing.state k.node.standing.adjustment.0 k.node.points e.frame
       e.point.0 (ripe_as verdict) a.outcome in
       let role = role_by (is_cm s.network e.device) verdict kind last in
       let of_frame = frame_is front r in
       let members : members_in w ≡ e.frame.members.0 =
       rw of_frame in
-      let place = here_place now now (members_in w) e verdict body refl members refl in
+      let place = here_place now now e verdict body refl members refl in
       let high = high_now r in
       let under : (z : Happening) → IsIn z front → IsBefore (place_of z) here → ⊥ = λ z i.
       r.moving.are.after z (in_left z front back i) in
@@ -321,12 +323,12 @@ module _ {C M : Type 0} (reading : C → ℕ → ℕ) (stands : M → Network �
         due = due_of s hs front now body becomes;
         before = shown.before;
         none = shown.none;
-        fresh = λ y i same. rank_not w y now (ripe_more e) place (high y (in_right y front back i)).1 same;
-        mine = sym (here_place now now (members_in w) e verdict body refl members refl);
+        fresh = λ y i same. rank_not w y place (high y (in_right y front back i)).1 same;
+        mine = sym (here_place now now e verdict body refl members refl);
         here =
             IsSource.ripening now e.device e.link e.cause e.point
-            (record { frame = e.frame; permanent = permanent_in s hs (front ++ back) now e r front });
-        aside = λ z i device same hears. omega (arith, rank_at _ _ _ _ _ same);
+            (record { frame = e.frame; permanent = permanent_in r front });
+        aside = λ z i device same hears. omega (arith, rank_at same);
       } in
       let after_all : (z : Happening) → IsIn z (front ++ w ∷ back) → IsBefore (place_of z) here → ⊥ = λ z i b.
       elim (placed_high now front back w high z i) [
@@ -334,9 +336,9 @@ module _ {C M : Type 0} (reading : C → ℕ → ℕ) (stands : M → Network �
         | inr h ↦ not_before_high now (ripe_more e) z h.0 h.1 b
       ] in
       subst Behind (sym (done ∙ shown.shows))
-      (one_behind x front back w shown.parts one
+      (one_behind x shown.parts one
       (last_unfollowed s hs now body (last_by e.device e.link e.cause e.point verdict last))
-      (permanent_all s hs (front ++ back) (front ++ w ∷ back) now e k.node w verdict r a.hears a.outcome
+      (permanent_all (front ++ w ∷ back) w verdict r a.hears a.outcome
       after_all w (in_right w front (w ∷ back) (inl refl)) place)
       (λ device ne. bears_not device e verdict body ne refl) (λ device z. refl)
       (quiet_kept front back w verdict r k a role refl of_frame refl place
@@ -354,7 +356,7 @@ module _ {C M : Type 0} (reading : C → ℕ → ℕ) (stands : M → Network �
       let old = x.c.old in
       let here = now ∷ 3 ∷ ripe_more e in
       let body = kinds.Dropped e.device e.link e.cause reason in
-      let shown = one_shown s.network hs now body (few_cause s hs world.settled now e x.r)
+      let shown = one_shown s.network hs now body (few_cause x.r)
       put in
       let front = shown.front in
       let back = shown.back in
@@ -363,7 +365,7 @@ module _ {C M : Type 0} (reading : C → ℕ → ℕ) (stands : M → Network �
       rw shown.parts at x.r in
       let k : IsKept stands s hs (front ++ back) (now ∷ 3 ∷ ripe_more e) now e.device machine =
       rw shown.parts at x.k in
-      let a = answered stands s hs (front ++ back) now e machine after (ripe.Dropped reason) r k x.master
+      let a = answered after (ripe.Dropped reason) r k x.master
       x.has in
       let high = high_now r in
       let under : (z : Happening) → IsIn z front → IsBefore (place_of z) here → ⊥ = λ z i.
@@ -379,12 +381,12 @@ module _ {C M : Type 0} (reading : C → ℕ → ℕ) (stands : M → Network �
         none = shown.none;
         fresh = λ y i same.
             drop_fresh r
-            (λ f. permanent_in s hs (front ++ back) now e r f) y (in_right y front back i) same;
+            (λ f. permanent_in r f) y (in_right y front back i) same;
         mine = inr (inl (e.point, becomes, refl));
         here =
             IsSource.ripening now e.device e.link e.cause e.point
-            (record { frame = e.frame; permanent = permanent_in s hs (front ++ back) now e r front });
-        aside = λ z i device same hears. omega (arith, rank_at _ _ _ _ _ same);
+            (record { frame = e.frame; permanent = permanent_in r front });
+        aside = λ z i device same hears. omega (arith, rank_at same);
       } in
       let after_all : (z : Happening) → IsIn z (front ++ w ∷ back) → IsBefore (place_of z) here → ⊥ = λ z i b.
       elim (placed_high now front back w high z i) [
@@ -393,8 +395,8 @@ module _ {C M : Type 0} (reading : C → ℕ → ℕ) (stands : M → Network �
         | inr h ↦ not_before_high now (ripe_more e) z h.0 h.1 b
       ] in
       subst Behind (sym (done ∙ shown.shows))
-      (one_behind x front back w shown.parts one (last_unfollowed s hs now body refl)
-      (dropped_all s hs (front ++ back) (front ++ w ∷ back) now e k.node reason r a.hears a.outcome after_all w
+      (one_behind x shown.parts one (last_unfollowed s hs now body refl)
+      (dropped_all (front ++ w ∷ back) reason r a.hears a.outcome after_all w
       (in_right w front (w ∷ back) (inl refl)) refl)
       (λ device ne. refl) (λ device z. refl)
       (dropped_kept front back w reason r k a refl (λ z. refl)))
@@ -416,12 +418,12 @@ module _ {C M : Type 0} (reading : C → ℕ → ℕ) (stands : M → Network �
       let n = length hs + 1 in
       let body = kinds.Permanent e.device e.link e.cause e.point judgements.Integrates in
       let v_body = kinds.State e.device Joining n whys.Frame in
-      let few = few_cause s hs world.settled now e r in
+      let few = few_cause r in
       let w = record_of s.network hs [] now body in
       let of_frame = frame_is [] r in
       let members : members_in w ≡ e.frame.members.0 =
       rw of_frame in
-      let place = here_place now now (members_in w) e judgements.Integrates body refl members refl in
+      let place = here_place now now e judgements.Integrates body refl members refl in
       let shown_at : place_of (settled_as s.network hs now body) ≡ here =
       ap place_of (sym (same_record s.network hs [] now body few)) ∙ place in
       let q = two_shown s.network hs now body e.device Joining whys.Frame few (omega arith)
@@ -429,7 +431,7 @@ module _ {C M : Type 0} (reading : C → ℕ → ℕ) (stands : M → Network �
       (causes_given r.moving (omega arith)) put.1
       (rw (length_is s notes) at put.2.1) in
       let v = change_of s.network hs now body q.mid e.device Joining whys.Frame in
-      let a = answered stands s hs world.settled now e machine after ripe.Integrates r k x.master x.has in
+      let a = answered after ripe.Integrates r k x.master x.has in
       let high = high_now r in
       let becomes = becomes_now s hs world.settled [] now e k.node ripe.Integrates r (λ z i. absurd i) a.hears
       a.outcome in
@@ -442,12 +444,12 @@ module _ {C M : Type 0} (reading : C → ℕ → ℕ) (stands : M → Network �
         due = due_of s hs [] now body becomes;
         before = λ z i. absurd i;
         none = q.first;
-        fresh = λ y i same. rank_not w y now (ripe_more e) place (high y i).1 same;
-        mine = sym (here_place now now (members_in w) e judgements.Integrates body refl members refl);
+        fresh = λ y i same. rank_not w y place (high y i).1 same;
+        mine = sym (here_place now now e judgements.Integrates body refl members refl);
         here =
             IsSource.ripening now e.device e.link e.cause e.point
-            (record { frame = e.frame; permanent = permanent_in s hs world.settled now e r [] });
-        aside = λ z i device same hears. omega (arith, rank_at _ _ _ _ _ same);
+            (record { frame = e.frame; permanent = permanent_in r [] });
+        aside = λ z i device same hears. omega (arith, rank_at same);
       } in
       let p : IsPair s 3 (ripe_more e) q = record {
         one = one;
@@ -486,7 +488,7 @@ module _ {C M : Type 0} (reading : C → ℕ → ℕ) (stands : M → Network �
       (ripened_behind waiting x.c r x.set x.without
       (omega arith)
       (two_by p
-      (permanent_all s hs world.settled then_ now e k.node w judgements.Integrates r a.hears a.outcome after_all
+      (permanent_all then_ w judgements.Integrates r a.hears a.outcome after_all
       w (inl refl) place))
       (known_aside hs (w ∷ q.mid) q.back v
       (λ device le. moves_no_other device v_body (stays_out device (far_off device le)))
@@ -514,9 +516,9 @@ module _ {C M : Type 0} (reading : C → ℕ → ℕ) (stands : M → Network �
   by_result (ripe.Dropped reason) settled x put = dropped_step reason settled x put
 
 -- the first frame that waits, to whose point its device's reading has come, is permanent: its records are to come
-pub ripened_step : {C M : Type 0} (reading : C → ℕ → ℕ) (stands : M → Network → DeviceId → Node → Type 0) (s : Scenario)
-    (world : World C M) (notes : List Note) (e : Waiting) (machine after : M) (result : Ripe) (machines : List M)
-    (waiting : List Waiting) (settled : List Happening) (old : Stands reading stands s world notes)
+pub ripened_step : {C M : Type 0} {reading : C → ℕ → ℕ} {stands : M → Network → DeviceId → Node → Type 0} (s : Scenario)
+    {world : World C M} {notes : List Note} (e : Waiting) {machine after : M} (result : Ripe) {machines : List M}
+    (waiting : List Waiting) (settled : List Happening) {old : Stands reading stands s world notes}
     → IsIn e world.waiting → e.point.0 ≤ℤ pos (s.reading e.device world.now)
     → ComesFirst reading stands s world notes old (ripe_place world.now e)
     → slice_get world.machines e.device.0 ≡ Some machine
@@ -528,7 +530,8 @@ pub ripened_step : {C M : Type 0} (reading : C → ℕ → ℕ) (stands : M → 
     → StandsBehind reading stands s
     (record world { early = false; machines = machines; waiting = waiting; settled = settled }) notes
     (ripe_place world.now e)
-ripened_step {C} {M} reading stands s world notes e machine after result machines waiting settled old i reached first at has set without
+ripened_step {C} {M} {reading} {stands} s {world} {notes} e {machine} {after} result {machines} waiting settled {old} i
+    reached first at has set without
     put =
     let hs = happenings s.network notes in
     let it = old.waiting.real e i in
@@ -545,7 +548,7 @@ ripened_step {C} {M} reading stands s world notes e machine after result machine
             r = r;
             k = k;
             master = λ parent.
-                of_master s hs it.arrival e.device e.link it.awaited.from it.awaited.clock e.frame old.range old.rules
+                of_master s hs it.arrival e.device e.link it.awaited.from it.awaited.clock old.range old.rules
                 old.befallen.sent old.run.founded (numbered_in hs e.cause it.arrival it.there) it.awaited.arrived
                 it.awaited.of_frame parent;
             has = has;

@@ -39,19 +39,19 @@ given_low hs {now} more within h i at =
       | inr same ↦ same.1
     ]
 
-not_late : (t now k : ℕ) (ws more w0 : List ℕ) → w0 ≡ t ∷ k ∷ ws → t ≡ now → 3 < k → IsBefore w0 (now ∷ 3 ∷ more) → ⊥
-not_late t now k ws more w0 e at late b = elim (rw e at b) [
+not_late : {t now k : ℕ} (ws more w0 : List ℕ) → w0 ≡ t ∷ k ∷ ws → t ≡ now → 3 < k → IsBefore w0 (now ∷ 3 ∷ more) → ⊥
+not_late ws more w0 e at late b = elim (rw e at b) [
   | inl lt ↦ omega arith
   | inr c ↦ elim c.1 [ inl lt ↦ omega arith | inr d ↦ let same = d.0 in omega arith ]
 ]
 
 module _ (s : Scenario) (hs front : List Happening) where
   -- no correction of the instant is given yet, and none that is to come stands at its source
-  corrected_none : {t : ℕ} (now : ℕ) {cause : ℕ} (cycle : ℕ) (device : DeviceId) (by adjustment : _) {h : Happening}
+  corrected_none : {t : ℕ} {now : ℕ} {cause : ℕ} (cycle : ℕ) (device : DeviceId) (by adjustment : _) {h : Happening}
       → ((h : Happening) → IsIn h hs → time_of h ≡ now → rank h.note.body ≤ 3)
       → ((z : Happening) → IsIn z front → is_at_source z.note.body ≡ false) → t ≡ now
       → IsOfThisTime (hs ++ front) t cause h → h.note.body ≡ kinds.Corrected device cycle by adjustment → ⊥
-  corrected_none now {cause} cycle device by adjustment {h} low off at it body =
+  corrected_none {cause} cycle device by adjustment {h} low off at it body =
       elim (numbered_parts hs front h cause it.there) [
         | inl given ↦
             let six : rank h.note.body ≡ 6 = ap rank body in
@@ -61,23 +61,23 @@ module _ (s : Scenario) (hs front : List Happening) where
       ]
 
   -- each is of such a kind
-  late_kind : (now t members : ℕ) (more : List ℕ) (time : _) (body : NoteBody) (w0 : List ℕ)
+  late_kind : {now t : ℕ} (members : ℕ) (more : List ℕ) (time : _) (body : NoteBody) (w0 : List ℕ)
       → ((h : Happening) → IsIn h hs → time_of h ≡ now → rank h.note.body ≤ 3)
       → ((z : Happening) → IsIn z front → is_at_source z.note.body ≡ false) → is_at_source body ≡ false → t ≡ now
       → amount time ≡ t → IsOwnSource s (hs ++ front) t members body w0 → IsCaused s (hs ++ front) time body
       → IsBefore w0 (now ∷ 3 ∷ more) → IsLateKind body
-  late_kind now t m more time (kinds.Permanent device link cause point verdict) w0 low off here at same own c b =
+  late_kind m more time (kinds.Permanent device link cause point verdict) w0 low off here at same own c b =
       absurd cc
-  late_kind now t m more time (kinds.Compressed device opened at_ cycle of_masters verdict) w0 low off here at same
+  late_kind m more time (kinds.Compressed device opened at_ cycle of_masters verdict) w0 low off here at same
       own c b = absurd cc
-  late_kind now t m more time (kinds.Corrected device cycle by adjustment) w0 low off here at same own c b = absurd cc
-  late_kind now t m more time (kinds.State device state cause whys.Correction) w0 low off here at same own c b =
-      corrected_none now c.2.0 device c.2.1 c.2.2 low off (same ∙ at) c.2.4 c.2.5
-  late_kind now t m more time (kinds.State device state cause whys.SyncClique) w0 low off here at same own c b =
-      not_late t now 6 _ more w0 own.1 at (omega arith) b
-  late_kind now t m more time (kinds.State device state cause whys.AsyncClique) w0 low off here at same own c b =
-      not_late t now 6 _ more w0 own.1 at (omega arith) b
-  late_kind now t m more time other w0 low off here at same own c b = tt
+  late_kind m more time (kinds.Corrected device cycle by adjustment) w0 low off here at same own c b = absurd cc
+  late_kind {now} m more time (kinds.State device state cause whys.Correction) w0 low off here at same own c b =
+      corrected_none c.2.0 device c.2.1 c.2.2 low off (same ∙ at) c.2.4 c.2.5
+  late_kind {now} {t} m more time (kinds.State device state cause whys.SyncClique) w0 low off here at same own c b =
+      not_late _ more w0 own.1 at (omega arith) b
+  late_kind {now} {t} m more time (kinds.State device state cause whys.AsyncClique) w0 low off here at same own c b =
+      not_late _ more w0 own.1 at (omega arith) b
+  late_kind m more time other w0 low off here at same own c b = tt
 
 pub all_late : {s : Scenario} {hs coming : List Happening} {now : ℕ} {more : List ℕ}
     → IsMoving s hs coming now 3 more → ((h : Happening) → IsIn h hs → IsBefore (place_of h) (now ∷ 3 ∷ more))
@@ -86,7 +86,7 @@ all_late {s} {hs} {coming} {now} {more} m within y i =
     let split = parted y coming i in
     let by = m.are.by split.0 split.1 y split.2 in
     let due = (m.are.founded split.0 split.1 y split.2).1 in
-    late_kind s hs split.0 now (time_of y) (members_in y) more y.note.time y.note.body by.0 (given_low hs more within)
+    late_kind s hs split.0 (members_in y) more y.note.time y.note.body by.0 (given_low hs more within)
     (λ z j. off_source m z (rw split.2 (in_left z split.0 (y ∷ split.1) j))) (off_source m y i)
     (m.are.of_now y i) refl by.1 due.cause by.3
 
@@ -137,14 +137,15 @@ sooner_of {hs} {coming} r w h at i = elim (in_parts h hs coming i) [
 pub come_of : (s : Scenario) (hs : List Happening) (e : Waiting) (it : IsWaitingFor s hs e) → Rattle.run_law.specs.runs.Runs.IsFounded place_of (IsDue s) hs
     → HasCome s hs it.arrival e.device e.link it.awaited.from it.awaited.clock e.frame
 come_of s hs e it founded =
-    has_come s hs it.arrival e.device e.link it.awaited.from it.awaited.clock e.frame founded (numbered_in hs e.cause it.arrival it.there) it.awaited.arrived
+    has_come s hs it.arrival e.device e.link it.awaited.from it.awaited.clock founded
+    (numbered_in hs e.cause it.arrival it.there) it.awaited.arrived
     it.awaited.of_frame
 
 pub sound_of : {s : Scenario} {hs : List Happening} {e : Waiting} (it : IsWaitingFor s hs e)
     (c : HasCome s hs it.arrival e.device e.link it.awaited.from it.awaited.clock e.frame)
     → IsSound s.network e.device e.link (standpoint s c.front e.device (time_of it.arrival)) c.so.came e.frame
 sound_of {s} {e} it c =
-    is_sound s.network e.device e.link (standpoint s c.front e.device (time_of it.arrival)) c.so.came e.frame c.so.taken
+    is_sound c.so.taken
 
 -- its point is not before the reading at its arrival
 point_late : (reading clock : ℕ) (dmax point : Units) → point.0 ≡ point_of (pos reading) clock dmax.0 → clock ≤ amount dmax → pos 0 ≤ℤ dmax.0
@@ -245,9 +246,10 @@ module _ {s : Scenario} {hs : List Happening} (frontier : List ℕ) (now : ℕ) 
     not_before = λ x ge lt. below_by later sound x (omega (arith, ints)) (omega (arith, ints));
   }
 
-pub below : (s : Scenario) (hs coming : List Happening) (now : ℕ) (e : Waiting) (r : IsRipe s hs coming now e) (x : ℕ)
+pub below : {s : Scenario} {hs coming : List Happening} {now : ℕ} {e : Waiting} (r : IsRipe s hs coming now e) (x : ℕ)
     → time_of r.it.arrival ≤ x → x < now → pos (s.reading e.device x) <ℤ e.point.0
-below s hs coming now e r x from lt = below_by (now ∷ 3 ∷ ripe_more e) now r.it (λ w source waits b. waits b) r.later r.sound x from lt
+below {now} {e} r x from lt = below_by (now ∷ 3 ∷ ripe_more e) now r.it (λ w source waits b. waits b) r.later r.sound x
+    from lt
 
 module _ {s : Scenario} {hs coming : List Happening} {now : ℕ} {e : Waiting}
     (r : IsRipe s hs coming now e) where
@@ -261,7 +263,7 @@ module _ {s : Scenario} {hs coming : List Happening} {now : ℕ} {e : Waiting}
   not_beyond x lt =
       let t0 = time_of r.it.arrival in
       elim (cases_lt x t0) [
-        | inr from ↦ let under = below s hs coming now e r x from lt in omega (arith, ints)
+        | inr from ↦ let under = below r x from lt in omega (arith, ints)
         | inl sooner ↦
             let fell = r.steady.never_falls x t0 (omega (arith, sooner)) in
             let late = arrived_before r.it r.range r.run.founded in
@@ -276,7 +278,7 @@ module _ {s : Scenario} {hs coming : List Happening} {now : ℕ} {e : Waiting}
       let le = r.past r.it.arrival (numbered_in hs e.cause r.it.arrival r.it.there) in
       elim (cases_lt (time_of r.it.arrival) now) [
         | inl lt ↦
-            let under = below s hs coming now e r (now - 1) (omega arith) (omega arith) in
+            let under = below r (now - 1) (omega arith) (omega arith) in
             let jump = r.steady.no_jump (now - 1) in
             let same : now - 1 + 1 ≡ now = omega arith in
             let jumped : s.reading e.device now < s.reading e.device (now - 1) + amount s.network.precision =
@@ -296,10 +298,10 @@ in_dropped (suc n) [] x i = absurd i
 in_dropped (suc n) (y ∷ xs) x i = inr (in_dropped n xs x i)
 
 -- a point of a permanence
-by_permanence : (device : DeviceId) (h : Happening) (p : Point) (body : NoteBody) → point_by device h body ≡ Some p
+by_permanence : (device : DeviceId) (h : Happening) {p : Point} (body : NoteBody) → point_by device h body ≡ Some p
     → (other : DeviceId) × (link : _) × (cause : ℕ) × (point : Units) × (verdict : _) × (body ≡ kinds.Permanent other link cause point verdict)
     × (device.0 ≡ other.0) × (p.reading ≡ point.0)
-by_permanence device h p (kinds.Permanent other link cause point verdict) e =
+by_permanence device h {p} (kinds.Permanent other link cause point verdict) e =
     elim (cases_Bool (Rattle.std.specs.Prelude.◌==◌ device.0 other.0)) [
       | inl own ↦
           let is =
@@ -313,23 +315,25 @@ by_permanence device h p (kinds.Permanent other link cause point verdict) e =
           (Some (point_at point.0 (master_of (members_in h)) (cycle_in h))) None) misses)
           ∙ e in cc)
     ]
-by_permanence device h p other e = absurd cc
+by_permanence device h other e = absurd cc
 
-no_late_point : (body : NoteBody) (other : DeviceId) (link : _) (cause : ℕ) (point : Units) (verdict : _) → IsLateKind body
+no_late_point : {body : NoteBody} (other : DeviceId) (link : _) (cause : ℕ) (point : Units) (verdict : _) → IsLateKind
+    body
     → body ≡ kinds.Permanent other link cause point verdict → ⊥
-no_late_point body other link cause point verdict late e = subst IsLateKind e late
+no_late_point other link cause point verdict late e = subst IsLateKind e late
 
 less_amount : (a b : Units) → pos 0 ≤ℤ b.0 → amount a ≤ amount b → a.0 ≤ℤ b.0
 less_amount a b some le = grind (arith, unsigned_abs, amount, natural, ints)
 
-points_before : (now a b : ℕ) (xs ys : List ℕ) (d c : ℕ) → d ≡ c → IsBefore (now ∷ 3 ∷ d ∷ a ∷ xs) (now ∷ 3 ∷ c ∷ b ∷ ys) → a ≤ b
-points_before now a b xs ys d c e (inl lt) = absurd (omega arith)
-points_before now a b xs ys d c e (inr (t, inl lt)) = absurd (omega arith)
-points_before now a b xs ys d c e (inr (t, inr (r, inl lt))) = absurd (omega arith)
-points_before now a b xs ys d c e (inr (t, inr (r, inr (same, inl lt)))) = omega arith
-points_before now a b xs ys d c e (inr (t, inr (r, inr (same, inr (eq, more))))) = omega arith
+points_before : (now a b : ℕ) (xs ys : List ℕ) {d c : ℕ} → d ≡ c → IsBefore (now ∷ 3 ∷ d ∷ a ∷ xs)
+    (now ∷ 3 ∷ c ∷ b ∷ ys) → a ≤ b
+points_before now a b xs ys e (inl lt) = absurd (omega arith)
+points_before now a b xs ys e (inr (t, inl lt)) = absurd (omega arith)
+points_before now a b xs ys e (inr (t, inr (r, inl lt))) = absurd (omega arith)
+points_before now a b xs ys e (inr (t, inr (r, inr (same, inl lt)))) = omega arith
+points_before now a b xs ys e (inr (t, inr (r, inr (same, inr (eq, more))))) = omega arith
 
-module _ (s : Scenario) (hs coming : List Happening) (now : ℕ) where
+module _ {s : Scenario} {hs coming : List Happening} {now : ℕ} where
   pub points_no_later : {e : Waiting} (r : IsRipe s hs coming now e)
       → ((z : Happening) → IsIn z coming → IsLateKind z.note.body) → (p : Point)
       → IsIn p (points_of (hs ++ coming) e.device) → p.reading ≤ℤ e.point.0
@@ -337,9 +341,9 @@ module _ (s : Scenario) (hs coming : List Happening) (now : ℕ) where
       let from = given_of (λ h. point_by e.device h h.note.body)
       (after_last (λ h. ends_stretch e.device h.note.body) (hs ++ coming)) p i in
       let h = from.0 in
-      let of = by_permanence e.device h p h.note.body from.2 in
+      let of = by_permanence e.device h h.note.body from.2 in
       elim (in_parts h hs coming (in_dropped _ (hs ++ coming) h from.1)) [
-        | inr more ↦ absurd (no_late_point h.note.body of.0 of.1 of.2 of.3 of.4 (late h more) of.5)
+        | inr more ↦ absurd (no_late_point of.0 of.1 of.2 of.3 of.4 (late h more) of.5)
         | inl given ↦
             let due = (founded_at s hs h r.run.founded given).due in
             let c = rw of.5 at due.cause in
@@ -356,8 +360,7 @@ module _ (s : Scenario) (hs coming : List Happening) (now : ℕ) where
                   (now ∷ 3 ∷ ripe_more e) =
                   grind (arith, key, members_in, of.5, h.note.body) in
                   let amounts = points_before now (amount of.3) (amount e.point) (members_in h ∷ of.1.0 ∷ of.2 ∷ [])
-                  (e.frame.members.0 ∷ e.link.0 ∷ e.cause ∷ [])
-                  of.0.0 e.device.0 (sym of.6) placed in
+                  (e.frame.members.0 ∷ e.link.0 ∷ e.cause ∷ []) (sym of.6) placed in
                   let less = less_amount of.3 e.point (omega (arith, ints)) amounts in
                   omega (arith, ints)
             ]

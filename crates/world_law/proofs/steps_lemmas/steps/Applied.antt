@@ -63,19 +63,28 @@ also_in_order : (number : ℕ) (what : What) (befell : List Befell) → AreInOrd
     → AreInOrder (befell ++ also_befell number what)
 also_in_order number what befell order less = grind (arith, has_outcome, one_more_in_order, append-nil)
 
-untold_apply : {hs : List Happening} {frontier : List ℕ} {now : ℕ} (number line : ℕ) {pending : Bool}
+untold_apply : {hs : List Happening} {frontier : List ℕ} {now : ℕ} {number : ℕ} (line : ℕ) {pending : Bool}
     {befell : List Befell} (ev : Happening) (what : What) → AreUntold hs frontier now pending befell
     → ((p : List ℕ) → IsBefore p frontier → IsBefore p (now ∷ 2 ∷ [])) → number ≡ length hs + 1 → time_of ev ≡ now
     → ev.note.body ≡ kinds.Event line what → AreUntold (hs ++ ev ∷ []) (now ∷ 2 ∷ []) now true
     (befell ++ also_befell number what)
-untold_apply {hs} {now} number line {pending} {befell} ev what untold early number_is at is = record {
+untold_apply {hs} {now} {number} line {pending} {befell} ev what untold early number_is at is = record {
   done = λ told. absurd cc;
   none = λ told. absurd cc;
   waits = λ open_. (number, ev, record { there = numbered_next hs [] ev number number_is; same_time = at });
   early = λ open_ p b. b;
   real = λ e i. elim (in_parts e befell (also_befell number what) i) [
     | inl old ↦ let was =
-        untold.real e old in (was.0, was.1, record { there = numbered_still hs ev was.1 e.number was.2.there; same_time = was.2.same_time }, was.3)
+        untold.real e old in (
+          was.0,
+          was.1,
+          record {
+            there = numbered_still hs ev e.number was.2.there;
+            same_time =
+                was.2.same_time;
+          },
+          was.3,
+        )
     | inr new ↦
         let same = told_once number what e new in (
           line,
@@ -85,7 +94,7 @@ untold_apply {hs} {now} number line {pending} {befell} ev what untold early numb
               ∙ ap (λ w. kinds.Event line w) (sym (rw same)),
         )
   ];
-  all = λ open_ n l w h it body out. elim (numbered_more hs ev h n it.there) [
+  all = λ open_ n l w h it body out. elim (numbered_more hs ev n it.there) [
     | inl there ↦ elim (cases_Bool pending) [
       | inl was ↦ in_left _ befell (also_befell number what) (untold.all was n l w h (record { there = there; same_time = it.same_time }) body out)
       | inr told ↦ absurd (never_self (now ∷ 2 ∷ []) (early (now ∷ 2 ∷ []) (untold.done told n h (record { there = there; same_time = it.same_time }))))
@@ -173,7 +182,7 @@ applied_step {C} {M} reading stands network f g past event world notes clocks ma
     let place = place_of_event past event in
     let here = now ∷ 1 ∷ (length past + 1) ∷ [] in
     let place_is : place ≡ here = rw at in
-    let agree = λ (t : ℕ) (lt : t < now). agree_before network f g past event now t at reads lt in
+    let agree = λ (t : ℕ) (lt : t < now). agree_before network f g past event t at reads lt in
     let befalls : MayBefall network f g past event old.frontier notes = record {
       begun = omega (arith, ints);
       agree = λ t lt. agree t (omega arith);
@@ -225,7 +234,7 @@ applied_step {C} {M} reading stands network f g past event world notes clocks ma
     ] in
     let here_two = under_two now (length past + 1) in
     let two = now ∷ 2 ∷ [] in
-    let due = nothing_due network g past event js now at in
+    let due = nothing_due network g past event js at in
     let on : (p : List ℕ) → IsBefore p (behind here) → IsBefore p two = λ p b. elim (up_to_place p here b) [
       | inl e ↦ rw e here_two
       | inr lt ↦ chain p here two lt here_two
@@ -277,13 +286,11 @@ applied_step {C} {M} reading stands network f g past event world notes clocks ma
           let then_ = been.still device k.0 k.1 in (
             then_.0,
             then_.1,
-            rw empty (rw back at (held_apply stands network f g past event hs old.frontier now (length notes + 1) ev
-                then_.0 applying
+            rw empty (rw back at (held_apply stands then_.0 applying
                 (rw empty at k.2) then_.2 may)),
           );
       early = λ fresh p b. b;
-      untold = rw back at (untold_apply (length notes + 1) (length past + 1) ev event.what old.untold early
-          number at refl);
+      untold = rw back at (untold_apply (length past + 1) ev event.what old.untold early number at refl);
       wires =
           rw back at (wires_apply m none_now old.forward old.wires);
       ports =

@@ -195,9 +195,9 @@ ready_less : {network : Network} (f g : DeviceId → ℕ → ℕ) {device : Devi
     → IsReadyAt (g device) network device new now
 ready_less f g new reads ready last pending = grind (arith, whole, amount, ints, reading_for)
 
-module _ {M : Type 0} (stands : M → Network → DeviceId → Node → Type 0) (network : Network) (f g : DeviceId → ℕ → ℕ)
-    (past : List Event) (event : Event) (hs : List Happening) (frontier : List ℕ) (now number : ℕ)
-    (ev : Happening) where
+module _ {M : Type 0} (stands : M → Network → DeviceId → Node → Type 0) {network : Network} {f g : DeviceId → ℕ → ℕ}
+    {past : List Event} {event : Event} {hs : List Happening} {frontier : List ℕ} {now number : ℕ}
+    {ev : Happening} where
   pub kept_less : {device : DeviceId} {machine : M} (after : M) {new : Node}
       → IsApplying network f g past event hs frontier now number ev
       → (k : IsKept stands (scenario network f past) hs [] frontier now device machine)

@@ -37,9 +37,10 @@ before_others h now (inr (e, inl few)) = inr (e, low_rank h.note.body few)
 before_others h now (inr (e, inr (r, none))) = absurd none
 
 -- the scenarios agree up to each time before
-pub agree_before : (network : Network) (f g : DeviceId → ℕ → ℕ) (past : List Event) (event : Event) (now t : ℕ) → amount event.time ≡ now
+pub agree_before : (network : Network) (f g : DeviceId → ℕ → ℕ) (past : List Event) (event : Event) {now : ℕ} (t : ℕ)
+    → amount event.time ≡ now
     → ((device : DeviceId) (x : ℕ) → x ≤ now → g device x ≡ f device x) → t < now → Agree network f g past (past ++ event ∷ []) t
-agree_before network f g past event now t at reads lt = grind (arith, filter_no, nat_le, amount, lt-leb)
+agree_before network f g past event t at reads lt = grind (arith, filter_no, nat_le, amount, lt-leb)
 
 -- ---- wires
 
@@ -57,7 +58,7 @@ wires_apply {hs} {frontier} {now} {ev} m earlier_all forward are = record {
         | inl lt ↦ (
           record {
             putting = it.putting;
-            there = numbered_still hs ev it.putting e.cause it.there;
+            there = numbered_still hs ev e.cause it.there;
             arrives = arrives_same it.putting e.device e.link e.at e.signal (m.agree (time_of it.putting) lt)
                 (omega arith) it.arrives;
           },
@@ -67,7 +68,7 @@ wires_apply {hs} {frontier} {now} {ev} m earlier_all forward are = record {
         | inr same ↦ absurd (earlier_all e i it same.0)
       ];
   all = λ t device link cause a old_one not.
-      elim (numbered_more hs ev a.putting cause a.there) [
+      elim (numbered_more hs ev cause a.there) [
         | inr new ↦ absurd (old_one refl (sym (ap time_of new.1) ∙ m.ev_at))
         | inl there ↦ elim (m.sooner a.putting (numbered_in hs cause a.putting there)) [
           | inr same ↦ absurd (old_one refl same.0)
@@ -109,7 +110,7 @@ ports_apply {network} {f} {g} {past} {event} {hs} {frontier} {now} {ev} m are = 
             (omega arith) in (
               record {
                 giving = it.giving;
-                there = numbered_still hs ev it.giving e.cause it.there;
+                there = numbered_still hs ev e.cause it.there;
                 gave = record {
                   gives = it.gave.gives;
                   held = it.gave.held ∙ (rw held);
@@ -121,7 +122,7 @@ ports_apply {network} {f} {g} {past} {event} {hs} {frontier} {now} {ev} m are = 
             )
       ];
   all = λ t device link cause d not.
-      elim (numbered_more hs ev d.giving cause d.there) [
+      elim (numbered_more hs ev cause d.there) [
         | inr new ↦ absurd (not_event ev device link (rw new.1 d.gives)
             (subst IsEventBody (sym m.ev_is) tt))
         | inl there ↦ elim (m.sooner d.giving (numbered_in hs cause d.giving there)) [
@@ -165,9 +166,10 @@ permanent_to {n} {f} {g} {events} {more} js {t} {device} a p there =
       correct = sym (broken_same t device a (omega arith)) ∙ p.correct;
     }
 
-no_arrival : (network : Network) (h : Happening) (body : NoteBody) (device : DeviceId) (link : LinkId) (from clock : ℕ) → h.note.body ≡ body
+no_arrival : (network : Network) (h : Happening) {body : NoteBody} (device : DeviceId) (link : LinkId) (from clock : ℕ)
+    → h.note.body ≡ body
     → body ≡ notes.Arrived device link from clock → IsEventBody h.note.body → ⊥
-no_arrival network h body device link from clock e arrived is = subst IsEventBody (e ∙ arrived) is
+no_arrival network h device link from clock e arrived is = subst IsEventBody (e ∙ arrived) is
 
 ripe_early : (now t : ℕ) (e : Waiting) → IsBefore (ripe_place t e) (now ∷ 2 ∷ []) → t < now
 ripe_early now t e (inl lt) = lt
@@ -209,14 +211,15 @@ waiting_apply {network} {f} {g} {past} {event} {hs} {now} {ev} new m are kept =
       real = λ e i.
           let it = are.real e ((kept e).0 i).0 in
           elim (m.sooner it.arrival (numbered_in hs e.cause it.arrival it.there)) [
-            | inr same ↦ absurd (no_arrival network it.arrival it.arrival.note.body e.device e.link it.awaited.from it.awaited.clock refl it.awaited.arrived
+            | inr same ↦ absurd (no_arrival network it.arrival e.device e.link it.awaited.from it.awaited.clock refl
+                it.awaited.arrived
                 same.1)
             | inl lt ↦
                 let a = m.agree (time_of it.arrival) lt in
                 let w = it.awaited in
                 record {
                   arrival = it.arrival;
-                  there = numbered_still hs ev it.arrival e.cause it.there;
+                  there = numbered_still hs ev e.cause it.there;
                   awaited = record {
                     from = w.from;
                     clock = w.clock;
@@ -231,9 +234,8 @@ waiting_apply {network} {f} {g} {past} {event} {hs} {now} {ev} new m are kept =
       later = λ e i t x b.
           let lt = ripe_early now t e b in
           let p = x.permanent in
-          elim (numbered_more hs ev p.arrival e.cause p.there) [
-            | inr fresh ↦ no_arrival network ev p.arrival.note.body e.device e.link p.from p.clock (rw fresh.1)
-                p.arrived
+          elim (numbered_more hs ev e.cause p.there) [
+            | inr fresh ↦ no_arrival network ev e.device e.link p.from p.clock (rw fresh.1) p.arrived
                 (subst IsEventBody (sym m.ev_is) tt)
             | inl there ↦
                 are.later e ((kept e).0 i).0 t
@@ -245,11 +247,12 @@ waiting_apply {network} {f} {g} {past} {event} {hs} {now} {ev} new m are kept =
           ];
       sound = λ e i. ((kept e).0 i).1;
       all = λ e it sound not.
-          elim (numbered_more hs ev it.arrival e.cause it.there) [
-            | inr fresh ↦ absurd (no_arrival network ev it.arrival.note.body e.device e.link it.awaited.from it.awaited.clock
+          elim (numbered_more hs ev e.cause it.there) [
+            | inr fresh ↦ absurd (no_arrival network ev e.device e.link it.awaited.from it.awaited.clock
                 (rw fresh.1) it.awaited.arrived (subst IsEventBody (sym m.ev_is) tt))
             | inl there ↦ elim (m.sooner it.arrival (numbered_in hs e.cause it.arrival there)) [
-              | inr same ↦ absurd (no_arrival network it.arrival it.arrival.note.body e.device e.link it.awaited.from it.awaited.clock refl it.awaited.arrived
+              | inr same ↦ absurd (no_arrival network it.arrival e.device e.link it.awaited.from it.awaited.clock refl
+                  it.awaited.arrived
                   same.1)
               | inl lt ↦
                   let a = m.agree (time_of it.arrival) lt in
@@ -276,7 +279,7 @@ waiting_apply {network} {f} {g} {past} {event} {hs} {now} {ev} new m are kept =
                         not t (record {
                           frame = x.frame;
                           permanent = permanent_to (hs ++ ev ∷ [])
-                              (m.agree t less) x.permanent (numbered_still hs ev x.permanent.arrival e.cause x.permanent.there);
+                              (m.agree t less) x.permanent (numbered_still hs ev e.cause x.permanent.there);
                         }) under),
                     sound,
                   )
@@ -293,22 +296,24 @@ own_event s js t m (notes.Event line what) k ws o few = tt
 own_event s js t m (notes.State d state cause whys.SyncClique) k ws o few = grind arith
 own_event s js t m other k ws o few = grind arith
 
-event_there : (network : Network) (g : DeviceId → ℕ → ℕ) (past : List Event) (event : Event) (js : List Happening) (y : Happening) (now : ℕ)
+event_there : (network : Network) (g : DeviceId → ℕ → ℕ) (past : List Event) (event : Event) (js : List Happening)
+    (y : Happening) {now : ℕ}
     → amount event.time ≡ now → time_of y ≡ now → IsEventBody y.note.body → IsCaused (scenario network g (past ++ event ∷ [])) js y.note.time y.note.body
     → IsBefore (place_of y) (behind (now ∷ 1 ∷ (length past + 1) ∷ []))
-event_there network g past event js y now at y_at is caused =
+event_there network g past event js y at y_at is caused =
     grind (arith, event_cause, scenario, length, pushed, slice_get_within, behind, event_place, cases_lt)
 
-pub nothing_due : (network : Network) (g : DeviceId → ℕ → ℕ) (past : List Event) (event : Event) (js : List Happening) (now : ℕ) → amount event.time ≡ now
+pub nothing_due : (network : Network) (g : DeviceId → ℕ → ℕ) (past : List Event) (event : Event) (js : List Happening)
+    {now : ℕ} → amount event.time ≡ now
     → AreSettled (scenario network g (past ++ event ∷ [])) js [] (behind (now ∷ 1 ∷ (length past + 1) ∷ [])) (now ∷ 2 ∷ []) now
-nothing_due network g past event js now at = none_to_come (λ front y not due worked.
+nothing_due network g past event js {now} at = none_to_come (λ front y not due worked.
     let s = scenario network g (past ++ event ∷ []) in
     let own = own_time s (js ++ front) (time_of y) (members_in y) y.note.body worked.0 worked.1 in
     let here = rw own.2 at worked.1 in
     elim (rw own.2 at worked.3) [
       | inl lt ↦ not (inl lt)
       | inr (e_at, inl few) ↦ not
-          (event_there network g past event (js ++ front) y now at e_at
+          (event_there network g past event (js ++ front) y at e_at
           (own_event s (js ++ front) (time_of y) (members_in y) y.note.body own.0 own.1 here few) due.cause)
       | inr (e_at, inr (r, nothing)) ↦ nothing_before own.1 nothing
     ])

@@ -25,13 +25,14 @@ left_fresh : (network : Network) (f : DeviceId → ℕ → ℕ) (device : Device
     → IsLeft (scenario network f []) [] device t (begun_node network device)
 left_fresh network f device t zero_first = grind (arith, begins_at)
 
-in_time : (r : ℕ) (v a precision : ℤ) → r ≡ 0 → a <ℤ v → pos 0 ≤ℤ precision → pos r <ℤ ((v -ℤ a) +ℤ precision)
-in_time r v a precision e lt le = omega (arith, ints)
+in_time : {r : ℕ} (v a precision : ℤ) → r ≡ 0 → a <ℤ v → pos 0 ≤ℤ precision → pos r <ℤ ((v -ℤ a) +ℤ precision)
+in_time v a precision e lt le = omega (arith, ints)
 
-ahead_time : (r : ℕ) (network : Network) (device : DeviceId) (task : Task) → r ≡ 0 → pos 0 ≤ℤ network.precision.0
+ahead_time : {r : ℕ} (network : Network) (device : DeviceId) (task : Task) → r ≡ 0 → pos 0 ≤ℤ network.precision.0
     → IsPending network device (begun_node network device) task → pos r <ℤ (reading_for network (begun_node network device) task +ℤ network.precision.0)
-ahead_time r network device (doing deed) e le p = in_time r (value_of network deed) _ network.precision.0 e p.1.ahead le
-ahead_time r network device (emitting sent) e le p = absurd (no_cluster (observation_window network) p.1.clusters p.1.cluster p.1.are p.1.there)
+ahead_time {r} network device (doing deed) e le p = in_time (value_of network deed) _ network.precision.0 e p.1.ahead le
+ahead_time network device (emitting sent) e le p = absurd
+    (no_cluster (observation_window network) p.1.clusters p.1.cluster p.1.are p.1.there)
 
 kept_fresh : {M : Type 0} (stands : M → Network → DeviceId → Node → Type 0) (network : Network) (f : DeviceId → ℕ → ℕ) (device : DeviceId) (machine : M)
     → f device 0 ≡ 0 → pos 0 ≤ℤ network.precision.0 → stands machine network device (begun_node network device)
@@ -57,7 +58,7 @@ kept_fresh stands network f device machine zero_first le is = record {
     begun = omega (arith, ints);
     last = ap pos (sym zero_first);
     undone = λ task p x lt. absurd (omega arith);
-    in_time = λ task p. ahead_time (f device 0) network device task zero_first le p;
+    in_time = λ task p. ahead_time network device task zero_first le p;
   };
   still = λ same h i. absurd i;
   turned = λ on. absurd cc;

@@ -42,13 +42,14 @@ nothing_put now network hs body settled (mid, put, last) = from put.front put.ba
     from [] (b ∷ back) was is = absurd cc
     from (f ∷ front) back was is = absurd cc
 
-shown_more : (now shown : ℕ) (device d : DeviceId) → shown ≡ device.0 → IsBefore (clock_place now d) (behind (clock_place now device)) ↔ (d.0 < shown + 1)
-shown_more now shown device d e = grind (arith, up_to_place, clock_place, cases_lt)
+shown_more : (now : ℕ) {shown : ℕ} (device d : DeviceId) → shown ≡ device.0 → IsBefore (clock_place now d)
+    (behind (clock_place now device)) ↔ (d.0 < shown + 1)
+shown_more now device d e = grind (arith, up_to_place, clock_place, cases_lt)
 
 -- the clock of the next device is shown, and its record is to come
-pub clock_step : {C M : Type 0} (reading : C → ℕ → ℕ) (stands : M → Network → DeviceId → Node → Type 0) (s : Scenario)
-    (world : World C M) (notes : List Note) (device : DeviceId) (machine : M) (state : State) (adjustment : Units)
-    (settled : List Happening) (old : Stands reading stands s world notes)
+pub clock_step : {C M : Type 0} {reading : C → ℕ → ℕ} {stands : M → Network → DeviceId → Node → Type 0} (s : Scenario)
+    {world : World C M} {notes : List Note} (device : DeviceId) {machine : M} (state : State) (adjustment : Units)
+    (settled : List Happening) {old : Stands reading stands s world notes}
     → device.0 < length s.network.device → world.ended ≡ true → world.shown ≡ device.0
     → ComesFirst reading stands s world notes old (clock_place world.now device)
     → slice_get world.machines device.0 ≡ Some machine → IsStateOf stands s.network device machine state adjustment
@@ -56,7 +57,8 @@ pub clock_step : {C M : Type 0} (reading : C → ℕ → ℕ) (stands : M → Ne
     (kinds.Clock device (units_of (s.reading device world.now)) adjustment state ∷ []) world.settled settled
     → StandsBehind reading stands s (record world { early = false; settled = settled; shown = world.shown + 1 }) notes
     (clock_place world.now device)
-clock_step {C} {M} reading stands s world notes device machine state adjustment settled old lt ended shown first there stood put =
+clock_step {C} {M} {reading} {stands} s {world} {notes} device {machine} state adjustment settled {old} lt ended shown
+    first there stood put =
     let hs = happenings s.network notes in
     let now = world.now in
     let more = device.0 ∷ [] in
@@ -119,4 +121,4 @@ clock_step {C} {M} reading stands s world notes device machine state adjustment 
     (wires_still c (λ two. omega arith))
     (ports_still c (λ eight. omega arith))
     (waiting_still c (λ three. omega arith))
-    (λ d within over. shown_more now world.shown device d shown))
+    (λ d within over. shown_more now device d shown))

@@ -15,8 +15,8 @@ use Rattle.world_law.proofs.steps_lemmas.steps.Outcomes.{nothing_of_broken, outc
 
 -- ---- the source is first
 
-port_at : (e : AtPort) (now : ℕ) → e.at ≡ now → port_place e ≡ now ∷ 8 ∷ e.device.0 ∷ e.link.0 ∷ e.cause ∷ []
-port_at e now at = rw at
+port_at : (e : AtPort) {now : ℕ} → e.at ≡ now → port_place e ≡ now ∷ 8 ∷ e.device.0 ∷ e.link.0 ∷ e.cause ∷ []
+port_at e at = rw at
 
 module _ {C M : Type 0} (reading : C → ℕ → ℕ) (stands : M → Network → DeviceId → Node → Type 0) (s : Scenario)
     (world : World C M) (notes : List Note) (e : AtPort) where
@@ -24,7 +24,7 @@ module _ {C M : Type 0} (reading : C → ℕ → ℕ) (stands : M → Network �
       → ComesFirst reading stands s world notes old (port_place e)
       → StandsHere reading stands s world notes 8 (e.device.0 ∷ e.link.0 ∷ e.cause ∷ [])
   leaving {old} i at first =
-      comes_first old 8 (e.device.0 ∷ e.link.0 ∷ e.cause ∷ []) (inr (refl, inl (omega arith))) (port_at e world.now at)
+      comes_first old 8 (e.device.0 ∷ e.link.0 ∷ e.cause ∷ []) (inr (refl, inl (omega arith))) (port_at e at)
       (old.ports.real e i).1 first
 
   abbrev hs_of : List Happening
@@ -49,7 +49,7 @@ module _ {C M : Type 0} (reading : C → ℕ → ℕ) (stands : M → Network �
       let more = e.device.0 ∷ e.link.0 ∷ e.cause ∷ [] in
       let c = leaving i at first in
       let less : IsWithout port_place port_here world.ports ports =
-      rw (port_at e world.now at) at without in
+      rw (port_at e at) at without in
       stands_on c world.machines world.shown room are known
       (λ device lt.
       let k = c.devices device lt in (
@@ -72,7 +72,7 @@ module _ {C M : Type 0} (reading : C → ℕ → ℕ) (stands : M → Network �
       (settled_moves c.moving
       (λ front back y whole before none due own. absurd (nothing_of_broken s (hs_of ++ front)
       world.now (time_of y) (members_in y) e
-      y.note.body _ broken refl own y.note.time refl due.cause)))
+      y.note.body {w = _} broken refl own y.note.time refl due.cause)))
       old.known
       (λ device machine k. k))
 
@@ -116,7 +116,7 @@ module _ {C M : Type 0} (reading : C → ℕ → ℕ) (stands : M → Network �
               ∙ sym (append_assoc front split.0 (y ∷ split.1)) in
               let by = moving.are.by (front ++ split.0) split.1 y whole in
               let y_now = moving.are.of_now y (in_right y front back there) in
-              let from = own_there (front ++ split.0) now (members_in w) is it old.run.founded (time_of y)
+              let from = own_there (front ++ split.0) now (members_in w) is it old.run.founded
               (members_in y) y.note.body by.0
               (λ z inside. let z_now = moving.are.of_now z
               (rw whole (in_left z (front ++ split.0) (y ∷ split.1) inside)) in omega arith) same
@@ -131,7 +131,7 @@ module _ {C M : Type 0} (reading : C → ℕ → ℕ) (stands : M → Network �
         late = omega arith;
         idle = idle;
         own = λ zs y y_due y_few y_now own.
-            outcome_at zs now (members_in w) it at sound (time_of y) (members_in y) y.note.body here refl own
+            outcome_at zs (members_in w) it at sound (time_of y) (members_in y) y.note.body {w = here} refl own
             y.note.time refl y_due.cause;
       } in
       let long = put_length front back w in
@@ -148,12 +148,12 @@ module _ {C M : Type 0} (reading : C → ℕ → ℕ) (stands : M → Network �
   ArePutUnless settled broken = ArePutIn s.network hs_of world.now
       (if broken then [] else departure_body e (departure_now s e world.now) ∷ []) world.settled settled
 
-  pub left_step : (ports : List AtPort) (settled : List Happening) (old : Stands reading stands s world notes)
+  pub left_step : (ports : List AtPort) (settled : List Happening) {old : Stands reading stands s world notes}
       → IsIn e world.ports → e.at ≡ world.now → ComesFirst reading stands s world notes old (port_place e)
       → IsWithout port_place (port_place e) world.ports ports
       → ArePutIn s.network hs_of world.now (departure_bodies s e world.now) world.settled settled
       → HasLeft ports settled
-  left_step ports settled old i at first without put =
+  left_step ports settled i at first without put =
       elim (cases_Bool (is_broken s e.device world.now)) [
         | inl broken ↦ cut_off ports settled i at first without broken
             (rw broken at put)

@@ -78,74 +78,77 @@ abbrev ranked : ℕ → List ℕ → List ℕ
 ranked r (a ∷ b ∷ more) = a ∷ r ∷ more
 ranked r other = other
 
-module _ {s : Scenario} {hs : List Happening} (zs : List Happening) (now : ℕ) {e : AtPort} (m : ℕ)
+module _ {s : Scenario} {hs : List Happening} (zs : List Happening) {now : ℕ} {e : AtPort} (m : ℕ)
     (it : IsAtPort s hs e) (at : e.at ≡ now) (sound : is_broken s e.device now ≡ false) (t members : ℕ) where
-  pub outcome_at : (body : NoteBody) (w : List ℕ) → w ≡ now ∷ 8 ∷ e.device.0 ∷ e.link.0 ∷ e.cause ∷ []
+  pub outcome_at : (body : NoteBody) {w : List ℕ} → w ≡ now ∷ 8 ∷ e.device.0 ∷ e.link.0 ∷ e.cause ∷ []
       → IsOwnSource s (hs ++ zs) t members body w → (time : Units) → amount time ≡ t
       → IsCaused s (hs ++ zs) time body → now ∷ rank (departure_body e (departure_now s e now))
       ∷ key m (departure_body e (departure_now s e now)) ≡ t ∷ rank body ∷ key members body
-  outcome_at (kinds.Left device link cause clock) w here o time is c =
+  outcome_at (kinds.Left device link cause clock) here o time is c =
       let p = same_port e now t device link cause (sym here ∙ o) in
       let so = departs_so zs it (departs_now zs now it at sound)
       (moved p (rw is at c)) in
       rw so (sym here ∙ o)
-  outcome_at (kinds.Lost device link cause) w here (inl o) time is c =
+  outcome_at (kinds.Lost device link cause) here (inl o) time is c =
       let p = same_port e now t device link cause (sym here ∙ o.0) in
       let so = departs_so zs it (departs_now zs now it at sound) (moved p o.1) in
       rw so (ap (ranked 9)
       (sym here ∙ o.0))
-  outcome_at (kinds.Dropped device link cause reason) w here (inr (inr o)) time is c =
+  outcome_at (kinds.Dropped device link cause reason) here (inr (inr o)) time is c =
       grind (arith, same_port, departs_so, departs_now, moved, rank, key)
-  outcome_at (kinds.Lost device link cause) w here (inr o) time is c = absurd (grind arith)
-  outcome_at (kinds.Dropped device link cause reason) w here (inl o) time is c = absurd (grind arith)
-  outcome_at (kinds.Dropped device link cause reason) w here (inr (inl o)) time is c = absurd (grind arith)
-  outcome_at (kinds.State device state cause whys.SyncClique) w here o time is c = absurd (grind arith)
-  outcome_at other w here o time is c = absurd (grind arith)
+  outcome_at (kinds.Lost device link cause) here (inr o) time is c = absurd (grind arith)
+  outcome_at (kinds.Dropped device link cause reason) here (inl o) time is c = absurd (grind arith)
+  outcome_at (kinds.Dropped device link cause reason) here (inr (inl o)) time is c = absurd (grind arith)
+  outcome_at (kinds.State device state cause whys.SyncClique) here o time is c = absurd (grind arith)
+  outcome_at other here o time is c = absurd (grind arith)
 
 module _ (s : Scenario) (js : List Happening) (now t members : ℕ) (e : AtPort) where
   -- where the device is broken, nothing comes from it
-  pub nothing_of_broken : (body : NoteBody) (w : List ℕ) → is_broken s e.device now ≡ true
+  pub nothing_of_broken : (body : NoteBody) {w : List ℕ} → is_broken s e.device now ≡ true
       → w ≡ now ∷ 8 ∷ e.device.0 ∷ e.link.0 ∷ e.cause ∷ [] → IsOwnSource s js t members body w → (time : Units)
       → amount time ≡ t → IsCaused s js time body → ⊥
-  nothing_of_broken (kinds.Left device link cause clock) w broken here o time is c = grind (arith, same_port, moved)
-  nothing_of_broken (kinds.Lost device link cause) w broken here (inl o) time is c = grind (arith, same_port, moved)
-  nothing_of_broken (kinds.Dropped device link cause reason) w broken here (inr (inr o)) time is c =
+  nothing_of_broken (kinds.Left device link cause clock) broken here o time is c = grind (arith, same_port, moved)
+  nothing_of_broken (kinds.Lost device link cause) broken here (inl o) time is c = grind (arith, same_port, moved)
+  nothing_of_broken (kinds.Dropped device link cause reason) broken here (inr (inr o)) time is c =
       let d = moved (same_port e now t device link cause (sym here ∙ o.0)) o.1 in
       cc
-  nothing_of_broken (kinds.Lost device link cause) w broken here (inr o) time is c = grind arith
-  nothing_of_broken (kinds.Dropped device link cause reason) w broken here (inl o) time is c = grind arith
-  nothing_of_broken (kinds.Dropped device link cause reason) w broken here (inr (inl o)) time is c = grind arith
-  nothing_of_broken (kinds.State device state cause whys.SyncClique) w broken here o time is c = grind arith
-  nothing_of_broken other w broken here o time is c = grind arith
+  nothing_of_broken (kinds.Lost device link cause) broken here (inr o) time is c = grind arith
+  nothing_of_broken (kinds.Dropped device link cause reason) broken here (inl o) time is c = grind arith
+  nothing_of_broken (kinds.Dropped device link cause reason) broken here (inr (inl o)) time is c = grind arith
+  nothing_of_broken (kinds.State device state cause whys.SyncClique) broken here o time is c = grind arith
+  nothing_of_broken other broken here o time is c = grind arith
 
 -- ---- whatever stands at that place comes from its leaving
 
-no_launch : (s : Scenario) (h : Happening) (t : ℕ) (body : NoteBody) (device : DeviceId) (link : LinkId) (x : Launch) → Gives s.network body device link
+no_launch : (s : Scenario) (h : Happening) (t : ℕ) (body : NoteBody) (device : DeviceId) (link : LinkId) {x : Launch}
+    → Gives s.network body device link
     → launched s h t body ≡ Some x → ⊥
-no_launch s h t (kinds.Sent master cycle) device link x g e = cc
-no_launch s h t (kinds.Compressed cm opened at cycle members verdict) device link x g e = cc
-no_launch s h t (kinds.Arrived relay by cause clock) device link x g e = cc
-no_launch s h t other device link x g e = g
+no_launch s h t (kinds.Sent master cycle) device link g e = cc
+no_launch s h t (kinds.Compressed cm opened at cycle members verdict) device link g e = cc
+no_launch s h t (kinds.Arrived relay by cause clock) device link g e = cc
+no_launch s h t other device link g e = g
 
 not_awaited : (a b : Bool) → a ≡ true → b ≡ true → (not a || not b) ≡ true → ⊥
 not_awaited a b x y e = both_ways _ (rw x (ap not y)) e
 
 -- what a relay waits for it does not give to the link by which that came
-not_both_ways : (s : Scenario) (device : DeviceId) (link : LinkId) (body : NoteBody) (from clock : ℕ) → body ≡ kinds.Arrived device link from clock
+not_both_ways : (s : Scenario) (device : DeviceId) (link : LinkId) {body : NoteBody} (from clock : ℕ)
+    → body ≡ kinds.Arrived device link from clock
     → Gives s.network body device link → waits_for s.network device link ≡ true → ⊥
-not_both_ways s device link body from clock e g waits = grind (arith, not_awaited, is_relay, is_parent_of, parent_true, link_at)
+not_both_ways s device link from clock e g waits = grind
+    (arith, not_awaited, is_relay, is_parent_of, parent_true, link_at)
 
 -- the record by its number is the giving one
 is_giving : {s : Scenario} {hs : List Happening} (zs : List Happening) {e : AtPort} (it : IsAtPort s hs e)
-    (cause : ℕ) (g : Happening) → e.cause ≡ cause → numbered (hs ++ zs) cause ≡ Some g → it.giving ≡ g
-is_giving {hs} zs {e} it cause g same there =
+    {cause : ℕ} {g : Happening} → e.cause ≡ cause → numbered (hs ++ zs) cause ≡ Some g → it.giving ≡ g
+is_giving {hs} zs {e} it {g} same there =
     let le = few_cause it in
     some_same it.giving g _ it.there (sym (numbered_prefix hs zs e.cause le) ∙ ap (numbered (hs ++ zs)) same ∙ there)
 
-gives_it : {s : Scenario} {hs : List Happening} {e : AtPort} (it : IsAtPort s hs e) (g : Happening)
-    (device : DeviceId) (link : LinkId) → it.giving ≡ g → e.device ≡ device → e.link ≡ link
+gives_it : {s : Scenario} {hs : List Happening} {e : AtPort} (it : IsAtPort s hs e) {g : Happening}
+    {device : DeviceId} {link : LinkId} → it.giving ≡ g → e.device ≡ device → e.link ≡ link
     → Gives s.network g.note.body device link
-gives_it it g device link same by on = grind arith
+gives_it it same by on = grind arith
 
 not_dispatched : {s : Scenario} {hs : List Happening} (zs : List Happening) {e : AtPort} (it : IsAtPort s hs e)
     {t : ℕ} {device : DeviceId} {link : LinkId} {cause : ℕ} {vl : _} {cycle : ℕ} → IsFounded place_of (IsDue s) hs
@@ -163,7 +166,7 @@ not_dispatched {s} {hs} zs it {t} {device} {link} founded late by on from d =
                 let at = by_number s hs took.1.taken founded there in
                 let giving = some_same it.giving took.1.taken _ it.there
                 (ap (numbered hs) (from ∙ took.1.number) ∙ at) in
-                rw took.1.is at (gives_it it took.1.taken device link giving by on)
+                rw took.1.is at (gives_it it giving by on)
           ]
     ]
 
@@ -176,7 +179,7 @@ other_kind e on_cut_way k r o = o.1 r
 other_kind e too_old k r o = o.2 r
 
 module _ {s : Scenario} {hs : List Happening} (zs : List Happening) (now m : ℕ) {e : AtPort} (is : Departure)
-    (it : IsAtPort s hs e) (founded : IsFounded place_of (IsDue s) hs) (t members : ℕ) where
+    (it : IsAtPort s hs e) (founded : IsFounded place_of (IsDue s) hs) {t : ℕ} (members : ℕ) where
   pub own_there : (body : NoteBody) (w : List ℕ) → ((z : Happening) → Rattle.run_law.specs.records.Order.IsIn z zs
       → t ≤ time_of z) → now ∷ rank (departure_body e is) ∷ key m (departure_body e is) ≡ t ∷ rank body
       ∷ key members body → IsOwnSource s (hs ++ zs) t members body w
@@ -193,8 +196,8 @@ module _ {s : Scenario} {hs : List Happening} (zs : List Happening) (now m : ℕ
         | inl d ↦ d.0 ∙ sym at
         | inr (inl d) ↦ absurd (not_dispatched zs it founded late p.by p.on p.from d.2)
         | inr (inr l) ↦
-            let giving = is_giving zs it cause l.1.event p.from l.1.is.there in
-            absurd (rw l.1.sends at (gives_it it l.1.event device link giving p.by p.on))
+            let giving = is_giving zs it p.from l.1.is.there in
+            absurd (rw l.1.sends at (gives_it it giving p.by p.on))
       ]
   own_there (kinds.Dropped device link cause reason) w late place o =
       let at : now ∷ 8 ∷ e.device.0 ∷ e.link.0 ∷ e.cause ∷ [] ≡ t ∷ 8 ∷ device.0 ∷ link.0 ∷ cause
@@ -203,13 +206,13 @@ module _ {s : Scenario} {hs : List Happening} (zs : List Happening) (now m : ℕ
       let p = same_port e now t device link cause at in
       elim o [
         | inl a ↦
-            let giving = is_giving zs it cause a.1.putting p.from a.1.there in
-            absurd (no_launch s a.1.putting (time_of a.1.putting) a.1.putting.note.body device link _
-            (gives_it it a.1.putting device link giving p.by p.on) a.1.arrives.put)
+            let giving = is_giving zs it p.from a.1.there in
+            absurd (no_launch s a.1.putting (time_of a.1.putting) a.1.putting.note.body device link
+            (gives_it it giving p.by p.on) a.1.arrives.put)
         | inr (inl r) ↦
             let x = r.1.permanent in
-            absurd (not_both_ways s device link x.arrival.note.body x.from x.clock x.arrived
-            (gives_it it x.arrival device link (is_giving zs it cause x.arrival p.from x.there) p.by p.on) x.waits)
+            absurd (not_both_ways s device link x.from x.clock x.arrived
+            (gives_it it (is_giving zs it p.from x.there) p.by p.on) x.waits)
         | inr (inr d) ↦ d.0 ∙ sym at
       ]
   own_there other w late place o = absurd (grind (arith, other_kind, second))

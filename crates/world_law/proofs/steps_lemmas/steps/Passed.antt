@@ -154,8 +154,8 @@ pub no_task : (network : Network) (device : DeviceId) (node : Node) (task : Task
 no_task network device node (emitting sent) broken p = cc
 no_task network device node (doing deed) broken p = cc
 
-module _ {M : Type 0} (stands : M → Network → DeviceId → Node → Type 0) (s : Scenario) (hs : List Happening)
-    (frontier : List ℕ) (now t : ℕ) (device : DeviceId) (machine : M) where
+module _ {M : Type 0} (stands : M → Network → DeviceId → Node → Type 0) {s : Scenario} {hs : List Happening}
+    {frontier : List ℕ} {now : ℕ} (t : ℕ) (device : DeviceId) (machine : M) where
   pub device_passes : (k : IsKept stands s hs [] frontier now device machine) → now < t
       → IsSteady (s.reading device) (amount s.network.precision) → pos 0 ≤ℤ s.network.precision.0
       → HaveBefallen s frontier now → IsPast hs now → IsWorked hs frontier now
@@ -164,7 +164,7 @@ module _ {M : Type 0} (stands : M → Network → DeviceId → Node → Type 0) 
       → pos (s.reading device x) <ℤ reading_for s.network k.node task)
       → IsKept stands s hs [] (t ∷ []) t device machine
   device_passes k lt steady precise befallen past worked later idle =
-      let rest = at_rest stands s hs frontier now device machine k befallen past worked
+      let rest = at_rest k befallen past worked
       (record { later = later; falls = steady.never_falls }) (λ task p. idle task p now (omega arith) lt) in
       let from = rest.from in
       let le : from ≤ t = omega arith in
@@ -263,7 +263,7 @@ passed_step {C} {M} reading stands s world notes t old settled lt few running no
     let m = old.devices device within in (
       m.0,
       m.1,
-      held_passes stands s (happenings s.network notes) old.frontier world.now t device m.0
+      held_passes stands t device m.0
           (rw settled at m.2) lt
           (old.steady device) old.precise old.befallen
           (are_past old) (old.untold.done told) old.not_later

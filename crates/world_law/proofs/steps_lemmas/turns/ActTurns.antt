@@ -59,7 +59,7 @@ pub act_starts_late : (s : Scenario) (hs : List Happening) (now : ℕ) (device :
     → starts_there bodies ≡ false
 act_starts_late s hs now device was adjustment act bodies are high =
     let low = low_rank act in
-    high_starts bodies (act_there s hs now device was adjustment act bodies are)
+    high_starts (act_there s hs now device was adjustment act bodies are)
     (λ body others whole. let above = high body others whole in omega arith)
 
 -- nothing to come of a higher rank stands before it
@@ -77,8 +77,8 @@ acted_turn reading stands s world notes device after bodies machines old a set =
     let r = rank_of_act a.act in
     let rest = act_rest s.network device a.act in
     let acted = record world { early = false; machines = machines } in
-    rw (act_stands s.network now device a.act) (turn_of old r rest
-    (inr (inr (inr (inr (late_rank a.act, low_rank a.act))))) acted refl
+    rw (act_stands s.network now device a.act) (turn_of old r (inr (inr (inr (inr (late_rank a.act, low_rank a.act)))))
+    acted refl
     (none_above now r rest world.settled old.are.of_now a.apart)
     (act_there s (happenings s.network notes) now device a.was a.adjustment a.act bodies a.are)
-    (λ settled put. acted_step reading stands s world notes device after bodies machines settled old a set put))
+    (λ settled put. acted_step reading stands s settled a set put))

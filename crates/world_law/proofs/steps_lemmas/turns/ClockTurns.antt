@@ -5,8 +5,8 @@ use Rattle.world_law.{proofs.steps_lemmas.{steps.ClockSteps.clock_step, turns.Tu
 pub clock_turn : {C M : Type 0} (reading : C → ℕ → ℕ) (stands : M → Network → DeviceId → Node → Type 0)
     → ClockTurn reading stands
 clock_turn reading stands s world notes device machine state adjustment old lt ended shown first there stood =
-    turn_of old 14 (device.0 ∷ []) (inr (inr (inr (inl refl))))
+    turn_of old 14 {rest = (device.0 ∷ [])} (inr (inr (inr (inl refl))))
     (record world { early = false; shown = world.shown + 1 })
     refl first.after (one_there _ refl refl)
-    (λ settled put. clock_step reading stands s world notes device machine state adjustment settled old lt ended shown
+    (λ settled put. clock_step s device state adjustment settled lt ended shown
     first there stood put)

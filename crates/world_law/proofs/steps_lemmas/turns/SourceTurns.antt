@@ -21,10 +21,10 @@ left_there network hs now e too_old = one_later _ refl
 left_there network hs now e on_cut_way = one_later _ refl
 
 -- of a broken device none does
-left_or_none : {network : Network} {hs : List Happening} {now : ℕ} {at : List ℕ} (body : NoteBody) (broken : Bool)
+left_or_none : {network : Network} {hs : List Happening} {now : ℕ} {at : List ℕ} {body : NoteBody} (broken : Bool)
     → AreThere network hs now at (body ∷ []) → AreThere network hs now at (if broken then [] else body ∷ [])
-left_or_none body true there = AreThere.later [] (λ other i. absurd i)
-left_or_none body false there = there
+left_or_none true there = AreThere.later [] (λ other i. absurd i)
+left_or_none false there = there
 
 pub left_turn : {C M : Type 0} (reading : C → ℕ → ℕ) (stands : M → Network → DeviceId → Node → Type 0)
     → LeftTurn reading stands
@@ -33,11 +33,11 @@ left_turn reading stands s world notes e ports old i at first without =
     let rest = e.device.0 ∷ e.link.0 ∷ e.cause ∷ [] in
     let place : port_place e ≡ now ∷ 8 ∷ rest = rw at in
     let is = departure_now s e now in
-    rw place (turn_of old 8 rest (inr (inr (inl refl))) (record world { ports = ports; early = false }) refl
+    rw place (turn_of old 8 (inr (inr (inl refl))) (record world { ports = ports; early = false }) refl
     (subst (λ q. NoneBefore place_of world.settled q) place first.after)
-    (left_or_none (departure_body e is) (is_broken s e.device now)
+    (left_or_none (is_broken s e.device now)
     (left_there s.network (happenings s.network notes) now e is))
-    (λ settled put. left_step reading stands s world notes e ports settled old i at first without put))
+    (λ settled put. left_step reading stands s world notes e ports settled i at first without put))
 
 -- ---- a frame arrives
 
@@ -58,10 +58,10 @@ heard_turn reading stands s world notes e machine heard octets result machines w
     let place : wire_place e ≡ world.now ∷ 2 ∷ rest = rw at in
     let arrived = record world { early = false; machines = machines; wires = wires } in
     subst (λ q. TurnsBy reading stands s notes (arrival_body e.device e.link e.cause result ∷ []) arrived q) (sym place)
-    (turn_of old 2 rest (inl refl) arrived refl (subst (λ q. NoneBefore place_of world.settled q) place first.after)
+    (turn_of old 2 (inl refl) arrived refl (subst (λ q. NoneBefore place_of world.settled q) place first.after)
     (heard_there_too s.network (happenings s.network notes) world.now e.device e.link e.cause result)
-    (λ settled put. heard_step reading stands s world notes e machine heard octets result machines wires
-    settled old i at
+    (λ settled put. heard_step s e result wires
+    settled i at
     first there octets_of may hears set without put))
 
 -- ---- a frame is permanent
@@ -89,8 +89,8 @@ ripened_turn reading stands s world notes e machine ripe result machines waiting
     let frame : frame_from (happenings s.network notes) e.cause ≡ Some e.frame =
     rw it.there
     it.awaited.of_frame in
-    turn_of old 3 (ripe_more e) (inr (inl refl))
+    turn_of old 3 (inr (inl refl))
     (record world { early = false; machines = machines; waiting = waiting }) refl first.after
     (ripe_there s.network (happenings s.network notes) world.now (length notes + 1) e frame result)
-    (λ settled put. ripened_step reading stands s world notes e machine ripe result machines waiting settled old i
+    (λ settled put. ripened_step s e result waiting settled i
     reached first there has set without put)

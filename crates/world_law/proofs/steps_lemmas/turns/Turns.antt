@@ -55,9 +55,9 @@ abbrev pub IsTurnRank : ℕ → Type 0
 IsTurnRank r = (2 ≡ r) ⊎ ((3 ≡ r) ⊎ ((8 ≡ r) ⊎ ((14 ≡ r) ⊎ ((4 ≤ r) × (r ≤ 6)))))
 
 -- what does not stand at its source does not stand where one does
-late_apart : (z : Happening) (now r : ℕ) (more : List ℕ) → IsTurnRank r → is_at_source z.note.body ≡ false
+late_apart : (z : Happening) {now r : ℕ} {more : List ℕ} → IsTurnRank r → is_at_source z.note.body ≡ false
     → place_of z ≡ now ∷ r ∷ more → ⊥
-late_apart z now r more kind late at =
+late_apart z {r} kind late at =
     let same : rank z.note.body ≡ r = ap second at in
     elim (source_kinds z.note.body) [
       | inl is ↦ both_ways _ late is
@@ -111,11 +111,11 @@ module _ {network : Network} {hs : List Happening} {now : ℕ} {at : List ℕ} w
   there_of body others is (AreThere.later bodies late) =
       absurd (both_ways _ (late body (inl refl)) is)
 
-  late_each : (bodies : List NoteBody) → starts_there bodies ≡ false → AreThere network hs now at bodies
+  late_each : {bodies : List NoteBody} → starts_there bodies ≡ false → AreThere network hs now at bodies
       → (body : NoteBody) → IsIn body bodies → is_at_source body ≡ false
-  late_each bodies none (AreThere.first x more own place behind_it) body i =
+  late_each none (AreThere.first x more own place behind_it) body i =
       absurd (both_ways _ none own)
-  late_each bodies none (AreThere.later all late) body i = late body i
+  late_each none (AreThere.later all late) body i = late body i
 
 none_starts : (bodies : List NoteBody) → ((body : NoteBody) → IsIn body bodies → is_at_source body ≡ false)
     → starts_there bodies ≡ false
@@ -123,15 +123,15 @@ none_starts [] late = refl
 none_starts (body ∷ bodies) late = late body (inl refl)
 
 -- where the first of them is of a higher rank, none stands where the source does
-pub high_starts : {network : Network} {hs : List Happening} {now r : ℕ} {rest : List ℕ} (bodies : List NoteBody)
+pub high_starts : {network : Network} {hs : List Happening} {now r : ℕ} {rest : List ℕ} {bodies : List NoteBody}
     → AreThere network hs now (now ∷ r ∷ rest) bodies
     → ((body : NoteBody) (others : List NoteBody) → bodies ≡ body ∷ others → r < rank body)
     → starts_there bodies ≡ false
-high_starts {r} bodies (AreThere.first x more own place behind_it) high =
+high_starts {r} (AreThere.first x more own place behind_it) high =
     let same : rank x ≡ r = ap second place in
     let above = high x more refl in
     absurd (omega arith)
-high_starts bodies (AreThere.later all late) high = none_starts all late
+high_starts (AreThere.later all late) high = none_starts all late
 
 -- the source is worked off: the world stands with its records to come
 abbrev IsStepOf : {C M : Type 0} → (C → ℕ → ℕ) → (M → Network → DeviceId → Node → Type 0) → Scenario → List Note
@@ -141,11 +141,11 @@ IsStepOf reading stands s notes bodies mid coming at =
     → StandsBehind reading stands s (record mid { settled = settled }) notes at
 
 -- a record that stands where the source does is put in before all that is to come
-put_first : (network : Network) (hs : List Happening) (now : ℕ) {at : List ℕ} {bodies : List NoteBody} (body : NoteBody)
-    (others : List NoteBody) (coming settled : List Happening) → bodies ≡ body ∷ others → is_at_source body ≡ true
+put_first : {network : Network} {hs : List Happening} {now : ℕ} {at : List ℕ} {bodies : List NoteBody} {body : NoteBody}
+    {others : List NoteBody} (coming settled : List Happening) → bodies ≡ body ∷ others → is_at_source body ≡ true
     → NoneBefore place_of coming at → AreThere network hs now at bodies → ArePutIn network hs now others coming settled
     → ArePutIn network hs now bodies coming (settled_as network hs now body ∷ settled)
-put_first network hs now {at} body others coming settled is own none there put =
+put_first {network} {hs} {now} {at} {body} {others} coming settled is own none there put =
     let z = settled_as network hs now body in
     let it = there_of body others own (rw is at there) in
     rw is (
@@ -164,22 +164,22 @@ put_first network hs now {at} body others coming settled is own none there put =
 
 -- with the records that stand there given, the world stands behind the source
 turn_by : {C M : Type 0} {reading : C → ℕ → ℕ} {stands : M → Network → DeviceId → Node → Type 0} {s : Scenario}
-    {world : World C M} {notes : List Note} (old : Stands reading stands s world notes) (r : ℕ) (rest : List ℕ)
+    {world : World C M} {notes : List Note} (old : Stands reading stands s world notes) (r : ℕ) {rest : List ℕ}
     → IsTurnRank r → {bodies : List NoteBody} (mid : World C M) {new : World C M} {more : List Note}
     → mid.settled ≡ world.settled → NoneBefore place_of world.settled (world.now ∷ r ∷ rest)
     → AreThere s.network (happenings s.network notes) mid.now (world.now ∷ r ∷ rest) bodies
     → IsStepOf reading stands s notes bodies mid world.settled (world.now ∷ r ∷ rest)
     → IsTurn s notes bodies mid new more → StandsAt reading stands s new (notes ++ more) (behind (world.now ∷ r ∷ rest))
-turn_by {reading} {stands} {s} {world} {notes} old r rest kind mid {new} {more} same none there step
+turn_by {reading} {stands} {s} {world} {notes} old r {rest} kind mid {new} {more} same none there step
     (IsTurn.gives body others is own g) =
     let hs = happenings s.network notes in
     let at = world.now ∷ r ∷ rest in
     let z = settled_as s.network hs mid.now body in
     let place = (there_of body others own (rw is at there)).0 in
     let behind_it = step (z ∷ new.settled)
-    (put_first s.network hs mid.now body others world.settled new.settled is own none
+    (put_first world.settled new.settled is own none
     there (rw same at g.put)) in
-    let then_ = given_from s (record mid { settled = z ∷ new.settled }) notes z new.settled behind_it refl
+    let then_ = given_from z new.settled behind_it refl
     (λ w source waits b. waits (chain w at (behind at) (rw (sym place) b) (before_behind at)))
     g.launched.wires g.launched.ports g.launched.waiting g.launched.stored in
     let after : World _ _ = record mid {
@@ -193,37 +193,37 @@ turn_by {reading} {stands} {s} {world} {notes} old r rest kind mid {new} {more} 
     subst (λ x. StandsAt reading stands s x (notes ++ more) (behind at)) (sym g.same)
     (subst (λ l. StandsAt reading stands s after (notes ++ l) (behind at)) (sym g.note)
     (subst (λ q. StandsAt reading stands s after (notes ++ next_note notes mid.now body ∷ []) (behind q)) place then_))
-turn_by {reading} {stands} {s} {world} {notes} old r rest kind {bodies} mid {new} {more} same none there step
+turn_by {reading} {stands} {s} {world} {notes} old r {rest} kind {bodies} mid {new} {more} same none there step
     (IsTurn.puts not_there g) =
     let at = world.now ∷ r ∷ rest in
     let put = rw same at g.put in
     let off : (z : Happening) → IsIn z new.settled → is_at_source z.note.body ≡ false = λ z i.
     elim (put_is s.network (happenings s.network notes) mid.now bodies world.settled new.settled put z i) [
       | inl was ↦ late_of old.are z was
-      | inr it ↦ rw it.2 (late_each bodies not_there there it.0 it.1)
+      | inr it ↦ rw it.2 (late_each not_there there it.0 it.1)
     ] in
     let behind_it = step new.settled put in
     subst (λ x. StandsAt reading stands s x (notes ++ more) (behind at)) (sym g.same)
     (subst (λ l. StandsAt reading stands s (record mid { settled = new.settled }) l (behind at))
     (sym (rw g.none (append-nil notes)))
     (stand_of behind_it (λ z i b. elim (up_to_place (place_of z) at b) [
-      | inl e ↦ late_apart z world.now r rest kind (off z i) e
+      | inl e ↦ late_apart z kind (off z i) e
       | inr lt ↦ behind_it.are.after z i lt
     ])))
 
 -- the turn of a source: its own record is the next once the others are put in, and may be given
 pub turn_of : {C M : Type 0} {reading : C → ℕ → ℕ} {stands : M → Network → DeviceId → Node → Type 0} {s : Scenario}
-    {world : World C M} {notes : List Note} (old : Stands reading stands s world notes) (r : ℕ) (rest : List ℕ)
+    {world : World C M} {notes : List Note} (old : Stands reading stands s world notes) (r : ℕ) {rest : List ℕ}
     → IsTurnRank r → {bodies : List NoteBody} (mid : World C M) → mid.settled ≡ world.settled
     → NoneBefore place_of world.settled (world.now ∷ r ∷ rest)
     → AreThere s.network (happenings s.network notes) mid.now (world.now ∷ r ∷ rest) bodies
     → IsStepOf reading stands s notes bodies mid world.settled (world.now ∷ r ∷ rest)
     → TurnsBy reading stands s notes bodies mid (world.now ∷ r ∷ rest)
-turn_of {s} {world} {notes} old r rest kind mid same none there step = record {
+turn_of {s} {world} {notes} old r {rest} kind mid same none there step = record {
   next = λ body others is own after put.
       let hs = happenings s.network notes in
       let z = settled_as s.network hs mid.now body in
-      let behind_it = step (z ∷ after) (put_first s.network hs mid.now body others world.settled after is own none there
+      let behind_it = step (z ∷ after) (put_first world.settled after is own none there
       (rw same at put)) in
       record {
         same = behind_it.same;
@@ -237,5 +237,5 @@ turn_of {s} {world} {notes} old r rest kind mid same none there step = record {
         founded = behind_it.run.founded;
         due = rw (append-nil hs) at (behind_it.are.founded [] after z refl).1;
       };
-  then_stands = λ new more turn. turn_by old r rest kind mid same none there step turn;
+  then_stands = λ new more turn. turn_by old r kind mid same none there step turn;
 }

@@ -97,7 +97,8 @@ rekey_from-requires g c =
     let timers = ap (λ (t : State _ _). t.timers) give.same ∙ ap (λ (t : State _ _). t.timers) hear.same in
     let device : DeviceId = record { 0 = c.args.place.device } in
     let gave = given_so g (goal.at.rekey_from-requires g c).After-give_first run.s run.notes run.is in
-    let has = gave.devices device (subst (λ (n : Network). device.0 < length n.device) gave.same may.foremost.there.device) in
+    let has = gave.devices device (subst (λ (n : Network). device.0 < length n.device) gave.same
+        may.foremost.there.device) in
     record {
       may = record {
         sized = give.sound.sized;
@@ -106,10 +107,12 @@ rekey_from-requires g c =
         slots = ap length timers ∙ may.well.timed.sized;
         running = record { s = run.s; notes = _; is = gave };
       };
-      before = told_timed g.C.Clock.reading g.M.Machine.stands c.args.network.now g.C.Clock.last_step c.args.self.now c.give_first.new.self
+      before = told_timed g.C.Clock.reading g.M.Machine.stands c.args.network.now g.C.Clock.last_step c.args.self.now
+          c.give_first.new.self
           device c.hear_wire-came.result.before may.well
           may.foremost.there.device
-          (λ was is at now. hear.before was is at (sym (ap (λ (t : State _ _). slice_get t.machines.items device.0) give.same) ∙ now))
+          (λ was is at now. hear.before was is at (sym
+              (ap (λ (t : State _ _). slice_get t.machines.items device.0) give.same) ∙ now))
           has.0 has.1
           (ap (λ (t : State _ _). t.clocks) give.same ∙ ap (λ (t : State _ _). t.clocks) hear.same)
           (ap (λ (t : State _ _). t.time) give.same ∙ ap (λ (t : State _ _). t.time) hear.same)
@@ -177,9 +180,11 @@ rekey_act_from-requires g c =
     let after : State _ _ = record c.hear_wire-came.new.self { settled = c.put_in.new.settled } in
     let timers = ap (λ (t : State _ _). t.timers) hear.same in
     let device : DeviceId = record { 0 = c.args.place.device } in
-    let runs = runs_on g.C.Clock.last_step g.C.Clock.reading g.M.Machine.stands c.args.network.now c.args.self.now after may.well
+    let runs = runs_on g.C.Clock.last_step g.C.Clock.reading g.M.Machine.stands c.args.network.now c.args.self.now after
+        may.well
     (still g (goal.at.rekey_act_from-requires g c).After-put_in) in
-    let has = runs.is.devices device (subst (λ (n : Network). device.0 < length n.device) runs.is.same may.foremost.there.device) in
+    let has = runs.is.devices device (subst (λ (n : Network). device.0 < length n.device) runs.is.same
+        may.foremost.there.device) in
     record {
       may = record {
         sized = (sound_after g (goal.at.rekey_act_from-requires g c).After-put_in).sized;
@@ -188,9 +193,11 @@ rekey_act_from-requires g c =
         slots = ap length timers ∙ may.well.timed.sized;
         running = runs;
       };
-      before = told_timed g.C.Clock.reading g.M.Machine.stands c.args.network.now g.C.Clock.last_step c.args.self.now after device
+      before = told_timed g.C.Clock.reading g.M.Machine.stands c.args.network.now g.C.Clock.last_step c.args.self.now
+          after device
           c.hear_wire-came.result.before may.well may.foremost.there.device
-          hear.before has.0 has.1 (ap (λ (t : State _ _). t.clocks) hear.same) (ap (λ (t : State _ _). t.time) hear.same) timers;
+          hear.before has.0 has.1 (ap (λ (t : State _ _). t.clocks) hear.same)
+              (ap (λ (t : State _ _). t.time) hear.same) timers;
     }
 
 pub returns-clause-kept : goal.returns-clause-kept

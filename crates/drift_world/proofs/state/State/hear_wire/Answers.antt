@@ -79,7 +79,8 @@ returns-clause-octets g c =
     (heard_octets g.C.Clock.reading (keeps g.M.Machine.stands) at.s c.args.network.now c.args.self.now at.notes at.is c.args.place took.result
     took.new.under_way.entries took.ensures.taken c.requires.may.foremost.there.rank_is c.requires.may.foremost.there.now c.index_mut-machine.result.now
     (record { time = c.from_amount-time.result; reading = c.read.result }) (held g (goal.at.returns-clause-octets g c).After-index_mut-machine)
-    (now_is g (goal.at.returns-clause-octets g c).After-read at.s at.notes at.is) heard.new.kept heard.ensures.hears.0 heard.result.arrival heard.ensures.hears.1
+    (now_is g (goal.at.returns-clause-octets g c).After-read at.s at.notes at.is) heard.new.kept heard.ensures.hears.0
+        heard.result.arrival heard.ensures.hears.1
     heard.ensures.hears.2)
 
 pub returns-clause-device : goal.returns-clause-device
@@ -122,7 +123,8 @@ returns-clause-others g c = record {
   clocks = refl;
   time = refl;
   ended = refl;
-  machines = λ i apart. set_aside c.args.self.now.machines.items c.args.place.device i c.hear_signal-hearing.new.kept apart;
+  machines = λ i apart. set_aside c.args.self.now.machines.items c.args.place.device i c.hear_signal-hearing.new.kept
+      apart;
   waiting = λ w apart. (λ there. there, λ there. there);
 }
 
@@ -137,6 +139,7 @@ returns-clause-before g c = λ was is at now.
     let kept = w.machines.ok.0 in
     let heard = c.hear_signal-hearing in
     subst (λ (m : Kept _). TellsBefore (keeps g.M.Machine.stands) was m heard.result.before)
-    (some_same _ _ _ (set_same w.machines.items c.args.place.device heard.new.kept (omega (arith, machines, within, kept))) now)
+    (some_same _ _ _ (set_same w.machines.items c.args.place.device heard.new.kept
+        (omega (arith, machines, within, kept))) now)
     (subst (λ (m : Kept _). TellsBefore (keeps g.M.Machine.stands) m heard.new.kept heard.result.before)
     (some_same _ _ _ (held g (goal.at.returns-clause-before g c).After-index_mut-machine) at) heard.ensures.before)
