@@ -9,7 +9,7 @@ use Rattle.{net_plan.specs.declared.ids.RowId.RowId, run_law.specs.{machines.Ans
 use Rattle.{run_law.{specs.declared.steps.Act.Act}, schedule_tables.specs.Entries.IsEntry, world_law.specs.world.Moves.IsPutIn}
 use Rattle.{std.{proofs.lemmas.Bool.ne_eqb, specs.Option.option_map}, world_state.proofs.Made.made_octets}
 use Rattle.{schedule_tables.specs.declared.entry.Entry.Entry, sync_state.specs.declared.answers.Verdict.Verdict, world_state.specs.declared.hands.AtHand.AtHand}
-use Rattle.sync_state.specs.declared.answers.Verdict.TheVariants.{AsyncClique, Cleared, Corrected, SyncClique}
+use Rattle.sync_state.specs.declared.answers.Verdict.TheVariants.{Cleared, Corrected}
 use Rattle.{sync_state.specs.declared.state.State.{State as Standing}, world_state.specs.declared.{contents.Timed.TheVariants.Made, outcomes.Outcomes.Outcomes}}
 use Rattle.world_law.{proofs.steps_lemmas.acting.{Held.{IsHeldFrame, held_frame}, Stage.StageAt}, specs.steps.Acting.{AreActBodies, first_bodies, joining_bodies}}
 use Rattle.world_state.specs.Acting.{AreOutcomes, IsHeldIn, bodies_of, body_of, corrected_by, dispatched_by, emitted_by, first_by, joined_by}
@@ -99,9 +99,8 @@ of_correction : (s : Scenario) (hs : List Happening) (now : ℕ) (device : Devic
     → AreProper s hs now device was adjustment (acts.Correct cycle verdict)
     (corrected_by (length hs + 1) device was cycle adjustment verdict)
 of_correction s hs now device was adjustment cycle (Corrected by) = grind (arith, first_is, first_own, first_fine)
-of_correction s hs now device was adjustment cycle SyncClique = grind (arith, first_fine)
-of_correction s hs now device was adjustment cycle AsyncClique = grind (arith, first_fine)
 of_correction s hs now device was adjustment cycle Cleared = record { bodies = refl; first = tt; second = tt; first_fine = tt; second_fine = tt }
+of_correction s hs now device was adjustment cycle other = grind (arith, first_fine)
 
 -- ---- a dispatch
 

@@ -4,7 +4,7 @@ use Rattle.drift_world.proofs.Words.{◌<◌, ◌∷◌, ◌≡◌, ◌≤◌, �
 use Rattle.drift_world.proofs.Words.{Stands, arith, cases_lt, inl, inr, is_mapped, keeps, map, rank, refl, settled_at, subst, sym}
 use Rattle.{drift_world.proofs.Words.{suc, true, world_of, zero, ℕ}, std.proofs.Common.All}
 use Rattle.drift_world.specs.{Acting.AreAbove, Turns.source_rank, declared.{source.Source.Source, state.State.State}}
-use Rattle.drift_world.specs.declared.source.Source.TheVariants.{Act, Arrival, Clock, Departure, Events, Later, Ripening}
+use Rattle.drift_world.specs.declared.source.Source.TheVariants.{Act, Clock, Later}
 use Rattle.{drift_world.proofs.Words.false, world_law.proofs.runs.Settled.late_of}
 use Rattle.world_law.specs.world.World.{is_at_source}
 use Rattle.run_law.specs.declared.note.NoteBody.TheVariants as kinds
@@ -18,16 +18,13 @@ pub record IsSourceRank (r : ℕ) : Type 0 where
   pub either : (r ≤ 8) ⊎ (14 ≤ r)
 
 pub ranks : (source : Source) → IsSourceRank (source_rank source)
-ranks Events = record { least = omega arith; no_change = λ e. omega (arith, e); either = inl (omega arith) }
-ranks (Arrival place) = record { least = omega arith; no_change = λ e. omega (arith, e); either = inl (omega arith) }
-ranks (Ripening w) = record { least = omega arith; no_change = λ e. omega (arith, e); either = inl (omega arith) }
 ranks (Act part device) =
     let least = part_least part in
     let most = part_most part in
     record { least = omega (arith, least); no_change = λ e. omega (arith, e, most); either = inl (omega (arith, most)) }
-ranks (Departure place) = record { least = omega arith; no_change = λ e. omega (arith, e); either = inl (omega arith) }
 ranks (Clock device) = record { least = omega arith; no_change = λ e. omega (arith, e); either = inr (omega arith) }
 ranks (Later time) = record { least = omega arith; no_change = λ e. omega (arith, e); either = inr (omega arith) }
+ranks other = record { least = omega arith; no_change = λ e. omega (arith, e); either = inl (omega arith) }
 
 none : (r : ℕ) → 8 < r → r < 14 → (r ≤ 8) ⊎ (14 ≤ r) → ⊥
 none r low high (inl le) = omega (arith, low, le)

@@ -1,12 +1,14 @@
 -- Once a record is given the state is sound again.
 use Rattle.drift_world.{proofs.{Fitting.{apart_more, below_one_more}, Words.{Kept, World, way_from, wire_entry, world_of, ℕ}}, specs.declared.state.State.State}
 use Rattle.{drift_world.proofs.Sendings.link_within, world_state.{proofs.UnderWays.sound_with, specs.{Frames.IsOneMore, declared.queue.Entry.Entry}}}
-use Rattle.drift_world.proofs.Words.{◌+◌, ◌<◌, ◌↔◌, ◌∙◌, ◌∷◌, ◌≡◌, ◌⊎◌, Accepted, AreApart, AreUnderWay, Arrived, Bool, Changed, ChangesOnly, Compressed}
-use Rattle.drift_world.proofs.Words.{Content, Delivered, DeviceId, Dropped, DueAt, Giving, IfSome, IsGivenOut, IsIn, IsInRange, IsPermutation}
-use Rattle.drift_world.proofs.Words.{IsPermutation-sym, IsPutOn, Left, LinkId, List, Lost, Network, None, NoteBody, Option, Pcf, Permanent, Settled, Some}
-use Rattle.drift_world.proofs.Words.{Timed, TtSent, Waits, WayState, ap, arith, at_port, changed_device, delay_by, in_permuted, inl, inr, length, link_at, map}
-use Rattle.drift_world.proofs.Words.{not, numbers_of, on_wire, rank_of, receiver_of, refl, settled_at, stored_as, subst, sym, waiting_as}
-use Rattle.{run_law.specs.declared.note.NoteBody.TheVariants.{Clock, Corrected, Event, Sent}, std.proofs.lemmas.List.Elements.{All-weaker}}
+use Rattle.drift_world.proofs.Words.{◌+◌, ◌<◌, ◌↔◌, ◌∙◌, ◌∷◌, ◌≡◌, ◌⊎◌, AreApart, AreUnderWay, Arrived, Bool}
+use Rattle.drift_world.proofs.Words.{ChangesOnly, Content, DeviceId, DueAt, Giving, IfSome, IsGivenOut, IsIn, IsInRange}
+use Rattle.drift_world.proofs.Words.{IsPermutation, IsPermutation-sym, IsPutOn, Left, LinkId, List, Network, None}
+use Rattle.drift_world.proofs.Words.{NoteBody, Option, Pcf, Settled, Some, Timed, TtSent, Waits, WayState, ap, arith}
+use Rattle.drift_world.proofs.Words.{at_port, changed_device, delay_by, in_permuted, inl, inr, length, link_at, map}
+use Rattle.drift_world.proofs.Words.{not, numbers_of, on_wire, rank_of, receiver_of, refl, settled_at, stored_as, subst}
+use Rattle.drift_world.proofs.Words.{sym, waiting_as}
+use Rattle.std.proofs.lemmas.List.Elements.{All-weaker}
 use Rattle.std.{proofs.Common.slice_get, specs.{Option.option_map, Prelude.All}}
 use Rattle.{world_law.proofs.steps_lemmas.hearing.Receptions.receiver_in, world_state.specs.Giving.{awaited_by, control_on_wire, place_on_wire, timed_on_wire}}
 
@@ -73,18 +75,7 @@ module _ (network : Network) (ups downs : List WayState) (range : IsInRange netw
   wire_is (Left d l c k) (Some frame) octets time = placed (control_on_wire frame) (λ p. refl) (λ p. refl) d l time 0
   wire_is (TtSent d l c v k) frame None time = tt
   wire_is (TtSent d l c v k) frame (Some o) time = placed (timed_on_wire o) (λ p. refl) (λ p. refl) d l time _
-  wire_is (Event a b) frame octets time = tt
-  wire_is (Arrived a b c d) frame octets time = tt
-  wire_is (Permanent a b c d e) frame octets time = tt
-  wire_is (Compressed a b c d e f) frame octets time = tt
-  wire_is (Sent a b) frame octets time = tt
-  wire_is (Corrected a b c d) frame octets time = tt
-  wire_is (Changed a b c d) frame octets time = tt
-  wire_is (Lost a b c) frame octets time = tt
-  wire_is (Accepted a b c d e) frame octets time = tt
-  wire_is (Delivered a b c d e) frame octets time = tt
-  wire_is (Dropped a b c d) frame octets time = tt
-  wire_is (Clock a b c d) frame octets time = tt
+  wire_is other frame octets time = tt
 
 rank_in : List ℕ → ℕ
 rank_in (at ∷ rank ∷ rest) = rank

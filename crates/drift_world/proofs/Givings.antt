@@ -1,11 +1,11 @@
 -- What a record that is given launches.
 use Rattle.{drift_world.proofs.{Launches.given_out, Sendings.puts, Storings.taken_by}, world_law.specs.steps.Turns.{IsLaunched, IsNext, next_note}}
-use Rattle.drift_world.proofs.Words.{◌+◌, ◌∙◌, ◌≡◌, Accepted, Arrived, Changed, Compressed, Content, Delivered, Dropped, DueAt, Giving}
-use Rattle.drift_world.proofs.Words.{Happening, Holding, IfSome, IsGivenOut, IsOf, IsOwn, IsPutOn, IsStoredBy, Left, List, Lost, Network}
-use Rattle.drift_world.proofs.Words.{None, Note, NoteBody, Option, Pcf, Permanent, Scenario, Settled, Some, Timed, TtSent, WayState}
-use Rattle.drift_world.proofs.Words.{ap, at_port, happening, happenings, length, map, octets_in, on_wire, refl}
+use Rattle.drift_world.proofs.Words.{◌+◌, ◌∙◌, ◌≡◌, Content, DueAt, Giving, Happening, Holding, IfSome, IsGivenOut}
+use Rattle.drift_world.proofs.Words.{IsOf, IsOwn, IsPutOn, IsStoredBy, Left, List, Network, None, Note, NoteBody}
+use Rattle.drift_world.proofs.Words.{Option, Pcf, Scenario, Settled, Some, Timed, TtSent, WayState, ap, at_port}
+use Rattle.drift_world.proofs.Words.{happening, happenings, length, map, octets_in, on_wire, refl}
 use Rattle.drift_world.{proofs.Words.{stored_as, subst, sym, waiting_as, wire_entry, world_of, ℕ}, specs.declared.state.State.State}
-use Rattle.{run_law.specs.declared.note.NoteBody.TheVariants.{Clock, Corrected, Event, Sent}, world_state.specs.declared.queue.Entry.Entry}
+use Rattle.world_state.specs.declared.queue.Entry.{Entry}
 use Rattle.std.specs.{List.filter_map, Option.option_map}
 use Rattle.world_state.{proofs.Apart.{given_then, ports_kept, put_from, wires_kept}, specs.Giving.{MayBeGiven, control_on_wire, timed_on_wire}}
 
@@ -19,18 +19,7 @@ no_port network ups downs (Left d l c k) None octets time number = tt
 no_port network ups downs (Left d l c k) (Some frame) octets time number = no_port_at (control_on_wire frame) (λ p. refl) _
 no_port network ups downs (TtSent d l c v k) frame None time number = tt
 no_port network ups downs (TtSent d l c v k) frame (Some o) time number = no_port_at (timed_on_wire o) (λ p. refl) _
-no_port network ups downs (Event a b) frame octets time number = tt
-no_port network ups downs (Arrived a b c d) frame octets time number = tt
-no_port network ups downs (Permanent a b c d e) frame octets time number = tt
-no_port network ups downs (Compressed a b c d e f) frame octets time number = tt
-no_port network ups downs (Sent a b) frame octets time number = tt
-no_port network ups downs (Corrected a b c d) frame octets time number = tt
-no_port network ups downs (Changed a b c d) frame octets time number = tt
-no_port network ups downs (Lost a b c) frame octets time number = tt
-no_port network ups downs (Accepted a b c d e) frame octets time number = tt
-no_port network ups downs (Delivered a b c d e) frame octets time number = tt
-no_port network ups downs (Dropped a b c d) frame octets time number = tt
-no_port network ups downs (Clock a b c d) frame octets time number = tt
+no_port network ups downs other frame octets time number = tt
 
 -- what it launches is under way, or waits, and what a switch took by it is held
 abbrev pub LaunchesOn : {C : Type 0} → Type 0 → (C → ℕ → ℕ) → Scenario → Network → Type 0

@@ -18,9 +18,7 @@ shown_small : (broken : Bool) (state : DeviceState) (reading : ℕ) (adjustment 
     → (broken ≡ false → IsSmall adjustment.0) → IfSome (local_shown broken state reading adjustment) IsLocalValue
 shown_small true state reading adjustment low small = tt
 shown_small false states.Synchronised reading adjustment low small = grind (arith, ints)
-shown_small false states.Off reading adjustment low small = tt
-shown_small false states.Integrating reading adjustment low small = tt
-shown_small false states.Joining reading adjustment low small = tt
+shown_small false other reading adjustment low small = tt
 
 -- what is kept of a device stands for a node of it, with a small adjustment unless it is broken
 small_held : {M : Type 0} (stands : M → Network → DeviceId → Node → Type 0) → AreSmall stands

@@ -107,12 +107,8 @@ shown_is : (s : Scenario) (hs : List Happening) (device : DeviceId) (t : ℕ) (b
     → IsLocalClock s hs device t (local_shown broken state x a)
 shown_is s hs device t true state x a broken in_state reads adjusts = grind arith
 shown_is s hs device t false states.Synchronised x a broken in_state reads adjusts = grind arith
-shown_is s hs device t false states.Off x a broken in_state reads adjusts =
-    λ step. (let no : ◌≡◌ {A = DeviceState} states.Off states.Synchronised = sym in_state ∙ step.synchronised in cc)
-shown_is s hs device t false states.Integrating x a broken in_state reads adjusts =
-    λ step. (let no : ◌≡◌ {A = DeviceState} states.Integrating states.Synchronised = sym in_state ∙ step.synchronised in cc)
-shown_is s hs device t false states.Joining x a broken in_state reads adjusts =
-    λ step. (let no : ◌≡◌ {A = DeviceState} states.Joining states.Synchronised = sym in_state ∙ step.synchronised in cc)
+shown_is s hs device t false other x a broken in_state reads adjusts =
+    λ step. (let no : ◌≡◌ {A = DeviceState} other states.Synchronised = sym in_state ∙ step.synchronised in cc)
 
 pub local_is : {C M : Type 0} {fresh : ℕ → C} {after_step : C → ℕ → ℤ → C} {reading : C → ℕ → ℕ}
     {stands : M → Network → DeviceId → Node → Type 0} (own : Network) {network : Network} {state : State C M} {t : ℕ}

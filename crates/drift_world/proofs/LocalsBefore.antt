@@ -52,12 +52,8 @@ shown_before : (s : Scenario) (hs : List Happening) (device : DeviceId) (t : ℕ
     → IsLocalClockBefore s hs device t (local_shown broken state x a)
 shown_before s hs device t true state x a broken reads shows = λ step. (let no : true ≡ false = sym broken ∙ step.correct in cc)
 shown_before s hs device t false states.Synchronised x a broken reads shows = grind arith
-shown_before s hs device t false states.Off x a broken reads shows = λ step.
-    (let no : ◌≡◌ {A = DeviceState} states.Off states.Synchronised = (shows broken).0 ∙ step.synchronised in cc)
-shown_before s hs device t false states.Integrating x a broken reads shows = λ step.
-    (let no : ◌≡◌ {A = DeviceState} states.Integrating states.Synchronised = (shows broken).0 ∙ step.synchronised in cc)
-shown_before s hs device t false states.Joining x a broken reads shows = λ step.
-    (let no : ◌≡◌ {A = DeviceState} states.Joining states.Synchronised = (shows broken).0 ∙ step.synchronised in cc)
+shown_before s hs device t false other x a broken reads shows = λ step.
+    (let no : ◌≡◌ {A = DeviceState} other states.Synchronised = (shows broken).0 ∙ step.synchronised in cc)
 
 pub local_is_before : {C M : Type 0} {reading : C → ℕ → ℕ} {stands : M → Network → DeviceId → Node → Type 0}
     {s : Scenario} (own : Network) {state : State C M} {notes : List Note} {device : DeviceId} {t : ℕ}

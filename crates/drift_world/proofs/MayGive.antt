@@ -2,13 +2,15 @@
 use Rattle.{world_law.specs.steps.Turns.IsNext, world_state.specs.Giving.{CameBy, HasItsFrame, IsYoung, MayBeGiven}}
 use Rattle.drift_world.{proofs.Words.{IsOwn, units_of, world_of}, specs.{Giving.{AreLow, IsToGive}, declared.state.State.State}}
 use Rattle.{drift_world.proofs.Sendings.link_within, run_law.proofs.law.FirstPlaces.founded_at}
-use Rattle.drift_world.proofs.Words.{◌+◌, ◌<◌, ◌^◌, ◌∙◌, ◌≡◌, ◌≤◌, Accepted, Arrived, ArrivedAt, Arrives, Changed, Compressed, Delivered, DeviceId}
-use Rattle.drift_world.proofs.Words.{Dropped, Happening, HasItsOctets, IsCaused, IsDue, IsFounded, IsInRange, Left, LinkId, List, Lost, Network, None}
-use Rattle.drift_world.proofs.Words.{Note, NoteBody, Option, Pcf, Permanent, Scenario, Settled, Some, TtSent, Units, amount, ap}
-use Rattle.drift_world.proofs.Words.{arith, frame_by, happenings, length, link_at, numbered_in, place_of, refl, same_Some}
+use Rattle.drift_world.proofs.Words.{◌+◌, ◌<◌, ◌^◌, ◌∙◌, ◌≡◌, ◌≤◌, Arrived, ArrivedAt, Arrives, Compressed, DeviceId}
+use Rattle.drift_world.proofs.Words.{Happening, HasItsOctets, IsCaused, IsDue, IsFounded, IsInRange, LinkId, List}
+use Rattle.drift_world.proofs.Words.{Network, None, Note, NoteBody, Option, Pcf, Scenario, Settled, Some, Units, amount}
+use Rattle.drift_world.proofs.Words.{ap, arith, frame_by, happenings, length, link_at, numbered_in, place_of, refl}
+use Rattle.drift_world.proofs.Words.{same_Some}
 use Rattle.{drift_world.proofs.Words.{slice_get_within, subst, sym, time_of, with_clock, ℕ}, world_law.proofs.frames.Proper.{arrived_so, launched_frame}}
 use Rattle.{run_law.{proofs.control.Arrived.arrived_young, specs.runs.DueRecords.IsArrivedRecord}, std.specs.Prelude.{option_and_then, option_map}}
-use Rattle.{run_law.specs.declared.note.NoteBody.TheVariants.{Clock, Corrected, Event, Sent}, world_law.proofs.steps_lemmas.hearing.Receptions.receiver_in}
+use Rattle.run_law.specs.declared.note.NoteBody.TheVariants.{Sent}
+use Rattle.world_law.proofs.steps_lemmas.hearing.Receptions.{receiver_in}
 
 -- it may be given but for its octets
 record MayBut (network : Network) (body : NoteBody) (frame : Option Pcf) : Type 0 where
@@ -59,27 +61,7 @@ module _ (s : Scenario) (hs : List Happening) (time : Units) where
       record { by = tt; young = tt; arrived = tt; framed = λ e is none. let bad : None ≡ Some _ = sym none ∙ own in absurd cc }
   caused_may (Compressed d o a k m v) frame range founded caused own =
       record { by = tt; young = tt; arrived = tt; framed = λ e is none. let bad : None ≡ Some _ = sym none ∙ own in absurd cc }
-  caused_may (Event a b) frame range founded caused own =
-      record { by = tt; young = tt; arrived = tt; framed = λ e is none. absurd cc }
-  caused_may (Permanent a b c d e) frame range founded caused own =
-      record { by = tt; young = tt; arrived = tt; framed = λ e is none. absurd cc }
-  caused_may (Corrected a b c d) frame range founded caused own =
-      record { by = tt; young = tt; arrived = tt; framed = λ e is none. absurd cc }
-  caused_may (Changed a b c d) frame range founded caused own =
-      record { by = tt; young = tt; arrived = tt; framed = λ e is none. absurd cc }
-  caused_may (Left a b c d) frame range founded caused own =
-      record { by = tt; young = tt; arrived = tt; framed = λ e is none. absurd cc }
-  caused_may (Lost a b c) frame range founded caused own =
-      record { by = tt; young = tt; arrived = tt; framed = λ e is none. absurd cc }
-  caused_may (TtSent a b c d e) frame range founded caused own =
-      record { by = tt; young = tt; arrived = tt; framed = λ e is none. absurd cc }
-  caused_may (Accepted a b c d e) frame range founded caused own =
-      record { by = tt; young = tt; arrived = tt; framed = λ e is none. absurd cc }
-  caused_may (Delivered a b c d e) frame range founded caused own =
-      record { by = tt; young = tt; arrived = tt; framed = λ e is none. absurd cc }
-  caused_may (Dropped a b c d) frame range founded caused own =
-      record { by = tt; young = tt; arrived = tt; framed = λ e is none. absurd cc }
-  caused_may (Clock a b c d) frame range founded caused own =
+  caused_may other frame range founded caused own =
       record { by = tt; young = tt; arrived = tt; framed = λ e is none. absurd cc }
 
 -- ---- a record that is the next

@@ -39,16 +39,13 @@ kind_grows : (a b : TaskKind) → order_of_kind a ≤ order_of_kind b → part_r
 kind_grows Emission b le = part_least (part_of b)
 kind_grows Sending Emission le = absurd (let no : 1 ≤ 0 = le in omega (arith, no))
 kind_grows Sending Sending le = let l : 5 ≤ 5 = omega arith in l
-kind_grows Sending Correction le = let l : 5 ≤ 6 = omega arith in l
-kind_grows Sending Dispatch le = let l : 5 ≤ 6 = omega arith in l
+kind_grows Sending other le = let l : 5 ≤ 6 = omega arith in l
 kind_grows Correction Emission le = absurd (let no : 2 ≤ 0 = le in omega (arith, no))
 kind_grows Correction Sending le = absurd (let no : 2 ≤ 1 = le in omega (arith, no))
-kind_grows Correction Correction le = part_most Late
-kind_grows Correction Dispatch le = part_most Late
+kind_grows Correction other le = part_most Late
 kind_grows Dispatch Emission le = absurd (let no : 3 ≤ 0 = le in omega (arith, no))
 kind_grows Dispatch Sending le = absurd (let no : 3 ≤ 1 = le in omega (arith, no))
-kind_grows Dispatch Correction le = part_most Late
-kind_grows Dispatch Dispatch le = part_most Late
+kind_grows Dispatch other le = part_most Late
 
 module _ (network : Network) (device : DeviceId) (node : Node) (reading : ℤ) (part : Part) where
   -- nothing is of an earlier part than the first of all
@@ -89,9 +86,7 @@ part_by n = if n == 0 then Emissions else (if n == 1 then Sendings else Late)
 
 is_by : (kind : TaskKind) → part_of kind ≡ part_by (order_of_kind kind)
 is_by Emission = refl
-is_by Sending = refl
-is_by Correction = refl
-is_by Dispatch = refl
+is_by kind = refl
 
 pub one_part : {network : Network} {device : DeviceId} {node : Node} {reading : ℤ} {kind : TaskKind} {part : Part}
     → IsFirstPart network device node reading part → IsFirstKind network device node reading kind
@@ -111,17 +106,11 @@ kind_by (acts.Dispatch row cycle) = Dispatch
 act_kind : (network : Network) (device : DeviceId) (node : Node) (moment : Moment) (act : Act) (new : Node) → IsActOf network device node moment act new
     → IsFirstKind network device node moment.reading.0 (kind_by act)
 act_kind network device node moment (acts.Send frame) new is = first_kind_of is.1
-act_kind network device node moment (acts.Emit sent heard) new is = first_kind_of is.0
-act_kind network device node moment (acts.Correct cycle verdict) new is =
-    first_kind_of is.0
-act_kind network device node moment (acts.Dispatch row cycle) new is =
-    first_kind_of is.0
+act_kind network device node moment act new is = first_kind_of is.0
 
 place_by : (now : ℕ) (device : DeviceId) (act : Act) → place_of_act now device act ≡ part_place (part_of (kind_by act)) now device
 place_by now device (acts.Send frame) = refl
-place_by now device (acts.Emit sent heard) = refl
-place_by now device (acts.Correct cycle verdict) = refl
-place_by now device (acts.Dispatch row cycle) = refl
+place_by now device act = refl
 
 -- what is done is of the part of what is first, and stands there
 pub act_place_is : {network : Network} (now : ℕ) {device : DeviceId} {node : Node} (moment : Moment) (act : Act)
@@ -133,9 +122,7 @@ act_place_is {network} now {device} {node} moment act new is first =
 
 rank_by : (act : Act) → rank_of_act act ≡ part_rank (part_of (kind_by act))
 rank_by (acts.Send frame) = refl
-rank_by (acts.Emit sent heard) = refl
-rank_by (acts.Correct cycle verdict) = refl
-rank_by (acts.Dispatch row cycle) = refl
+rank_by act = refl
 
 pub act_rank_is : {network : Network} {device : DeviceId} {node : Node} (moment : Moment) (act : Act) (new : Node)
     {part : Part} → IsActOf network device node moment act new
@@ -153,9 +140,7 @@ order_head network (doing (dispatching row cycle)) = (_, refl)
 
 act_head : (network : Network) (act : Act) → (rest : List ℕ) × (order_of_act network act ≡ order_of_kind (kind_by act) ∷ rest)
 act_head network (acts.Send frame) = (_, refl)
-act_head network (acts.Emit sent heard) = (_, refl)
-act_head network (acts.Correct cycle verdict) = (_, refl)
-act_head network (acts.Dispatch row cycle) = (_, refl)
+act_head network act = (_, refl)
 
 heads : (m n : ℕ) (xs ys : List ℕ) → IsBefore (m ∷ xs) (n ∷ ys) → m ≤ n
 heads m n xs ys (inl lt) = omega (arith, lt)

@@ -14,7 +14,6 @@ use Rattle.{run_law.{proofs.records.Members.from_map, specs.declared.judgement.J
 use Rattle.{run_law.proofs.records.Order.all_of, std.{proofs.Common.{All, nat_eq}, specs.{List.slice_get, Option.option_and_then}}}
 use Rattle.{std.proofs.lemmas.Map.Keys.{IsDistinct-IsPermutation, IsDistinct-head, IsDistinct-tail}, world_law.specs.steps.Ripening.{HasRipened, ripe_bodies}}
 use Rattle.{drift_world.specs.Ripening.IsJudged, world_law.specs.{steps.Turns.{TurnsBy, starts_there}, world.World.is_at_source}}
-use Rattle.run_law.specs.declared.judgement.Judgement.TheVariants as judgements
 use Rattle.run_law.specs.declared.note.NoteBody.TheVariants as kinds
 use Rattle.run_law.specs.declared.steps.Ripe.TheVariants as ripe
 
@@ -128,14 +127,8 @@ frame_is s network now hs w verdict of = grind (arith, units_of)
 ripe_own : (s : Scenario) (network : Network) (now : ℕ) (hs : List Happening) (w : Waits)
     → frame_from hs w.cause ≡ Some w.frame → (result : Ripe)
     → IsOwn s.network network now hs (Some (ripe_record w result))
-ripe_own s network now hs w of ripe.Opened = frame_is s network now hs w judgements.Opened of
-ripe_own s network now hs w of ripe.Joined = frame_is s network now hs w judgements.Joined of
-ripe_own s network now hs w of ripe.Repeat = frame_is s network now hs w judgements.Repeat of
-ripe_own s network now hs w of ripe.Within = frame_is s network now hs w judgements.Within of
-ripe_own s network now hs w of ripe.Outside = frame_is s network now hs w judgements.Outside of
-ripe_own s network now hs w of ripe.Integrates = frame_is s network now hs w judgements.Integrates of
-ripe_own s network now hs w of ripe.Ignored = frame_is s network now hs w judgements.Ignored of
 ripe_own s network now hs w of (ripe.Dropped reason) = refl
+ripe_own s network now hs w of other = frame_is s network now hs w _ of
 
 joined_own : (s : Scenario) (network : Network) (now : ℕ) (hs : List Happening) (number : ℕ) (device : DeviceId)
     (result : Ripe) → IsOwn s.network network now hs (joined_record number device result)
@@ -146,25 +139,13 @@ joined_own s network now hs number device other = tt
 ripe_bodies_are : (number : ℕ) (w : Waits) (result : Ripe)
     → ripe_bodies number w.device w.link w.cause w.point result
     ≡ body_of (Some (ripe_record w result)) ++ body_of (joined_record number w.device result)
-ripe_bodies_are number w ripe.Opened = refl
-ripe_bodies_are number w ripe.Joined = refl
-ripe_bodies_are number w ripe.Repeat = refl
-ripe_bodies_are number w ripe.Within = refl
-ripe_bodies_are number w ripe.Outside = refl
 ripe_bodies_are number w ripe.Integrates = refl
-ripe_bodies_are number w ripe.Ignored = refl
-ripe_bodies_are number w (ripe.Dropped reason) = refl
+ripe_bodies_are number w other = refl
 
 -- where it is judged, its record stands where it was permanent
 pub judged_source : (w : Waits) (result : Ripe) → IsJudged result → is_at_source (ripe_record w result).body ≡ true
 judged_source w (ripe.Dropped reason) judged = absurd judged
-judged_source w ripe.Opened judged = refl
-judged_source w ripe.Joined judged = refl
-judged_source w ripe.Repeat judged = refl
-judged_source w ripe.Within judged = refl
-judged_source w ripe.Outside judged = refl
-judged_source w ripe.Integrates judged = refl
-judged_source w ripe.Ignored judged = refl
+judged_source w other judged = refl
 
 -- else none of them does
 pub dropped_late : (number : ℕ) (w : Waits) (result : Ripe) → (IsJudged result → ⊥)
@@ -174,14 +155,8 @@ dropped_late number w other not = absurd (not tt)
 
 -- none of them needs octets
 pub record_fits : (w : Waits) (result : Ripe) → have_octets (ripe_record w result)
-record_fits w ripe.Opened = tt
-record_fits w ripe.Joined = tt
-record_fits w ripe.Repeat = tt
-record_fits w ripe.Within = tt
-record_fits w ripe.Outside = tt
-record_fits w ripe.Integrates = tt
-record_fits w ripe.Ignored = tt
 record_fits w (ripe.Dropped reason) = tt
+record_fits w other = tt
 
 pub joined_fits : (number : ℕ) (device : DeviceId) (result : Ripe) (z : Settled) → joined_record number device result ≡ Some z → have_octets z
 joined_fits number device ripe.Integrates z e = subst have_octets (some_same _ z _ refl e) tt

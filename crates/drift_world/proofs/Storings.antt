@@ -1,9 +1,10 @@
 -- What switches hold once a record is given, as its law asks for it.
-use Rattle.drift_world.proofs.Words.{◌&&◌, ◌==◌, ◌∙◌, ◌∷◌, ◌≡◌, Accepted, Arrived, Bool, Changed, Compressed, Delivered, DeviceId, Dropped, Happening}
-use Rattle.drift_world.proofs.Words.{HasItsOctets, Holding, IsIn, IsPermutation-sym, IsStoredBy, Left, List, Network, None, NoteBody, Option, Permanent, Some}
-use Rattle.drift_world.proofs.Words.{Timed, TtSent, VlId, [], ap, both_ways, eq-eqb, eqb-true, false, filter, if◌then◌else◌, in_permuted, inl, inr, is_mapped}
+use Rattle.drift_world.proofs.Words.{◌&&◌, ◌==◌, ◌∙◌, ◌∷◌, ◌≡◌, Accepted, Bool, DeviceId, Happening, HasItsOctets}
+use Rattle.drift_world.proofs.Words.{Holding, IsIn, IsPermutation-sym, IsStoredBy, List, Network, None, NoteBody}
+use Rattle.drift_world.proofs.Words.{Option, Some, Timed, VlId, [], ap, both_ways, eq-eqb, eqb-true, false, filter}
+use Rattle.drift_world.proofs.Words.{if◌then◌else◌, in_permuted, inl, inr, is_mapped}
 use Rattle.{drift_world.proofs.Words.{map, not, octets_in, octets_of, refl, stored_as, subst, sym, true, ℕ}, run_law.proofs.records.Members.{from_map, in_kept}}
-use Rattle.{run_law.specs.declared.note.NoteBody.TheVariants.{Clock, Corrected}, world_state.specs.Storing.{IsHeldInstead, IsStoredFor, is_held_of}}
+use Rattle.world_state.specs.Storing.{IsHeldInstead, IsStoredFor, is_held_of}
 use Rattle.{run_law.specs.timed.Dispatching.is_accepted, std.proofs.lemmas.Bool.{not-true, not_from_false}, world_law.specs.world.Moves.AreTaken}
 use Rattle.{std.proofs.Common.arith, world_law.specs.world.World.Stored}
 
@@ -103,24 +104,4 @@ module _ (network : Network) (x : Happening) (number : ℕ) (held new : List Hol
       → AreTaken x number (map (stored_as network) held) (map (stored_as network) new)
   taken_by (Accepted d l c v k) octets is has own stored = by_accepted network x number held new d v octets
       (λ other of_vl. ap (is_accepted other of_vl) is) (has_some d l c v k octets has) own stored
-  taken_by (Arrived a b c d) octets is has own same =
-      same_taken same (λ device vl. ap (is_accepted device vl) is)
-  taken_by (Permanent a b c d e) octets is has own same =
-      same_taken same (λ device vl. ap (is_accepted device vl) is)
-  taken_by (Compressed a b c d e f) octets is has own same =
-      same_taken same (λ device vl. ap (is_accepted device vl) is)
-  taken_by (Corrected a b c d) octets is has own same =
-      same_taken same (λ device vl. ap (is_accepted device vl) is)
-  taken_by (Changed a b c d) octets is has own same =
-      same_taken same (λ device vl. ap (is_accepted device vl) is)
-  taken_by (Left a b c d) octets is has own same =
-      same_taken same (λ device vl. ap (is_accepted device vl) is)
-  taken_by (TtSent a b c d e) octets is has own same =
-      same_taken same (λ device vl. ap (is_accepted device vl) is)
-  taken_by (Delivered a b c d e) octets is has own same =
-      same_taken same (λ device vl. ap (is_accepted device vl) is)
-  taken_by (Dropped a b c d) octets is has own same =
-      same_taken same (λ device vl. ap (is_accepted device vl) is)
-  taken_by (Clock a b c d) octets is has own same =
-      same_taken same (λ device vl. ap (is_accepted device vl) is)
   taken_by other octets is has own same = same_taken same (λ device vl. ap (is_accepted device vl) is)

@@ -12,7 +12,8 @@ use Rattle.drift_world.proofs.Words.{IsWell, List, Network, NoSourceBefore, Node
 use Rattle.run_law.specs.records.Ranks.{key}
 use Rattle.drift_world.proofs.Words.{Stands, Turn, [], ap, append-nil, arith, cases_lt, chain, happenings, inl, inr, keeps, length, length-map, map, never_self}
 use Rattle.drift_world.specs.Turns.{HasRoom, IsAfter, IsForemost, IsKept, IsNow, IsPassed, IsStep, IsThere, MayGive, MayWork, PassSays, SettledFirst, TurnSays, given_in}
-use Rattle.drift_world.specs.{Turns.{source_place, source_rank}, declared.source.Source.TheVariants.{Act, Arrival, Clock, Departure, Events, Later, Ripening}}
+use Rattle.drift_world.specs.Turns.{source_place, source_rank}
+use Rattle.drift_world.specs.declared.source.Source.TheVariants.{Arrival, Departure, Later}
 use Rattle.{drift_world.specs.declared.next.Turn.TheVariants.{Ends, Gives, GoesOn}, run_law.proofs.runs.Places.{before_later, before_later_time}}
 use Rattle.std.proofs.Common.{All, slice_get}
 
@@ -32,13 +33,10 @@ pub record IsShaped (now : ℕ) (source : Source) : Type 0 where
 
 pub shaped : {C M : Type 0} (reading : C → ℕ → ℕ) (stands : M → Network → DeviceId → Node → Type 0) (network : Network) (state : State C M)
     (source : Source) → IsThere reading stands network state source → IsNow source → IsShaped state.time source
-shaped reading stands network state Events there now = record { rest = _; place = refl }
 shaped reading stands network state (Arrival place) there now = record { rest = _; place = sym (ranked_at state.time 2 place there.now there.rank_is) }
-shaped reading stands network state (Ripening w) there now = record { rest = _; place = refl }
-shaped reading stands network state (Act part device) there now = record { rest = _; place = refl }
 shaped reading stands network state (Departure place) there now = record { rest = _; place = sym (ranked_at state.time 8 place there.now there.rank_is) }
-shaped reading stands network state (Clock device) there now = record { rest = _; place = refl }
 shaped reading stands network state (Later time) there now = absurd now
+shaped reading stands network state other there now = record { rest = _; place = refl }
 
 -- what is of a higher rank than a source of the present instant is not before it
 higher_not : (now r q : ℕ) (xs ys : List ℕ) → q < r → IsBefore (now ∷ r ∷ xs) (now ∷ q ∷ ys) → ⊥
@@ -58,14 +56,11 @@ pub ahead_before : {C M : Type 0} (reading : C → ℕ → ℕ) (stands : M → 
     (source : Source) (first : Settled) → IsThere reading stands network state source → rank first.body < source_rank source
     → IsBefore (place_of (settled_at network state.time first)) (source_place state.time source)
 ahead_before reading stands network state (Later time) first there lt = inl there
-ahead_before reading stands network state Events first there lt = inr (refl, inl lt)
 ahead_before reading stands network state (Arrival place) first there lt =
     subst (IsBefore (place_of (settled_at network state.time first))) (ranked_at state.time 2 place there.now there.rank_is) (inr (refl, inl lt))
-ahead_before reading stands network state (Ripening w) first there lt = inr (refl, inl lt)
-ahead_before reading stands network state (Act part device) first there lt = inr (refl, inl lt)
 ahead_before reading stands network state (Departure place) first there lt =
     subst (IsBefore (place_of (settled_at network state.time first))) (ranked_at state.time 8 place there.now there.rank_is) (inr (refl, inl lt))
-ahead_before reading stands network state (Clock device) first there lt = inr (refl, inl lt)
+ahead_before reading stands network state other first there lt = inr (refl, inl lt)
 
 -- where something is settled, a source that comes first of it is not later
 pub none_settled : (settled : List Settled) (time : ℕ) → SourceFirst settled (Later time) → settled ≡ []
