@@ -1,7 +1,7 @@
 -- The records of an act are those of the law, and are put in.
 use Rattle.{drift_world.proofs.Words.InOrder, run_law.specs.{declared.steps.Ripe.Ripe, machines.Nodes.dispatching, timed.Dispatching.HasAtHand}}
 use Rattle.{drift_world.proofs.Puts.{is_put_in, order_put}, run_law.specs.machines.Tasks.{IsFirstTask, doing}, world_law.specs.world.World.{AreStored, Stored}}
-use Rattle.drift_world.proofs.Words.{◌++◌, ◌+◌, ◌==◌, ◌∙◌, ◌∷◌, ◌≡◌, ◌≤◌, ArePutIn, Bool, DeviceId, Happening, HasItsOctets, Holding, IsIn, IsOwn, IsSomePut}
+use Rattle.drift_world.proofs.Words.{◌++◌, ◌+◌, ◌==◌, ◌∙◌, ◌∷◌, ◌≡◌, ◌≤◌, ArePutIn, Bool, DeviceId, Happening, HasItsOctets, Holding, IsIn, IsOwn, IsSomePut, Meaning}
 use Rattle.drift_world.proofs.Words.{Joining, List, Network, Node, None, Off, Option, Scenario, Settled, Some, Units, [], ap, arith, false}
 use Rattle.drift_world.proofs.Words.{if◌then◌else◌, inl, inr, is_cut, length, map, moment_of, octets_from, octets_of}
 use Rattle.drift_world.proofs.Words.{rank, refl, settled_at, slice_get_within, stored_as, subst, sym, true, way_from, ℕ}
@@ -27,14 +27,14 @@ module _ (other network : Network) (now : ℕ) (hs : List Happening) where
   pub order_then : (o : Option Settled) (old new : List Settled) → IsSomePut o old new → InOrder (all_at old) → InOrder (all_at new)
   order_then None old new put order = subst (λ (l : List Settled). InOrder (all_at l)) (sym put) order
   order_then (Some z) old new put order =
-      order_put order (is_put_in network now z old new put.0 put.1 order)
+      order_put order (is_put_in network now put.1 order)
 
   pub one_by : (o : Option Settled) (old new : List Settled) → IsSomePut o old new → InOrder (all_at old) → IsOwn other network now hs o
       → ArePutIn other hs now (body_of o) (all_at old) (all_at new)
   one_by None old new put order own = ap all_at put
   one_by (Some z) old new put order own = (
     all_at new,
-    subst (λ h. IsPutIn h (all_at old) (all_at new)) own (is_put_in network now z old new put.0 put.1 order),
+    subst (λ h. IsPutIn h (all_at old) (all_at new)) own (is_put_in network now put.1 order),
     refl,
   )
 
@@ -45,7 +45,7 @@ module _ (other network : Network) (now : ℕ) (hs : List Happening) where
       (one_by second mid new two (order_then None old mid one order) also)
   both_put (Some z) second old mid new one two order own also = (
     all_at mid,
-    subst (λ h. IsPutIn h (all_at old) (all_at mid)) own (is_put_in network now z old mid one.0 one.1 order),
+    subst (λ h. IsPutIn h (all_at old) (all_at mid)) own (is_put_in network now one.1 order),
     one_by second mid new two (order_then (Some z) old mid one order) also,
   )
 
@@ -175,13 +175,13 @@ of_held : {s : Scenario} {hs : List Happening} (stored : List Holding) {now : �
     → outcomes.second ≡ None → AreProper s hs now device was adjustment (acts.Dispatch row cycle) outcomes
 of_held {s} stored was adjustment row outcomes None is held none first second =
     let found = in_stored s.network stored held.there.0 held.there.1 in
-    absurd (none found.0 found.1 (ap (λ (e : Stored). e.device) (sym found.2) ∙ held.there.2)
-    (ap (λ (e : Stored). e.vl) (sym found.2) ∙ held.there.3))
+    absurd (none found.0 found.1 (ap Stored.device (sym found.2) ∙ held.there.2)
+    (ap Stored.vl (sym found.2) ∙ held.there.3))
 of_held {s} {hs} stored {now} {device} was adjustment row {cycle} {entry} outcomes (Some hand) is held
     (h, there, of_device, of_vl, same) first second =
     let e = stored_as s.network h in
     let i = stored_in s.network stored h there in
-    let cause : hand.cause ≡ h.number = ap (λ (a : AtHand). a.cause) same in
+    let cause : hand.cause ≡ h.number = ap AtHand.cause same in
     let octets : octets_of s.network hand.octets ≡ octets_from hs hand.cause =
     ap (λ (a : AtHand). octets_of s.network a.octets) same ∙ held.octets e i of_device of_vl ∙ ap (octets_from hs) (sym cause) in
     let some : 1 ≤ hand.cause = subst (λ n. 1 ≤ n) (sym cause) (held.some e i of_device of_vl) in
@@ -190,7 +190,7 @@ of_held {s} {hs} stored {now} {device} was adjustment row {cycle} {entry} outcom
     (octets ∙ not_zero hand.cause (tt_frame s.network entry.row.vl cycle) (octets_from hs hand.cause) some) first second
 
 -- a dispatch
-of_row : {M : Type 0} {stands : M → Network → DeviceId → Node → Type 0} {s : Scenario} {hs coming : List Happening}
+of_row : {M : Type 0} {stands : Meaning M} {s : Scenario} {hs coming : List Happening}
     (stored : List Holding) {now : ℕ} {device : DeviceId} {machine : M} {node : Node}
     (was : Standing) (adjustment : Units) (row : RowId) (cycle : ℕ) (outcomes : Outcomes) {r : ℕ} {more : List ℕ}
     → StageAt stands s hs coming now device machine node r more
@@ -225,7 +225,7 @@ same_outcomes {s} {hs} {now} {device} {was} {adjustment} {act} a same =
     subst (λ o. AreProper s hs now device was adjustment act o) (sym same)
 
 -- the records of an act of a device of a world that stands
-pub proper : {M : Type 0} {stands : M → Network → DeviceId → Node → Type 0} {s : Scenario}
+pub proper : {M : Type 0} {stands : Meaning M} {s : Scenario}
     {hs coming : List Happening} (stored : List Holding) {now : ℕ} {device : DeviceId}
     {machine : M} {node : Node} (after : Node) (was : Standing) (adjustment : Units) (act : Act)
     (outcomes : Outcomes) {r : ℕ} {more : List ℕ}

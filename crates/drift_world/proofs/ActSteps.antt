@@ -7,7 +7,7 @@ use Rattle.drift_world.specs.{Acting.{AreAbove, IsDueAt, IsIdle, IsLeft}, Parts.
 use Rattle.drift_world.specs.declared.part.{Part.Part, ToDo.{ToDo, TheVariants.{Next, Now}}}
 use Rattle.{drift_world.proofs.Fits.{all_put_some, have_octets}, world_state.specs.declared.outcomes.Outcomes.Outcomes}
 use Rattle.{run_law.specs.{declared.steps.Act.Act, machines.{Answers.IsActOf, Calls.MayAct}}, std.specs.List.slice_get}
-use Rattle.drift_world.proofs.Words.{◌+◌, ◌<◌, ◌≡◌, ◌≤◌, ComesFirst, DeviceId, Happening, HasActed, IsAt, IsBefore, IsHeld, IsIn, IsOf, IsOwn, IsSomePut}
+use Rattle.drift_world.proofs.Words.{◌+◌, ◌<◌, ◌≡◌, ◌≤◌, ComesFirst, DeviceId, Happening, HasActed, IsAt, IsBefore, IsHeld, IsIn, IsOf, IsOwn, IsSomePut, Meaning}
 use Rattle.drift_world.proofs.Words.{◌∙◌, ◌∷◌, IfSome, Kept, List, Moment, Network, Node, None, Note, Option, Scenario, Settled, Some, Stands, StandsFor, Units, [], ap, arith}
 use Rattle.drift_world.proofs.Words.{chain, false, happenings, inl, inr, keeps, length, map, moment_of, pos, rank, same_Some}
 use Rattle.drift_world.proofs.Words.{◌++◌, NoteBody, TurnsIn}
@@ -31,16 +31,16 @@ not_before_own now r d more (inr (e, inl lt)) = omega (arith, lt)
 not_before_own now r d more (inr (e, inr (f, inl lt))) = omega (arith, lt)
 not_before_own now r d more (inr (e, inr (f, inr (g, b)))) = b
 
-head_is : (x y : NoteBody) (xs ys : List NoteBody) → x ∷ xs ≡ y ∷ ys → x ≡ y
-head_is x y xs ys e = cc
+head_is : {x y : NoteBody} {xs ys : List NoteBody} → x ∷ xs ≡ y ∷ ys → x ≡ y
+head_is e = cc
 
 -- where the first of an act's records is of a high rank, or there is none, the first that comes of it is
 first_high : (first second : Option Settled) → IfSome first (λ z. 6 < rank z.body) → IsFine 7 second → (body : NoteBody)
     (others : List NoteBody) → body_of first ++ body_of second ≡ body ∷ others → 6 < rank body
 first_high (Some z) second late fine body others e =
-    subst (λ b. 6 < rank b) (head_is z.body body (body_of second) others e) late
+    subst (λ b. 6 < rank b) (head_is e) late
 first_high None (Some z) late fine body others e =
-    let same : z.body ≡ body = head_is z.body body [] others e in
+    let same : z.body ≡ body = head_is e in
     let high = fine.1 in
     subst (λ b. 6 < rank b) same (omega (arith, high))
 first_high None None late fine body others e = absurd (let bad : [] ≡ body ∷ others = e in cc)
@@ -54,21 +54,21 @@ its_row network device node moment (acts.Dispatch row cycle) new is =
 its_row network device node moment other new is = tt
 
 -- this is what the device has to do then
-abbrev pub IsLeftIn : {M : Type 0} → (M → Network → DeviceId → Node → Type 0) → Scenario → ℕ → DeviceId → Kept M → ToDo → Type 0
+abbrev pub IsLeftIn : {M : Type 0} → Meaning M → Scenario → ℕ → DeviceId → Kept M → ToDo → Type 0
 IsLeftIn stands s now device machine (Now part) =
     (node : Node) → keeps stands machine s.network device node → IsFirstPart s.network device node (pos (s.reading device now)) part
 IsLeftIn stands s now device machine (Next due) = IsIdle stands s now device machine
 
-pub left_in : {C M : Type 0} {reading : C → ℕ → ℕ} (stands : M → Network → DeviceId → Node → Type 0)
+pub left_in : {C M : Type 0} {reading : C → ℕ → ℕ} (stands : Meaning M)
     {network : Network} {state : State C M} (device : DeviceId) (left : ToDo)
-    → IsLeft reading stands network state device left → {s : Scenario} (machine : Kept M)
+    → IsLeft reading stands network state device left → {s : Scenario} {machine : Kept M}
     → IsOf reading s network state → slice_get state.machines.items device.0 ≡ Some machine
     → IsLeftIn stands s state.time device machine left
-left_in stands device (Now part) left {s} machine of there = λ node is. left s machine node of there is
-left_in stands device (Next due) left {s} machine of there = left.1 s machine of there
+left_in stands device (Now part) left {s} {machine} of there = λ node is. left s machine node of there is
+left_in stands device (Next due) left {s} {machine} of there = left.1 s machine of there
 
-module _ {C M : Type 0} (reading : C → ℕ → ℕ) (stands : M → Network → DeviceId → Node → Type 0) (network : Network) (state : State C M) (part : Part)
-    (device : DeviceId) (machine : Kept M) (lt : device.0 < length network.device) (there : slice_get state.machines.items device.0 ≡ Some machine)
+module _ {C M : Type 0} (reading : C → ℕ → ℕ) (stands : Meaning M) (network : Network) (state : State C M) (part : Part)
+    (device : DeviceId) {machine : Kept M} (lt : device.0 < length network.device) (there : slice_get state.machines.items device.0 ≡ Some machine)
     (due : IsDueAt reading stands network state part device) (above : AreAbove (part_rank part) state) where
   abbrev Old : Scenario → List Note → Type 0
   Old s notes = Stands reading (keeps stands) s (world_of network state) notes
@@ -78,7 +78,7 @@ module _ {C M : Type 0} (reading : C → ℕ → ℕ) (stands : M → Network �
 
   first_part : (s : Scenario) (notes : List Note) → Old s notes → (node : Node) → keeps stands machine s.network device node
       → IsFirstPart s.network device node (pos (s.reading device state.time)) part
-  first_part s notes old node is = due s machine node (shows_of network state old) there is
+  first_part s notes old node is = due s machine node (shows_of state old) there is
 
   task_now : (s : Scenario) (notes : List Note) → Old s notes → (node : Node) → keeps stands machine s.network device node
       → HasTaskBy s device node state.time
@@ -107,7 +107,7 @@ module _ {C M : Type 0} (reading : C → ℕ → ℕ) (stands : M → Network �
         device,
         k.node,
         k.is,
-        subst (MayAct at.s.network device k.node) (sym (reads at.s (shows_of network state at.is)))
+        subst (MayAct at.s.network device k.node) (sym (reads at.s (shows_of state at.is)))
             (record {
               call = may_act_now at.s device k.node state.time k.ready (at.is.steady device) at.is.limit;
               due = λ has. task_now at.s at.notes at.is k.node k.is;
@@ -193,18 +193,18 @@ module _ {C M : Type 0} (reading : C → ℕ → ℕ) (stands : M → Network �
       (subst (λ n. AreOutcomes s state.stored.items state.time n device was adjustment act outcomes) number are)
 
   -- what is settled stays fit
-  pub octets_then : (s : Scenario) (hs : List Happening) (was : Standing) (adjustment : Units) (act : Act) (outcomes : Outcomes) (mid new : List Settled)
+  pub octets_then : {s : Scenario} {hs : List Happening} {was : Standing} {adjustment : Units} {act : Act} {outcomes : Outcomes} (mid new : List Settled)
       → AreProper s hs state.time device was adjustment act outcomes → IsSomePut outcomes.first state.settled.items mid
       → IsSomePut outcomes.second mid new → All have_octets state.settled.items → All have_octets new
-  octets_then s hs was adjustment act outcomes mid new own one two all =
+  octets_then {outcomes} mid new own one two all =
       all_put_some have_octets outcomes.second mid new two (λ z e. (subst (IsFine 7) e own.second_fine).0)
       (all_put_some have_octets outcomes.first state.settled.items mid one (λ z e. (subst (IsFine 4) e own.first_fine).0) all)
 
   -- where the first of its records does not stand where it is done, all that is settled stays of a higher rank
-  pub above_then : (s : Scenario) (hs : List Happening) (was : Standing) (adjustment : Units) (act : Act) (outcomes : Outcomes) (mid new : List Settled)
+  pub above_then : {s : Scenario} {hs : List Happening} {was : Standing} {adjustment : Units} {act : Act} {outcomes : Outcomes} (mid new : List Settled)
       → AreProper s hs state.time device was adjustment act outcomes → IfSome outcomes.first (λ z. 6 < rank z.body)
       → IsSomePut outcomes.first state.settled.items mid → IsSomePut outcomes.second mid new → All (λ (z : Settled). part_rank part < rank z.body) new
-  above_then s hs was adjustment act outcomes mid new own late one two =
+  above_then {outcomes} mid new own late one two =
       let most = part_most part in
       all_put_some (λ (z : Settled). part_rank part < rank z.body) outcomes.second mid new two
       (λ z e. let fine = (subst (IsFine 7) e own.second_fine).1 in omega (arith, fine, most))
@@ -214,11 +214,11 @@ module _ {C M : Type 0} (reading : C → ℕ → ℕ) (stands : M → Network �
       omega (arith, high, most)) above)
 
   -- what the device has to do then is of no earlier part
-  no_sooner_then : (s : Scenario) (notes : List Note) (old : Old s notes) (act : Act) (after : Kept M) (new : Node)
+  no_sooner_then : (s : Scenario) (notes : List Note) (old : Old s notes) (act : Act) (after : Kept M) {new : Node}
       → HasActed (keeps stands) s.network device (moment_of s device state.time) act machine after
-      → IsActOf s.network device (kept_at s notes old).node (moment_of s device state.time) act new → (left : Part)
+      → IsActOf s.network device (kept_at s notes old).node (moment_of s device state.time) act new → {left : Part}
       → IsFirstPart s.network device new (pos (s.reading device state.time)) left → part_rank part ≤ part_rank left
-  no_sooner_then s notes old act after new acted is left first =
+  no_sooner_then s notes old act after {new} acted is {left} first =
       let k = kept_at s notes old in
       let law = lawful reading (keeps stands) s (world_of network state) notes old device in
       let same = of_rank s notes old act after acted in
@@ -234,10 +234,10 @@ module _ {C M : Type 0} (reading : C → ℕ → ℕ) (stands : M → Network �
   later_then at act after (Next due) acted is = tt
   later_then at act after (Now left) acted is =
       let new = acted_at at.s at.notes at.is act after (acted at.s at.notes at.is) in
-      no_sooner_then at.s at.notes at.is act after new.0 (acted at.s at.notes at.is) new.1 left (is at.s at.notes at.is new.0 new.2)
+      no_sooner_then at.s at.notes at.is act after (acted at.s at.notes at.is) new.1 (is at.s at.notes at.is new.0 new.2)
 
   -- the act is worked off, and these are its records
-  pub acted_turns : (after : Kept M) (was is : Standing) (before adjustment : Units) (act : Act) (outcomes : Outcomes)
+  pub acted_turns : {after : Kept M} (was is : Standing) (before adjustment : Units) (act : Act) (outcomes : Outcomes)
       (machines : List (Kept M)) → IsSet device.0 after state.machines.items machines → (s : Scenario) (notes : List Note)
       (old : Old s notes) → First_ s notes old → HasActed (keeps stands) s.network device
       (moment_of s device state.time) act machine after
@@ -245,7 +245,7 @@ module _ {C M : Type 0} (reading : C → ℕ → ℕ) (stands : M → Network �
       → AreOutcomes s state.stored.items state.time (state.given + 1) device was adjustment act outcomes
       → TurnsIn reading stands network s notes (record (world_of network state) { early = false; machines = machines })
       (task_place s.network state.time device (task_of act)) outcomes.first outcomes.second
-  acted_turns after was is before adjustment act outcomes machines set s notes old first acted stood stands_then are =
+  acted_turns {after} was is before adjustment act outcomes machines set s notes old first acted stood stands_then are =
       record {
         order = settled_in_order old;
         first_is = subst (λ n. IsOwn s.network n state.time (happenings s.network notes) outcomes.first) (sym old.same) own.first;
@@ -277,19 +277,19 @@ module _ {C M : Type 0} (reading : C → ℕ → ℕ) (stands : M → Network �
       }
 
   -- where the first of its records is of a higher rank than any act, none of them stands where it is done
-  pub acts_late : (s : Scenario) (hs : List Happening) (was : Standing) (adjustment : Units) (act : Act) (outcomes : Outcomes)
+  pub acts_late : (s : Scenario) (hs : List Happening) {was : Standing} {adjustment : Units} {act : Act} {outcomes : Outcomes}
       → AreProper s hs state.time device was adjustment act outcomes → IfSome outcomes.first (λ z. 6 < rank z.body)
       → starts_there (bodies_of outcomes) ≡ false
-  acts_late s hs was adjustment act outcomes own late =
+  acts_late s hs {was} {adjustment} {act} {outcomes} own late =
       act_starts_late s hs state.time device was adjustment act (bodies_of outcomes) own.bodies
       (first_high outcomes.first outcomes.second late own.second_fine)
 
   -- what is behind the act is not before where its part begins
   pub behind_part : (s : Scenario) (notes : List Note) (old : Old s notes) (act : Act) (after : Kept M)
-      → HasActed (keeps stands) s.network device (moment_of s device state.time) act machine after → (frontier : List ℕ)
+      → HasActed (keeps stands) s.network device (moment_of s device state.time) act machine after → {frontier : List ℕ}
       → frontier ≡ behind (task_place s.network state.time device (task_of act))
       → IsBefore frontier (part_place part state.time device) → ⊥
-  behind_part s notes old act after acted frontier at b =
+  behind_part s notes old act after acted at b =
       let place = task_place s.network state.time device (task_of act) in
       not_before_own state.time (rank_of_act act) device.0 (act_more s.network act)
       (chain (state.time ∷ rank_of_act act ∷ device.0 ∷ act_more s.network act) (behind place)

@@ -1,10 +1,10 @@
 -- A world stands also where its lists have what they had in another order.
-use Rattle.drift_world.proofs.Words.{◌++◌, ◌↔◌, ◌∙◌, ◌≡◌, AtPort, DeviceId, Happening, IsIn, List, Network, Node, Note, NoteBody, OnWire}
+use Rattle.drift_world.proofs.Words.{◌++◌, ◌↔◌, ◌∙◌, ◌≡◌, AtPort, Happening, IsIn, List, Meaning, Note, NoteBody, OnWire}
 use Rattle.drift_world.proofs.Words.{Scenario, Stands, StandsAt, World, behind, inl, inr, refl, subst, sym, ℕ}
 use Rattle.world_law.specs.{steps.Turns.{IsTurn, TurnsBy}, world.Moves.{AreGiven, ArePut}}
 
-module _ {C M : Type 0} (reading : C → ℕ → ℕ) (stands : M → Network → DeviceId → Node → Type 0) (s : Scenario)
-    (world : World C M) (notes : List Note) where
+module _ {C M : Type 0} (reading : C → ℕ → ℕ) (stands : Meaning M) (s : Scenario) (world : World C M)
+    (notes : List Note) where
   -- other wires and ports, with the same on them and at them
   with_lists : (wires : List OnWire) (ports : List AtPort)
       → ((e : OnWire) → IsIn e wires ↔ IsIn e world.wires) → ((e : AtPort) → IsIn e ports ↔ IsIn e world.ports)
@@ -55,17 +55,17 @@ module _ {C M : Type 0} (reading : C → ℕ → ℕ) (stands : M → Network �
   )
 
   -- and so with its frontier at a place
-  pub ports_at : (ports : List AtPort) (p : List ℕ) → ((e : AtPort) → IsIn e ports ↔ IsIn e world.ports)
+  pub ports_at : (ports : List AtPort) {p : List ℕ} → ((e : AtPort) → IsIn e ports ↔ IsIn e world.ports)
       → StandsAt reading stands s world notes p → StandsAt reading stands s
       (record world { ports = ports }) notes p
-  ports_at ports p at one =
+  ports_at ports at one =
       let new = with_lists world.wires ports (λ e. (λ i. i, λ i. i)) at one.0 in
       (new.0, new.1 ∙ one.1)
 
 -- so does a turn from such a world
-module _ {C M : Type 0} (reading : C → ℕ → ℕ) (stands : M → Network → DeviceId → Node → Type 0) (s : Scenario)
-    (notes : List Note) (mid : World C M) (wires : List OnWire) (ports : List AtPort)
-    (on : (e : OnWire) → IsIn e wires ↔ IsIn e mid.wires) (at : (e : AtPort) → IsIn e ports ↔ IsIn e mid.ports) where
+module _ {C M : Type 0} (reading : C → ℕ → ℕ) (stands : Meaning M) (s : Scenario) (notes : List Note) (mid : World C M)
+    (wires : List OnWire) (ports : List AtPort) (on : (e : OnWire) → IsIn e wires ↔ IsIn e mid.wires)
+    (at : (e : AtPort) → IsIn e ports ↔ IsIn e mid.ports) where
   put_alike : {x : Happening} {number : ℕ} {new : List OnWire} → ArePut s x number wires new
       → ArePut s x number mid.wires new
   put_alike put = record {

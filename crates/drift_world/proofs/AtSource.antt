@@ -1,6 +1,6 @@
 -- Records that stand where their sources do.
 use Rattle.{drift_world.proofs.{Rising.settled_in_order, Words.InOrder, Parts.{part_least, part_most}}, run_law.proofs.records.Order.all_of}
-use Rattle.drift_world.proofs.Words.{◌<◌, ◌∷◌, ◌≡◌, ◌≤◌, ◌⊎◌, DeviceId, IsIn, List, Network, Node, Note, NoteBody, Scenario, Settled, []}
+use Rattle.drift_world.proofs.Words.{◌<◌, ◌∷◌, ◌≡◌, ◌≤◌, ◌⊎◌, IsIn, List, Meaning, Network, Note, NoteBody, Scenario, Settled, []}
 use Rattle.drift_world.proofs.Words.{Stands, arith, cases_lt, inl, inr, is_mapped, keeps, map, rank, refl, settled_at, subst, sym}
 use Rattle.{drift_world.proofs.Words.{suc, true, world_of, zero, ℕ}, std.proofs.Common.All}
 use Rattle.drift_world.specs.{Acting.AreAbove, Turns.source_rank, declared.{source.Source.Source, state.State.State}}
@@ -58,12 +58,12 @@ each_of P (y ∷ ys) x all (inl same) = subst P (sym same) (all zero y (omega ar
 each_of P (y ∷ ys) x all (inr i) = each_of P ys x (λ k d within. all (suc k) d (omega (arith, within))) i
 
 -- nothing that is settled stands where its source does
-pub is_late : {C M : Type 0} (reading : C → ℕ → ℕ) (stands : M → Network → DeviceId → Node → Type 0) (network : Network)
-    (state : State C M) (z : Settled) (others : List Settled) {s : Scenario} {notes : List Note}
+pub is_late : {C M : Type 0} {reading : C → ℕ → ℕ} (stands : Meaning M) {network : Network}
+    (state : State C M) {z : Settled} {others : List Settled} {s : Scenario} {notes : List Note}
     → state.settled.items ≡ z ∷ others
     → (old : Stands reading (keeps stands) s (world_of network state) notes)
     → is_at_source z.body ≡ false
-is_late reading stands network state z others {s} {notes} whole old =
+is_late stands {network} state {z} {s} {notes} whole old =
     let shown = settled_at network state.time z in
     let there : IsIn shown (map (settled_at network state.time) state.settled.items) =
     subst (λ (l : List Settled). IsIn shown (map (settled_at network state.time) l)) (sym whole) (inl refl) in
@@ -82,11 +82,11 @@ each_above network now low (x ∷ xs) order first y (inr i) =
       | inl less ↦ absurd (order.0 (settled_at network now y) (is_mapped (settled_at network now) xs y i) (inr (refl, inl less)))
     ]
 
-pub all_above : {C M : Type 0} {reading : C → ℕ → ℕ} (stands : M → Network → DeviceId → Node → Type 0)
-    (network : Network) (state : State C M) (low : ℕ) {s : Scenario} {notes : List Note}
+pub all_above : {C M : Type 0} {reading : C → ℕ → ℕ} (stands : Meaning M)
+    {network : Network} (state : State C M) (low : ℕ) {s : Scenario} {notes : List Note}
     → Stands reading (keeps stands) s (world_of network state) notes
     → ((z : Settled) (others : List Settled) → state.settled.items ≡ z ∷ others → low < rank z.body)
     → AreAbove low state
-all_above stands network state low old first =
+all_above stands {network} state low old first =
     all_of (λ (z : Settled). low < rank z.body) state.settled.items
     (each_above network state.time low state.settled.items (settled_in_order old) first)

@@ -34,7 +34,7 @@ pub none_awaited : (s : Scenario) (x : Happening) (number : ℕ) (old : List Wai
     → ((e : Waiting) → IsAwaitedFor s x e → is_broken s e.device (time_of x) ≡ false → ⊥) → AreAwaited s x number old old
 none_awaited s x number old none = record { real = λ e there. inl there; kept = λ e there. there; all = λ e cause for sound. absurd (none e for sound) }
 
-module _ (s : Scenario) (now : ℕ) (x : Happening) (number : ℕ) (giving : Giving) (at : time_of x ≡ now) (by : giver_of x.note.body ≡ Some giving.device)
+module _ (s : Scenario) {now : ℕ} (x : Happening) {number : ℕ} (giving : Giving) (at : time_of x ≡ now) (by : giver_of x.note.body ≡ Some giving.device)
     (numbered : giving.number ≡ number) (frame : x.frame ≡ Some giving.frame) (read : giving.reading ≡ s.reading giving.device now)
     (broken : giving.broken ≡ is_broken s giving.device now) (old new : List Waits) where
   reads_so : giving.reading ≡ s.reading giving.device (time_of x)
@@ -43,7 +43,7 @@ module _ (s : Scenario) (now : ℕ) (x : Happening) (number : ℕ) (giving : Giv
   broken_so : giving.broken ≡ is_broken s giving.device (time_of x)
   broken_so = broken ∙ ap (is_broken s giving.device) (sym at)
 
-  module _ (link : LinkId) (cause clock : ℕ) (is : x.note.body ≡ Arrived giving.device link cause clock) where
+  module _ {link : LinkId} {cause clock : ℕ} (is : x.note.body ≡ Arrived giving.device link cause clock) where
     abbrev one : Waits
     one = waits_from s.network giving.device link clock giving.reading giving.number giving.frame
 
@@ -111,7 +111,7 @@ module _ (s : Scenario) (now : ℕ) (x : Happening) (number : ℕ) (giving : Giv
         | inl a ↦
             let device : a.device ≡ giving.device = same_Some _ _ (ap giver_of (sym a.is) ∙ by) in
             let is : x.note.body ≡ Arrived giving.device a.link a.cause a.clock = a.is ∙ ap (λ (d : DeviceId). Arrived d a.link a.cause a.clock) device in
-            arrival_waits a.link a.cause a.clock is _ refl
+            arrival_waits is _ refl
             (subst (λ b. IsOneMore (awaited_by s.network giving.broken b (Some giving.frame) giving.reading giving.number) old new) is more)
         | inr a ↦
             subst (λ (l : List Waits). AreAwaited s x number (map waiting_as old) (map waiting_as l))

@@ -4,7 +4,7 @@ use Rattle.{drift_world.{proofs.Fits.{all_put_some, have_octets}, specs.declared
 use Rattle.{drift_world.proofs.Words.InOrder, run_law.specs.records.Causes.IsOfThisTime, world_state.specs.declared.queue.Entry.Entry}
 use Rattle.{drift_world.proofs.Puts.{is_put_in, one_put_in, order_put, some_put_in}, world_law.specs.steps.Befalling.{ArePutBy, befell_bodies, bodies_of}}
 use Rattle.drift_world.proofs.Words.{◌+◌, ◌<◌, ◌↔◌, ◌∙◌, ◌∷◌, ◌≡◌, ◌⊎◌, ArePutIn, AreUnderWay, AreWays, Befallen, Bool, Content, DeviceId, Happening}
-use Rattle.drift_world.proofs.Words.{Integrating, IsIn, IsPermutation-sym, IsPutOn, IsSomePut, Kept, Link, LinkId, List, Network, Node, None, Note, OnWire}
+use Rattle.drift_world.proofs.Words.{Integrating, IsIn, IsPermutation-sym, IsPutOn, IsSomePut, Kept, Link, LinkId, List, Meaning, Network, None, Note, OnWire}
 use Rattle.drift_world.proofs.Words.{Option, Port, Scenario, Settled, Some, Stands, StandsAt, Up, WayNow, WayState, What, Wire, World, [], ap, arith}
 use Rattle.drift_world.proofs.Words.{at_port, befell_as, behind, delay_at, false, given_of, happenings, if◌then◌else◌, in_permuted, inl, inr, is_broken}
 use Rattle.drift_world.proofs.Words.{is_cut, is_given, is_mapped, length, length-map, link_at, map, numbers_end, numbered, on_wire, option_map_or, rank_of, refl}
@@ -120,7 +120,7 @@ module _ (s : Scenario) where
         let up = way_up ups downs ways link (slice_get_within s.network.link link.0 l found) in
         subst (λ (o : Option WayState). IsOn (option_and_then (sent_up s.network now number link octets l) o)
         (if is_cut s link Up now then [] else sent_on s now number link octets l ∷ [])) (sym up.found)
-        (sent_as link octets l up.way (is_cut s link Up now) (ap (λ (v : WayNow). v.cut) up.is) (ap (λ (v : WayNow). v.delay) up.is))
+        (sent_as link octets l up.way (is_cut s link Up now) (ap WayNow.cut up.is) (ap WayNow.delay up.is))
 
     event_on : (what : What) → IsOn (entry_of s.network ups now number what) (wires_of s now number what)
     event_on (events.Send link octets) = by_link link octets (link_at s.network link) refl
@@ -135,7 +135,7 @@ module _ (s : Scenario) (hs : List Happening) (now : ℕ) where
   -- what is settled stays in order
   order_some : (o : Option Settled) (old new : List Settled) → IsSomePut o old new → InOrder (map shown old) → InOrder (map shown new)
   order_some None old new put order = subst (λ (l : List Settled). InOrder (map shown l)) (sym put) order
-  order_some (Some z) old new put order = order_put order (is_put_in s.network now z old new put.0 put.1 order)
+  order_some (Some z) old new put order = order_put order (is_put_in s.network now put.1 order)
 
   module _ (broken : List Bool) (ups downs : List WayState) (ways : AreWays s now (map way_as ups) (map way_as downs)) (number : ℕ) (old new : List Settled)
       (order : InOrder (map shown old)) where
@@ -148,7 +148,7 @@ module _ (s : Scenario) (hs : List Happening) (now : ℕ) where
 
     lost_put : (link : LinkId) (l : Link) (cut : Bool) → IsSomePut (if cut then Some (bare (kinds.Lost l.child link number)) else None) old new
         → ArePutIn s.network hs now (if cut then kinds.Lost l.child link number ∷ [] else []) (map shown old) (map shown new)
-    lost_put link l true put = one_put_in s.network s.network now hs (kinds.Lost l.child link number) (bare (kinds.Lost l.child link number)) old new put.0
+    lost_put link l true put = one_put_in s.network s.network now hs (kinds.Lost l.child link number) (bare (kinds.Lost l.child link number)) old new
         put.1 order refl
     lost_put link l false put = ap (map shown) put
 
@@ -162,7 +162,7 @@ module _ (s : Scenario) (hs : List Happening) (now : ℕ) where
         let first = subst (λ (o : Option WayState). IsSomePut (option_and_then (lost_on number link l) o) old new) up.found put in
         lost_put link l (is_cut s link Up now)
         (subst (λ (b : Bool). IsSomePut (if b then Some (bare (kinds.Lost l.child link number)) else None) old new)
-        (ap (λ (v : WayNow). v.cut) up.is) first)
+        (ap WayNow.cut up.is) first)
 
     event_put : (what : What) → ((device : DeviceId) → what ≡ events.On device → slice_get broken device.0 ≡ Some (is_broken s device now))
         → IsSomePut (record_of s.network broken ups number what) old new
@@ -181,7 +181,7 @@ record IsOfRecord (s : Scenario) (hs : List Happening) (broken : List Bool) (now
   body : h.note.body ≡ kinds.Event line b.what
   turned : (device : DeviceId) → b.what ≡ events.On device → slice_get broken device.0 ≡ Some (is_broken s device now)
 
-module _ (s : Scenario) (hs : List Happening) (now : ℕ) (broken : List Bool) (ups downs : List WayState)
+module _ {s : Scenario} (hs : List Happening) {now : ℕ} (broken : List Bool) (ups downs : List WayState)
     (ways : AreWays s now (map way_as ups) (map way_as downs)) where
   all_wires : (befell : List Befallen) (old new : List Settled) (before after : List (Entry Content)) → ((b : Befallen) → IsIn b befell
       → IsOfRecord s hs broken now b) → AreSettledBy s.network broken ups now befell old new before after
@@ -208,7 +208,7 @@ module _ (s : Scenario) (hs : List Happening) (now : ℕ) (broken : List Bool) (
 
 -- ---- the world stands
 
-module _ {C M : Type 0} (reading : C → ℕ → ℕ) (stands : Kept M → Network → DeviceId → Node → Type 0) (s : Scenario) (state : State C M) (notes : List Note)
+module _ {C M : Type 0} {reading : C → ℕ → ℕ} {stands : Meaning (Kept M)} {s : Scenario} (state : State C M) {notes : List Note}
     (old : Stands reading stands s (world_of s.network state) notes) (pending : state.pending ≡ true) where
   of_record : (b : Befallen) → IsIn b state.befell.items → IsOfRecord s (happenings s.network notes) state.broken.items state.time b
   of_record b i =
@@ -279,9 +279,9 @@ module _ {C M : Type 0} (reading : C → ℕ → ℕ) (stands : Kept M → Netwo
       state.under_way.entries entries) none_settled so in
       let step = befell_step reading stands s world notes (filter_map (on_wire s.network) entries) (map (settled_at s.network state.time) settled) old pending
       (omega (arith, few, long))
-      (all_wires s hs state.time state.broken.items state.ups.items state.downs.items old.ways state.befell.items state.settled.items settled
+      (all_wires hs state.broken.items state.ups.items state.downs.items old.ways state.befell.items state.settled.items settled
       state.under_way.entries entries of_record so)
-      (all_records s hs state.time state.broken.items state.ups.items state.downs.items old.ways state.befell.items [] settled
+      (all_records hs state.broken.items state.ups.items state.downs.items old.ways state.befell.items [] settled
       state.under_way.entries entries of_record tt from_none) in
       let after : World C (Kept M) = record world {
         wires = filter_map (on_wire s.network) entries;
@@ -290,19 +290,19 @@ module _ {C M : Type 0} (reading : C → ℕ → ℕ) (stands : Kept M → Netwo
         befell = [];
         settled = map (settled_at s.network state.time) settled;
       } in
-      ports_at reading stands s after notes (filter_map at_port entries) (behind (state.time ∷ 2 ∷ []))
+      ports_at reading stands s after notes (filter_map at_port entries)
       (ports_settled s.network old.range state.broken.items state.ups.items state.time 0 state.befell.items state.settled.items settled
       state.under_way.entries entries so) step
 
 -- ---- the same where the network is that of the scenario
 
-module _ {C M : Type 0} (reading : C → ℕ → ℕ) (stands : Kept M → Network → DeviceId → Node → Type 0) (s : Scenario) (network : Network) (state : State C M)
-    (notes : List Note) (old : Stands reading stands s (world_of network state) notes) (pending : state.pending ≡ true) where
+module _ {C M : Type 0} {reading : C → ℕ → ℕ} {stands : Meaning (Kept M)} {s : Scenario} {network : Network} (state : State C M)
+    {notes : List Note} (old : Stands reading stands s (world_of network state) notes) (pending : state.pending ≡ true) where
   abbrev Standing : Network → Type 0
   Standing n = Stands reading stands s (world_of n state) notes
 
   -- it is settled in order, and what befell is forgotten
-  pub befallen_behind : (befell : List Befallen) (settled : List Settled) (entries : List (Entry Content)) → befell ≡ []
+  pub befallen_behind : {befell : List Befallen} (settled : List Settled) (entries : List (Entry Content)) → befell ≡ []
       → length notes + length state.befell.items < numbers_end
       → AreSettledBy network state.broken.items state.ups.items state.time state.befell.items state.settled.items settled state.under_way.entries entries
       → StandsAt reading stands s
@@ -314,7 +314,7 @@ module _ {C M : Type 0} (reading : C → ℕ → ℕ) (stands : Kept M → Netwo
         befell = map befell_as befell;
         settled = map (settled_at network state.time) settled;
       }) notes (behind (state.time ∷ 2 ∷ []))
-  befallen_behind befell settled entries none few so =
+  befallen_behind {befell} settled entries none few so =
       subst (λ (l : List Befallen). StandsAt reading stands s
       (record (world_of network state) {
         wires = filter_map (on_wire network) entries;
@@ -335,43 +335,43 @@ module _ {C M : Type 0} (reading : C → ℕ → ℕ) (stands : Kept M → Netwo
         befell = [];
         settled = map (settled_at n state.time) settled;
       }) notes (behind (state.time ∷ 2 ∷ []))) (sym old.same)
-      (λ was by. befallen_stands reading stands s state notes was pending settled entries few by) old so)
+      (λ was by. befallen_stands state was pending settled entries few by) old so)
 
   pub numbers_given : (b : Befallen) → IsIn b state.befell.items → b.number < state.given + 1
-  numbers_given = number_given reading stands s state notes (subst Standing old.same old) pending
+  numbers_given = number_given state (subst Standing old.same old) pending
 
   pub all_fresh : AreUnderWay network state.under_way.entries → (b : Befallen) → IsIn b state.befell.items → IsFreshOf state.under_way.entries b.number
-  all_fresh are = fresh_of reading stands s state notes (subst Standing old.same old) pending
+  all_fresh are = fresh_of state (subst Standing old.same old) pending
       (subst (λ n. AreUnderWay n state.under_way.entries) old.same are)
 
 -- ---- the records need no octets
 
-turned_octets : (number : ℕ) (device : DeviceId) (o : Option Bool) (z : Settled) → option_and_then (turned_on number device) o ≡ Some z → have_octets z
-turned_octets number device None z e = absurd cc
-turned_octets number device (Some true) z e = absurd cc
-turned_octets number device (Some false) z e = subst have_octets (same_Some _ _ e) tt
+turned_octets : (number : ℕ) (device : DeviceId) (o : Option Bool) {z : Settled} → option_and_then (turned_on number device) o ≡ Some z → have_octets z
+turned_octets number device None e = absurd cc
+turned_octets number device (Some true) e = absurd cc
+turned_octets number device (Some false) e = subst have_octets (same_Some _ _ e) tt
 
 module _ (number : ℕ) (link : LinkId) where
-  cut_octets : (l : Link) (cut : Bool) (z : Settled) →
+  cut_octets : (l : Link) (cut : Bool) {z : Settled} →
       (if cut then Some (bare (kinds.Lost l.child link number)) else None) ≡ Some z → have_octets z
-  cut_octets l true z e = subst have_octets (same_Some _ _ e) tt
-  cut_octets l false z e = absurd cc
+  cut_octets l true e = subst have_octets (same_Some _ _ e) tt
+  cut_octets l false e = absurd cc
 
-  way_octets : (l : Link) (o : Option WayState) (z : Settled) → option_and_then (lost_on number link l) o ≡ Some z
+  way_octets : (l : Link) (o : Option WayState) {z : Settled} → option_and_then (lost_on number link l) o ≡ Some z
       → have_octets z
-  way_octets l None z e = absurd cc
-  way_octets l (Some w) z e = cut_octets l w.cut z e
+  way_octets l None e = absurd cc
+  way_octets l (Some w) {z} e = cut_octets l w.cut e
 
-  link_octets : (ups : List WayState) (o : Option Link) (z : Settled)
+  link_octets : (ups : List WayState) (o : Option Link) {z : Settled}
       → option_and_then (λ l. option_and_then (lost_on number link l) (slice_get ups link.0)) o ≡ Some z
       → have_octets z
-  link_octets ups None z e = absurd cc
-  link_octets ups (Some l) z e = way_octets l (slice_get ups link.0) z e
+  link_octets ups None e = absurd cc
+  link_octets ups (Some l) {z} e = way_octets l (slice_get ups link.0) e
 
 record_octets : (network : Network) (broken : List Bool) (ups : List WayState) (number : ℕ) (what : What) (z : Settled)
     → record_of network broken ups number what ≡ Some z → have_octets z
-record_octets network broken ups number (events.On device) z e = turned_octets number device (slice_get broken device.0) z e
-record_octets network broken ups number (events.Send link octets) z e = link_octets number link ups (link_at network link) z e
+record_octets network broken ups number (events.On device) z e = turned_octets number device (slice_get broken device.0) e
+record_octets network broken ups number (events.Send link octets) z e = link_octets number link ups (link_at network link) e
 record_octets network broken ups number other z e = absurd cc
 
 module _ (network : Network) (broken : List Bool) (ups : List WayState) where

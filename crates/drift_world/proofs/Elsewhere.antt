@@ -1,7 +1,7 @@
 -- An event leaves all devices as they were but one.
 use Rattle.{drift_world.{proofs.Timings.still_timed, specs.declared.state.State.State}, world_state.specs.Applying.{IsElsewhere, device_in}}
 use Rattle.drift_world.proofs.Words.{◌+◌, ◌<◌, ◌==◌, ◌↔◌, ◌∙◌, ◌∷◌, ◌≡◌, ◌⊎◌, AreTimed, Bool, DeviceId, IfSome, IsIn, IsOfNetwork, IsSomeAnd, IsTimed}
-use Rattle.drift_world.proofs.Words.{List, Network, Node, None, Option, Some, Units, Waits, What, [], amount, ap, arith, breaks_at, cases_eq, clock_after}
+use Rattle.drift_world.proofs.Words.{List, Meaning, Network, None, Option, Some, Units, Waits, What, [], amount, ap, arith, breaks_at, cases_eq, clock_after}
 use Rattle.drift_world.proofs.Words.{eqb-true, false, false_from_ne_true, filter, if◌then◌else◌, in_filter, inl, inr, length, not, option_map_or, refl}
 use Rattle.drift_world.{proofs.Words.{same_Some, subst, sym, true, ℕ, ℤ}, specs.Stepping.{IsSlotBy, SetsOnly}}
 use Rattle.std.proofs.Common.{◌≢◌, slice_get}
@@ -34,19 +34,19 @@ in_kept q (y ∷ ys) x passes (inl same) = subst (λ (b : Bool). IsIn x (if b th
 in_kept q (y ∷ ys) x passes (inr i) =
     elim (q y) as (λ b. IsIn x (if b then y ∷ filter q ys else filter q ys)) [ true ↦ inr (in_kept q ys x passes i) | false ↦ in_kept q ys x passes i ]
 
-pub waits_elsewhere : (old new : List Waits) (device : DeviceId) (what : What) → new ≡ filter (λ w. not (breaks_at w.device.0 what)) old
+pub waits_elsewhere : (old : List Waits) {new : List Waits} (device : DeviceId) (what : What) → new ≡ filter (λ w. not (breaks_at w.device.0 what)) old
     → IsElsewhere what device → (w : Waits) → w.device.0 ≡ device.0 → IsIn w new ↔ IsIn w old
-waits_elsewhere old new device what is away w at = grind (arith, not, breaks_at, breaks_other, in_filter, in_kept)
+waits_elsewhere old device what is away w at = grind (arith, not, breaks_at, breaks_other, in_filter, in_kept)
 
 -- ---- the timers
 
 -- the device that an event changes is one of the network
-pub its_device : (network : Network) (what : What) (device : DeviceId) → IsOfNetwork network what → device_in what ≡ Some device
+pub its_device : (network : Network) (what : What) {device : DeviceId} → IsOfNetwork network what → device_in what ≡ Some device
     → device.0 < length network.device
-its_device network (events.Rate d rate) device of is = subst (λ (x : DeviceId). x.0 < length network.device) (same_Some _ _ is) of
-its_device network (events.On d) device of is = subst (λ (x : DeviceId). x.0 < length network.device) (same_Some _ _ is) of
-its_device network (events.Break d) device of is = subst (λ (x : DeviceId). x.0 < length network.device) (same_Some _ _ is) of
-its_device network other device of is = absurd cc
+its_device network (events.Rate d rate) of is = subst (λ (x : DeviceId). x.0 < length network.device) (same_Some _ _ is) of
+its_device network (events.On d) of is = subst (λ (x : DeviceId). x.0 < length network.device) (same_Some _ _ is) of
+its_device network (events.Break d) of is = subst (λ (x : DeviceId). x.0 < length network.device) (same_Some _ _ is) of
+its_device network other of is = absurd cc
 
 -- the timers of another device are not among its
 module _ (devices : ℕ) (device : DeviceId) (there : device.0 < devices) where
@@ -63,8 +63,8 @@ module _ (devices : ℕ) (device : DeviceId) (there : device.0 < devices) where
   not_act (Some d) within away (inr e) = away (omega (arith, e))
 
 -- the timers are right, where those of the device that the event changes are set
-pub timed_by_event : {C M : Type 0} {reading : C → ℕ → ℕ} {stands : M → Network → DeviceId → Node → Type 0}
-    {network : Network} {old : State C M} (mid new : State C M) (what : What) → AreTimed reading stands network old
+pub timed_by_event : {C M : Type 0} {reading : C → ℕ → ℕ} {stands : Meaning M}
+    {network : Network} {old : State C M} {mid new : State C M} (what : What) → AreTimed reading stands network old
     → ((device : DeviceId) → device.0 < length network.device → IsElsewhere what device
     → (slice_get mid.clocks.items device.0 ≡ slice_get old.clocks.items device.0)
     × (slice_get mid.machines.items device.0 ≡ slice_get old.machines.items device.0)
@@ -72,7 +72,7 @@ pub timed_by_event : {C M : Type 0} {reading : C → ℕ → ℕ} {stands : M �
     → mid.timers ≡ old.timers → mid.time ≡ old.time → IsOfNetwork network what → SetsOnly (IsSlotBy network what) mid new
     → ((device : DeviceId) → device_in what ≡ Some device → IsTimed reading stands network new.timers new device)
     → AreTimed reading stands network new
-timed_by_event {C} {M} {reading} {stands} {network} {old} mid new what are away timers time of_network sets own = record {
+timed_by_event {C} {M} {reading} {stands} {network} {old} {mid} {new} what are away timers time of_network sets own = record {
   sized = sets.sized ∙ ap length timers ∙ are.sized;
   each = λ device there. each device there (device_in what) refl;
   later = sets.later (subst (λ n. AreFrom n mid.timers) (sym time)
@@ -87,11 +87,11 @@ timed_by_event {C} {M} {reading} {stands} {network} {old} mid new what are away 
         (ap (λ (s : State C M). slice_get s.clocks.items device.0) same ∙ is.0)
         (ap (λ (s : State C M). slice_get s.machines.items device.0) same ∙ is.1)
         (λ w at. subst (λ (s : State C M). IsIn w s.waiting.items ↔ IsIn w old.waiting.items) (sym same) (is.2 w at))
-        (let now = ap (λ (s : State C M). s.time) same in omega (arith, now, time))
+        (let now = ap State.time same in omega (arith, now, time))
         (sets.others device.0 (not_ripe (length network.device) device there (device_in what) else_where)
         ∙ ap (λ (l : List Timer). slice_get l device.0) timers)
         (sets.others (length network.device + device.0)
-        (not_act (length network.device) device there (device_in what) (λ d is. its_device network what d of_network is) else_where)
+        (not_act (length network.device) device there (device_in what) (λ d is. its_device network what of_network is) else_where)
         ∙ ap (λ (l : List Timer). slice_get l (length network.device + device.0)) timers)
 
     each : (device : DeviceId) → device.0 < length network.device → (o : Option DeviceId) → device_in what ≡ o

@@ -1,14 +1,14 @@
 -- Where only events of the present instant are worked off, the records given are the run behind them.
-use Rattle.drift_world.proofs.Words.{◌+◌, ◌<◌, ◌∷◌, ◌≡◌, ◌≤◌, AreComing, DeviceId, Happening, IsBefore, IsDue, IsScenarioRun, List, Network, Node, Note}
+use Rattle.drift_world.proofs.Words.{◌+◌, ◌<◌, ◌∷◌, ◌≡◌, ◌≤◌, AreComing, Happening, IsBefore, IsDue, IsScenarioRun, List, Meaning, Note}
 use Rattle.drift_world.proofs.Words.{Scenario, Stands, World, [], amount, ap, append-nil, arith, chain, happenings, inl, inr, place_of, refl, subst}
-use Rattle.drift_world.{proofs.Words.{keeps, reading_of, scenario, sym, true, ℕ, ℤ}, specs.Running.RunsBehindEvents}
+use Rattle.drift_world.{proofs.Words.{sym, true, ℕ, ℤ}, specs.Running.RunsBehindEvents}
 use Rattle.world_law.specs.world.World.{IsDueAs, IsWorkedOff}
 use Rattle.world_law.proofs.{runs.{Next.none_due, Sourced.sourced, TaskPlaces.placed_so}, steps_lemmas.steps.Applied.no_coming}
 use Rattle.{net_plan.specs.declared.event.Event.Event, world_law.{proofs.runs.Firsts.source_before, specs.source.{Next.NoneDueBefore, Sources.IsSource}}}
 use Rattle.run_law.proofs.runs.Grow.{move_mark}
 
 -- nothing is to come
-pub none_coming : {C M : Type 0} {reading : C → ℕ → ℕ} {stands : M → Network → DeviceId → Node → Type 0}
+pub none_coming : {C M : Type 0} {reading : C → ℕ → ℕ} {stands : Meaning M}
     {s : Scenario} {world : World C M} {notes : List Note} → Stands reading stands s world notes → world.early ≡ true
     → world.settled ≡ []
 none_coming {s} {world} {notes} old early =
@@ -22,8 +22,8 @@ sooner t now k ws (inl lt) high = lt
 sooner t now k ws (inr (e, inl few)) high = absurd (omega (arith, few, high))
 sooner t now k ws (inr (e, inr (same, none))) high = absurd none
 
-module _ {C M : Type 0} (reading : C → ℕ → ℕ) (stands : M → Network → DeviceId → Node → Type 0) (s : Scenario) (world : World C M) (notes : List Note)
-    (old : Stands reading stands s world notes) (early : world.early ≡ true) where
+module _ {C M : Type 0} {reading : C → ℕ → ℕ} {stands : Meaning M} {s : Scenario} {world : World C M}
+    {notes : List Note} (old : Stands reading stands s world notes) (early : world.early ≡ true) where
   hs : List Happening
   hs = happenings s.network notes
 
@@ -43,26 +43,26 @@ module _ {C M : Type 0} (reading : C → ℕ → ℕ) (stands : M → Network �
   by_time t k ws high b = past t (k ∷ ws) (sooner t world.now k ws b high)
 
   -- so is each source that is before the place behind the events
-  worked : (w : List ℕ) → IsSource s hs w → IsBefore w (world.now ∷ 2 ∷ []) → IsBefore w old.frontier
+  worked : {w : List ℕ} → IsSource s hs w → IsBefore w (world.now ∷ 2 ∷ []) → IsBefore w old.frontier
   unfolding hs
-  worked w (IsSource.arriving t device link cause a) b = by_time t 2 (device.0 ∷ link.0 ∷ cause ∷ []) (omega arith) b
-  worked w (IsSource.ripening t device link cause point r) b = by_time t 3 (device.0 ∷ amount point ∷ r.frame.members.0 ∷ link.0 ∷ cause ∷ []) (omega arith) b
-  worked w (IsSource.acting t device task a) b =
+  worked (IsSource.arriving t device link cause a) b = by_time t 2 (device.0 ∷ link.0 ∷ cause ∷ []) (omega arith) b
+  worked (IsSource.ripening t device link cause point r) b = by_time t 3 (device.0 ∷ amount point ∷ r.frame.members.0 ∷ link.0 ∷ cause ∷ []) (omega arith) b
+  worked (IsSource.acting t device task a) b =
       let p = placed_so s.network t device task in
       let late = p.late in
       subst (λ q. IsBefore q old.frontier) (sym p.is)
       (by_time t p.rank (device.0 ∷ p.rest) (omega (arith, late)) (subst (λ q. IsBefore q (world.now ∷ 2 ∷ [])) p.is b))
-  worked w (IsSource.departing t device link cause d) b = by_time t 8 (device.0 ∷ link.0 ∷ cause ∷ []) (omega arith) b
-  worked w (IsSource.following t cause h it) b = by_time t 2 [] (omega arith) b
-  worked w (IsSource.befalling time line what r) b =
+  worked (IsSource.departing t device link cause d) b = by_time t 8 (device.0 ∷ link.0 ∷ cause ∷ []) (omega arith) b
+  worked (IsSource.following t cause h it) b = by_time t 2 [] (omega arith) b
+  worked (IsSource.befalling time line what r) b =
       subst (λ (n : ℕ). IsBefore (n ∷ 1 ∷ []) old.frontier) (ap amount (sym r.at)) (told r.before r.event r.is)
-  worked w (IsSource.ending time device is there ends) b = by_time (amount time) 14 (device.0 ∷ []) (omega arith) b
+  worked (IsSource.ending time device is there ends) b = by_time (amount time) 14 (device.0 ∷ []) (omega arith) b
 
   nothing : NoneDueBefore place_of (IsDue s) old.frontier hs (world.now ∷ 2 ∷ [])
   unfolding hs
   nothing y due not here =
       let from = sourced s hs y due in
-      let is_worked = worked from.place from.source (source_before from.place (place_of y) (world.now ∷ 2 ∷ []) from.no_later here) in
+      let is_worked = worked from.source (source_before from.place (place_of y) (world.now ∷ 2 ∷ []) from.no_later here) in
       let are = subst (λ l. AreComing s hs l old.frontier world.now) (none_coming old early) old.are in
       (are.full [] [] y refl (λ n i. absurd i) (λ n i. absurd i) not
       (subst (λ l. IsDueAs s l y) (sym (append-nil hs)) (record { same = due.same; begun = due.begun; cause = due.cause }))
@@ -79,6 +79,6 @@ module _ {C M : Type 0} (reading : C → ℕ → ℕ) (stands : M → Network �
 
 -- so of a world that stands for events and records
 pub runs_behind_events : {C M : Type 0} (fresh : ℕ → C) (after_step : C → ℕ → ℤ → C) (reading : C → ℕ → ℕ)
-    (stands : M → Network → DeviceId → Node → Type 0) → RunsBehindEvents fresh after_step reading stands
+    (stands : Meaning M) → RunsBehindEvents fresh after_step reading stands
 runs_behind_events fresh after_step reading stands network world events notes under early =
-    run_behind_events reading (keeps stands) (scenario network (reading_of fresh after_step reading network events) events) world notes under.is early
+    run_behind_events under.is early

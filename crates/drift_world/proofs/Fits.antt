@@ -7,15 +7,15 @@ use Rattle.{std.proofs.{Common.All, lemmas.Grind.elements}, world_state.specs.{L
 abbrev pub have_octets : Settled → Type 0
 have_octets z = HasItsOctets z.body z.octets
 
-pub all_put : (P : Settled → Type 0) (z : Settled) (old new : List Settled) (at : ℕ) → IsPutAt z old new at → P z → All P old → All P new
-all_put P z old new at put own all =
+pub all_put : (P : Settled → Type 0) {z : Settled} {old new : List Settled} {at : ℕ} → IsPutAt z old new at → P z → All P old → All P new
+all_put P put own all =
     let within = put.within in
     subst (All P) (sym put.is) (grind (arith, elements, own, all, within))
 
 pub all_put_some : (P : Settled → Type 0) (o : Option Settled) (old new : List Settled) → IsSomePut o old new
     → ((z : Settled) → o ≡ Some z → P z) → All P old → All P new
 all_put_some P None old new put own all = subst (All P) (sym put) all
-all_put_some P (Some z) old new put own all = all_put P z old new put.0 put.1 (own z refl) all
+all_put_some P (Some z) old new put own all = all_put P put.1 (own z refl) all
 
 -- the record of a frame that leaves a port needs no octets
 pub left_octets : (network : Network) (reading : ℕ) (cut : Bool) (e : AtPort) → have_octets (departed network reading cut e)
@@ -26,7 +26,7 @@ pub below_without : (number : ℕ) (old new : List (Entry Content)) (taken : Ent
     → AreBelow number new
 below_without number old new taken same below e there = below e (in_permuted _ _ e (IsPermutation-sym _ _ same) (inr there))
 
-module _ {C M : Type 0} (last_step : C → ℕ) (network : Network) (old : State C M) where
+module _ {C M : Type 0} {last_step : C → ℕ} {network : Network} {old : State C M} where
   -- each device and each link has its parts, where there are as many, and no clock has changed
   pub sized_so : (new : State C M) → IsSized last_step network old → new.clocks ≡ old.clocks
       → length new.machines.items ≡ length old.machines.items → new.broken ≡ old.broken → new.ups ≡ old.ups
@@ -59,9 +59,9 @@ module _ {C M : Type 0} (last_step : C → ℕ) (network : Network) (old : State
       }
 
   -- where only timers are set anew it is as sound as it was
-  pub sound_timers : (new : State C M) → new ≡ record old { timers = new.timers } → IsSound last_step network old
+  pub sound_timers : {new : State C M} → new ≡ record old { timers = new.timers } → IsSound last_step network old
       → IsSound last_step network new
-  sound_timers new same is =
+  sound_timers {new} same is =
       subst (λ s. IsSound last_step network s) (sym same)
       (sound_same (record old { timers = new.timers })
       is refl refl refl refl refl refl refl refl refl refl is.fit.octets)

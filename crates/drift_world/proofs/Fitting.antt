@@ -47,7 +47,7 @@ apart_kept q (x ∷ xs) apart =
       | false ↦ rest
     ]
 
-module _ (number : ℕ) (one : Waits) (old new : List Waits) (more : IsPermutation (one ∷ old) new)
+module _ {number : ℕ} (one : Waits) (old new : List Waits) (more : IsPermutation (one ∷ old) new)
     (cause : one.cause ≡ number) (all : All (λ w. w.cause < number) old) where
   -- one more with a greater cause
   pub apart_more : AreApart old → AreApart new

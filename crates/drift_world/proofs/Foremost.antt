@@ -1,6 +1,6 @@
 -- What comes first of all that a state has under way.
 use Rattle.{drift_world.proofs.Sources.{due_ranks, due_time, nothing_before}, world_state.specs.{declared.timers.Timer.Timer, timers.Times.{AreFrom, IsFirst as IsFirstDue}}}
-use Rattle.drift_world.proofs.Words.{◌+◌, ◌-◌, ◌<◌, ◌^◌, ◌∙◌, ◌∷◌, ◌≡◌, ◌≤◌, ◌⊎◌, AreFirsts, AreTimed, AreUnderWay, AtPort, Content, DeviceId, SlotTimer, DueAt}
+use Rattle.drift_world.proofs.Words.{◌+◌, ◌-◌, ◌<◌, ◌^◌, ◌∙◌, ◌∷◌, ◌≡◌, ◌≤◌, ◌⊎◌, AreFirsts, AreTimed, AreUnderWay, AtPort, Content, DeviceId, Meaning, SlotTimer, DueAt}
 use Rattle.drift_world.proofs.Words.{HasNothingBefore, IfSome, IsBefore, IsFirst, IsIn, IsRunning, IsWell, Kept, List, Network, Node, None, OnWire, Option}
 use Rattle.drift_world.proofs.Words.{Port, Some, Wire, [], ap, arith, at_port, both_ways, cases_lt, false, get_or_from_slice_get, inl, inr, is_given, keeps}
 use Rattle.drift_world.proofs.Words.{length, never, never_self, numbers_of, on_wire, rank_of, refl, slice_get-get_or, subst, sym, true, wire_at, wire_place, ℕ}
@@ -34,7 +34,7 @@ of_end until le (inr (e, b)) = b
 
 -- ---- nothing under way, and no timer, is past
 
-module _ {C M : Type 0} (reading : C → ℕ → ℕ) (stands : M → Network → DeviceId → Node → Type 0) (network : Network) (state : State C M)
+module _ {C M : Type 0} {reading : C → ℕ → ℕ} {stands : Meaning M} {network : Network} {state : State C M}
     (running : IsRunning reading stands network state) where
   -- no place before the present time is still to be worked off
   past : (p q : List ℕ) → p ≡ q → (IsBefore p running.is.frontier → ⊥) → IsBefore q (state.time ∷ []) → ⊥
@@ -75,13 +75,13 @@ module _ {C M : Type 0} (reading : C → ℕ → ℕ) (stands : M → Network �
   entries_later are e there = entry_later e e.content refl there (are.kinds e there)
 
   -- nor the first place
-  pub first_later : AreUnderWay network state.under_way.entries → (place : DueAt) → IsFirst state.under_way.entries place → state.time ≤ place.at
-  first_later are place first = subst (λ (p : DueAt). state.time ≤ p.at) first.at (entries_later are first.entry first.there)
+  pub first_later : AreUnderWay network state.under_way.entries → {place : DueAt} → IsFirst state.under_way.entries place → state.time ≤ place.at
+  first_later are first = subst (λ (p : DueAt). state.time ≤ p.at) first.at (entries_later are first.entry first.there)
 
   -- the node of a device's machine
-  pub node_of : (device : DeviceId) (machine : Kept M) → device.0 < length network.device → slice_get state.machines.items device.0 ≡ Some machine
+  pub node_of : (device : DeviceId) {machine : Kept M} → device.0 < length network.device → slice_get state.machines.items device.0 ≡ Some machine
       → (node : Node) × keeps stands machine network device node
-  node_of device machine of_it held =
+  node_of device {machine} of_it held =
       let s = running.s in
       let own = running.is.devices device (subst (λ (k : Network). device.0 < length k.device) running.is.same of_it) in
       let same : own.0 ≡ machine = let e : Some own.0 ≡ Some machine = sym own.1 ∙ held in cc in
@@ -92,9 +92,9 @@ module _ {C M : Type 0} (reading : C → ℕ → ℕ) (stands : M → Network �
       )
 
   -- where nothing is before a time, no timer is
-  pub timers_later : (t : ℕ) → t ≤ never → AreTimed reading stands network state → HasNothingBefore reading stands network state (t ∷ [])
+  pub timers_later : {t : ℕ} → t ≤ never → AreTimed reading stands network state → HasNothingBefore reading stands network state (t ∷ [])
       → AreFrom t state.timers
-  timers_later t most are has = λ k d lt.
+  timers_later {t} most are has = λ k d lt.
       let slots = are.sized in
       let now = are.later k d lt in
       let at = slice_get-get_or state.timers k d lt in
@@ -104,7 +104,7 @@ module _ {C M : Type 0} (reading : C → ℕ → ℕ) (stands : M → Network �
             elim (cases_lt k (length network.device)) [
               | inl low ↦
                   let timed = (are.each (record { 0 = k }) low).ripe in
-                  let is : (get_or state.timers k d).time ≡ timed.ripe = ap (λ (r : Timer). r.time)
+                  let is : (get_or state.timers k d).time ≡ timed.ripe = ap Timer.time
                   (get_or_from_slice_get state.timers k (record { time = timed.ripe; rank = 3 }) d timed.of_ripe) in
                   let w = timed.ripens.one (omega (arith, is, sooner, most)) in
                   absurd (has.waiting w.0 timed.clock w.1 (ap (λ (n : ℕ). slice_get state.clocks.items n) w.2 ∙ timed.of_clock) timed.ripe
@@ -114,10 +114,10 @@ module _ {C M : Type 0} (reading : C → ℕ → ℕ) (stands : M → Network �
                   let of_it : device.0 < length network.device = omega (arith, lt, slots, high) in
                   let timed = (are.each device of_it).act in
                   let slot : k ≡ length network.device + device.0 = omega (arith, high) in
-                  let is : (get_or state.timers k d).time ≡ timed.act = ap (λ (r : Timer). r.time)
+                  let is : (get_or state.timers k d).time ≡ timed.act = ap Timer.time
                   (get_or_from_slice_get state.timers k (record { time = timed.act; rank = part_rank timed.part }) d
                   (ap (λ (n : ℕ). slice_get state.timers n) slot ∙ timed.of_act)) in
-                  let node = node_of device timed.machine of_it timed.of_machine in
+                  let node = node_of device of_it timed.of_machine in
                   let task = timed.acts.one (omega (arith, is, sooner, most)) node.0 node.1 in
                   absurd (has.acting device timed.machine timed.clock node.0 task.0 timed.of_machine timed.of_clock node.1 task.1 timed.act
                   (omega (arith, is, now)) task.2 (inl (omega (arith, is, sooner))))
@@ -130,9 +130,9 @@ if_some : {X : Type 0} (P : X → Type 0) (o : Option X) → ((x : X) → o ≡ 
 if_some P None each = tt
 if_some P (Some x) each = each x refl
 
-pub from_some : {X : Type 0} (P : X → Type 0) (o : Option X) (x : X) → IfSome o P → o ≡ Some x → P x
-from_some P None x is e = absurd cc
-from_some {X} P (Some y) x is e = let same : y ≡ x = cc in subst P same is
+pub from_some : {X : Type 0} (P : X → Type 0) (o : Option X) {x : X} → IfSome o P → o ≡ Some x → P x
+from_some P None is e = absurd cc
+from_some {X} P (Some y) {x} is e = let same : y ≡ x = cc in subst P same is
 
 rank_is : (content : Content) → (rank_of content ≡ 2) ⊎ (rank_of content ≡ 8)
 rank_is (Wire signal) = inl refl
@@ -153,30 +153,30 @@ shape_of {network} {due} ranks (inl e) =
     record { rank = due.rank; rest = device_of_slot (length network.device) due.slot ∷ []; is = e; least = ranks.0; most = ranks.1 }
 shape_of ranks (inr r) = grind arith
 
-module _ {C M : Type 0} (last_step : C → ℕ) (reading : C → ℕ → ℕ) (stands : M → Network → DeviceId → Node → Type 0) (network : Network)
-    (state : State C M) (place : Option DueAt) (due : Option SlotTimer) (well : IsWell last_step reading stands network state)
-    (firsts : AreFirsts state place due) where
+module _ {C M : Type 0} {last_step : C → ℕ} {reading : C → ℕ → ℕ} {stands : Meaning M} {network : Network}
+    {state : State C M} {place : Option DueAt} {due : Option SlotTimer}
+    (well : IsWell last_step reading stands network state) (firsts : AreFirsts state place due) where
   abbrev now : ℕ
   now = state.time
 
-  first_is : (q : DueAt) → place ≡ Some q → IsFirst state.under_way.entries q
-  first_is q e = from_some (λ p. IsFirst state.under_way.entries p) place q firsts.some_place e
+  first_is : {q : DueAt} → place ≡ Some q → IsFirst state.under_way.entries q
+  first_is {q} e = from_some (λ p. IsFirst state.under_way.entries p) place firsts.some_place e
 
-  first_rank : (q : DueAt) → place ≡ Some q → (q.rank ≡ 2) ⊎ (q.rank ≡ 8)
-  first_rank q e =
-      let first = first_is q e in
+  first_rank : {q : DueAt} → place ≡ Some q → (q.rank ≡ 2) ⊎ (q.rank ≡ 8)
+  first_rank {q} e =
+      let first = first_is e in
       let kind = well.sound.under_way.kinds first.entry first.there in
-      let rank : q.rank ≡ rank_of first.entry.content = sym (ap (λ (p : DueAt). p.rank) first.at) ∙ kind in
+      let rank : q.rank ≡ rank_of first.entry.content = sym (ap DueAt.rank first.at) ∙ kind in
       elim (rank_is first.entry.content) [ inl two ↦ inl (rank ∙ two) | inr eight ↦ inr (rank ∙ eight) ]
 
-  place_later : (q : DueAt) → place ≡ Some q → now ≤ q.at
-  place_later q e = first_later reading stands network state well.running well.sound.under_way q (first_is q e)
+  place_later : {q : DueAt} → place ≡ Some q → now ≤ q.at
+  place_later {q} e = first_later well.running well.sound.under_way (first_is e)
 
-  due_later : (d : SlotTimer) → due ≡ Some d → now ≤ d.time
-  due_later d e = due_time reading stands network state d well.timed (from_some (λ x. IsFirstDue state.timers x) due d firsts.some_due e)
+  due_later : {d : SlotTimer} → due ≡ Some d → now ≤ d.time
+  due_later {d} e = due_time well.timed (from_some (λ x. IsFirstDue state.timers x) due firsts.some_due e)
 
-  due_ranks_are : (d : SlotTimer) → due ≡ Some d → (3 ≤ d.rank) × (d.rank ≤ 6)
-  due_ranks_are d e = due_ranks reading stands network state d well.timed (from_some (λ x. IsFirstDue state.timers x) due d firsts.some_due e)
+  due_ranks_are : {d : SlotTimer} → due ≡ Some d → (3 ≤ d.rank) × (d.rank ≤ 6)
+  due_ranks_are {d} e = due_ranks well.timed (from_some (λ x. IsFirstDue state.timers x) due firsts.some_due e)
 
   -- none is before the place, where each is so
   are_not : (p : List ℕ) → (IsBefore ((2 ^ 60 + 1) ∷ []) p → ⊥)
@@ -188,9 +188,9 @@ module _ {C M : Type 0} (last_step : C → ℕ) (reading : C → ℕ → ℕ) (s
       nothing_before {p = p} well.sound.sized well.timed firsts
       (record {
         in_time = in_time;
-        under_way = if_some (λ (q : DueAt). IsBefore (numbers_of q) p → ⊥) place (λ q e. places q e (place_later q e) (first_rank q e));
+        under_way = if_some (λ (q : DueAt). IsBefore (numbers_of q) p → ⊥) place (λ q e. places q e (place_later e) (first_rank e));
         timers = if_some (λ (d : SlotTimer). (IsBefore (due_place (length network.device) d) p → ⊥) ⊎ IsRipePlace reading network state d p) due
-            (λ d e. dues d e (due_later d e));
+            (λ d e. dues d e (due_later e));
         befell = befell;
         clocks = clocks;
       })
@@ -218,15 +218,15 @@ module _ {C M : Type 0} (last_step : C → ℕ) (reading : C → ℕ → ℕ) (s
       are_not (now ∷ 2 ∷ []) (of_run now (2 ∷ []) well.sound.sized.limit)
       (λ q e le rank. not_earlier q.at now (q.rank ∷ q.device ∷ q.link ∷ q.cause ∷ []) (2 ∷ []) le
       (λ same. not_first q.rank 2 (q.device ∷ q.link ∷ q.cause ∷ []) (elim rank [ inl two ↦ omega (arith, two) | inr eight ↦ omega (arith, eight) ])))
-      (λ d e le. inl (after_lower 2 [] d (omega arith) (due_ranks_are d e).0 le))
+      (λ d e le. inl (after_lower 2 [] d (omega arith) (due_ranks_are e).0 le))
       (λ yes. never_self (now ∷ 2 ∷ []))
       (λ ended more. clocks_after 2 [] (omega arith))
 
   -- what is the first that is under way, and there now
-  placed_first : (q : DueAt) (rank : ℕ) → rank < 14 → state.pending ≡ false → place ≡ Some q → q.at ≡ state.time → q.rank ≡ rank
+  placed_first : {q : DueAt} {rank : ℕ} → rank < 14 → state.pending ≡ false → place ≡ Some q → q.at ≡ state.time → q.rank ≡ rank
       → ((d : SlotTimer) → due ≡ Some d → now ≤ d.time → IsBefore (due_place (length network.device) d) (now ∷ rank ∷ q.device ∷ q.link ∷ q.cause ∷ []) → ⊥)
       → HasNothingBefore reading stands network state (numbers_of q)
-  placed_first q rank lt calm is at of_rank dues =
+  placed_first {q} {rank} lt calm is at of_rank dues =
       let rest : List ℕ = q.device ∷ q.link ∷ q.cause ∷ [] in
       let same : now ∷ rank ∷ rest ≡ numbers_of q = ap (λ (n : ℕ). n ∷ rank ∷ rest) (sym at) ∙ ap (λ (n : ℕ). q.at ∷ n ∷ rest) (sym of_rank) in
       subst (HasNothingBefore reading stands network state) same
@@ -238,17 +238,17 @@ module _ {C M : Type 0} (last_step : C → ℕ) (reading : C → ℕ → ℕ) (s
       (λ d e le. inl (dues d e le)) (none_befell (now ∷ rank ∷ rest) calm) (λ ended more. clocks_after rank rest lt))
 
   -- what arrives now
-  pub arrival_first : (q : DueAt) → state.pending ≡ false → place ≡ Some q → q.at ≡ state.time → q.rank ≡ 2
+  pub arrival_first : {q : DueAt} → state.pending ≡ false → place ≡ Some q → q.at ≡ state.time → q.rank ≡ 2
       → HasNothingBefore reading stands network state (numbers_of q)
-  arrival_first q calm is at rank =
-      placed_first q 2 (omega arith) calm is at rank (λ d e le. after_lower 2 (q.device ∷ q.link ∷ q.cause ∷ []) d (omega arith) (due_ranks_are d e).0 le)
+  arrival_first {q} calm is at rank =
+      placed_first (omega arith) calm is at rank (λ d e le. after_lower 2 (q.device ∷ q.link ∷ q.cause ∷ []) d (omega arith) (due_ranks_are e).0 le)
 
   -- what is due by a timer now
   pub slot_first : (d : SlotTimer) (p : List ℕ) → state.pending ≡ false → IfSome place (λ q. q.at ≡ state.time → q.rank ≡ 2 → ⊥) → due ≡ Some d
       → d.time ≡ state.time → (p ≡ due_place (length network.device) d) ⊎ IsRipePlace reading network state d p
       → HasNothingBefore reading stands network state p
   slot_first d p calm no_arrival is at of_slot =
-      let shape = shape_of (due_ranks_are d is) of_slot in
+      let shape = shape_of (due_ranks_are is) of_slot in
       let rank = shape.rank in
       let least = shape.least in
       let most = shape.most in
@@ -259,7 +259,7 @@ module _ {C M : Type 0} (last_step : C → ℕ) (reading : C → ℕ → ℕ) (s
       (not_earlier q.at now (q.rank ∷ q.device ∷ q.link ∷ q.cause ∷ []) (rank ∷ shape.rest) le
       (λ same. higher q.rank rank (q.device ∷ q.link ∷ q.cause ∷ []) shape.rest
       (elim either [
-        | inl two ↦ absurd (from_some (λ (x : DueAt). x.at ≡ state.time → x.rank ≡ 2 → ⊥) place q no_arrival e same two)
+        | inl two ↦ absurd (from_some (λ (x : DueAt). x.at ≡ state.time → x.rank ≡ 2 → ⊥) place no_arrival e same two)
         | inr eight ↦ omega (arith, eight, most)
       ]))))
       (λ x e le.
@@ -277,8 +277,8 @@ module _ {C M : Type 0} (last_step : C → ℕ) (reading : C → ℕ → ℕ) (s
   pub departure_first : (q : DueAt) → state.pending ≡ false → IfSome due (λ d. d.time ≡ state.time → ⊥) → place ≡ Some q → q.at ≡ state.time → q.rank ≡ 8
       → HasNothingBefore reading stands network state (numbers_of q)
   departure_first q calm no_due is at rank =
-      placed_first q 8 (omega arith) calm is at rank
-      (λ d e le. after_now (8 ∷ q.device ∷ q.link ∷ q.cause ∷ []) d (from_some (λ (x : SlotTimer). x.time ≡ state.time → ⊥) due d no_due e) le)
+      placed_first (omega arith) calm is at rank
+      (λ d e le. after_now (8 ∷ q.device ∷ q.link ∷ q.cause ∷ []) d (from_some (λ (x : SlotTimer). x.time ≡ state.time → ⊥) due no_due e) le)
 
   -- the clock that is to be shown
   pub clock_first : state.pending ≡ false → IfSome place (λ q. q.at ≡ state.time → q.rank ≡ 2 → ⊥) → IfSome due (λ d. d.time ≡ state.time → ⊥)
@@ -287,10 +287,10 @@ module _ {C M : Type 0} (last_step : C → ℕ) (reading : C → ℕ → ℕ) (s
       are_not (now ∷ 14 ∷ state.shown ∷ []) (of_run now (14 ∷ state.shown ∷ []) well.sound.sized.limit)
       (λ q e le either. not_earlier q.at now (q.rank ∷ q.device ∷ q.link ∷ q.cause ∷ []) (14 ∷ state.shown ∷ []) le
       (λ same. elim either [
-        | inl two ↦ absurd (from_some (λ (x : DueAt). x.at ≡ state.time → x.rank ≡ 2 → ⊥) place q no_arrival e same two)
-        | inr eight ↦ absurd (from_some (λ (x : DueAt). x.at ≡ state.time → x.rank ≡ 8 → ⊥) place q no_departure e same eight)
+        | inl two ↦ absurd (from_some (λ (x : DueAt). x.at ≡ state.time → x.rank ≡ 2 → ⊥) place no_arrival e same two)
+        | inr eight ↦ absurd (from_some (λ (x : DueAt). x.at ≡ state.time → x.rank ≡ 8 → ⊥) place no_departure e same eight)
       ]))
-      (λ d e le. inl (after_now (14 ∷ state.shown ∷ []) d (from_some (λ (x : SlotTimer). x.time ≡ state.time → ⊥) due d no_due e) le))
+      (λ d e le. inl (after_now (14 ∷ state.shown ∷ []) d (from_some (λ (x : SlotTimer). x.time ≡ state.time → ⊥) due no_due e) le))
       (none_befell (now ∷ 14 ∷ state.shown ∷ []) calm)
       (λ ended more. never_self (now ∷ 14 ∷ state.shown ∷ []))
 
@@ -300,14 +300,14 @@ module _ {C M : Type 0} (last_step : C → ℕ) (reading : C → ℕ → ℕ) (s
   place_after no_arrival no_departure =
       if_some (λ (q : DueAt). state.time < q.at) place
       (λ q e.
-      let le = place_later q e in
+      let le = place_later e in
       elim (cases_lt now q.at) [
         | inl lt ↦ lt
         | inr ge ↦
             let same : q.at ≡ state.time = omega (arith, le, ge) in
-            elim (first_rank q e) [
-              | inl two ↦ absurd (from_some (λ (x : DueAt). x.at ≡ state.time → x.rank ≡ 2 → ⊥) place q no_arrival e same two)
-              | inr eight ↦ absurd (from_some (λ (x : DueAt). x.at ≡ state.time → x.rank ≡ 8 → ⊥) place q no_departure e same eight)
+            elim (first_rank e) [
+              | inl two ↦ absurd (from_some (λ (x : DueAt). x.at ≡ state.time → x.rank ≡ 2 → ⊥) place no_arrival e same two)
+              | inr eight ↦ absurd (from_some (λ (x : DueAt). x.at ≡ state.time → x.rank ≡ 8 → ⊥) place no_departure e same eight)
             ]
       ])
 
@@ -315,16 +315,16 @@ module _ {C M : Type 0} (last_step : C → ℕ) (reading : C → ℕ → ℕ) (s
   due_after no_due =
       if_some (λ (d : SlotTimer). state.time < d.time) due
       (λ d e.
-      let le = due_later d e in
+      let le = due_later e in
       elim (cases_lt now d.time) [
         | inl lt ↦ lt
-        | inr ge ↦ absurd (from_some (λ (x : SlotTimer). x.time ≡ state.time → ⊥) due d no_due e (omega (arith, le, ge)))
+        | inr ge ↦ absurd (from_some (λ (x : SlotTimer). x.time ≡ state.time → ⊥) due no_due e (omega (arith, le, ge)))
       ])
 
   -- the first that is under way is at this place of the network
-  pub placed : (q : DueAt) → place ≡ Some q → (q.device < length network.device) × (q.link < length network.link)
-  placed q e =
-      let first = first_is q e in
+  pub placed : {q : DueAt} → place ≡ Some q → (q.device < length network.device) × (q.link < length network.link)
+  placed {q} e =
+      let first = first_is e in
       subst (λ (p : DueAt). (p.device < length network.device) × (p.link < length network.link)) first.at (well.sound.under_way.placed first.entry first.there)
 
   -- nothing before a time
@@ -332,8 +332,8 @@ module _ {C M : Type 0} (last_step : C → ℕ) (reading : C → ℕ → ℕ) (s
       → IfSome place (λ q. t ≤ q.at) → IfSome due (λ d. t ≤ d.time) → HasNothingBefore reading stands network state (t ∷ [])
   none_before t most calm no_clock places dues =
       are_not (t ∷ []) (of_end t most)
-      (λ q e le either. not_first q.at t (q.rank ∷ q.device ∷ q.link ∷ q.cause ∷ []) (from_some (λ (x : DueAt). t ≤ x.at) place q places e))
+      (λ q e le either. not_first q.at t (q.rank ∷ q.device ∷ q.link ∷ q.cause ∷ []) (from_some (λ (x : DueAt). t ≤ x.at) place places e))
       (λ d e le. inl (not_first d.time t (d.rank ∷ device_of_slot (length network.device) d.slot ∷ [])
-      (from_some (λ (x : SlotTimer). t ≤ x.time) due d dues e)))
+      (from_some (λ (x : SlotTimer). t ≤ x.time) due dues e)))
       (none_befell (t ∷ []) calm)
       (λ ended more. absurd (no_clock ended more))

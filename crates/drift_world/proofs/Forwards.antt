@@ -15,11 +15,11 @@ abbrev IsSome1 : Option ℕ → Type 0
 IsSome1 None = Unit {0}
 IsSome1 (Some n) = 1 ≤ n
 
-wire_is : (network : Network) (link other : LinkId) (l : Link) (way turned : Way) (delay : Units) (before : List Event) (event : Event)
+wire_is : (network : Network) (link other : LinkId) {l : Link} (way turned : Way) (delay : Units) (before : List Event) (event : Event)
     → link_at network link ≡ Some l → pos 1 ≤ℤ l.wire.0 → IsWithinHypothesis network before event → event.what ≡ events.Wire other turned delay
     → (b : Bool) → is_way_of link way other turned ≡ b → IsSome1 (if b then Some (amount delay) else None)
-wire_is network link other l way turned delay before event there least within what false e = tt
-wire_is network link other l way turned delay before event there least within what true e =
+wire_is network link other way turned delay before event there least within what false e = tt
+wire_is network link other {l} way turned delay before event there least within what true e =
     let same : link.0 ≡ other.0 = eqb-true link.0 other.0 (and_parts (link.0 == other.0) (is_way way turned) e).0 in
     let at : link_at network other ≡ Some l = subst (λ (n : ℕ). link_at network (record { 0 = n }) ≡ Some l) same there in
     elim (cases_lt (amount delay) 1) [
@@ -34,12 +34,12 @@ wire_is network link other l way turned delay before event there least within wh
       }))
     ]
 
-wire_kept : (network : Network) (link : LinkId) (l : Link) (way : Way) (before : List Event) (event : Event) → link_at network link ≡ Some l
+wire_kept : (network : Network) (link : LinkId) {l : Link} (way : Way) (before : List Event) (event : Event) → link_at network link ≡ Some l
     → pos 1 ≤ℤ l.wire.0 → IsWithinHypothesis network before event → (what : What) → event.what ≡ what → IsSome1 (wire_set link way what)
-wire_kept network link l way before event there least within (events.Wire other turned delay) same =
-    wire_is network link other l way turned delay before event there least within same (is_way_of link way other turned) refl
-wire_kept network link l way before event there least within (events.Rate device rate) same = tt
-wire_kept network link l way before event there least within other same = tt
+wire_kept network link {l} way before event there least within (events.Wire other turned delay) same =
+    wire_is network link other way turned delay before event there least within same (is_way_of link way other turned) refl
+wire_kept network link way before event there least within (events.Rate device rate) same = tt
+wire_kept network link way before event there least within other same = tt
 
 -- ---- the last that is set
 
@@ -71,7 +71,7 @@ forward {network} f all range within link way device t receives = of (link_at ne
         let set = λ (e : Event). wire_set link way e.what in
         let each : (e : Event) → IsIn e (events_up_to (scenario network f all) t) → IsSome1 (set e) = λ e i.
         let at = parted e all (in_filter (λ (d : Event). nat_le (amount d.time) t) all e i) in
-        wire_kept network link l way at.0 e there least (within at.0 at.1 e at.2) e.what refl in
+        wire_kept network link way at.0 e there least (within at.0 at.1 e at.2) e.what refl in
         let nominal : wire_of network link ≡ amount l.wire = ap (λ (o : Option Link). option_map_or (λ (k : Link). amount k.wire) o 0) there in
         unwrapped (last_or None (filter_map set (events_up_to (scenario network f all) t))) (wire_of network link)
         (last_kept set (events_up_to (scenario network f all) t) None tt each) (omega (arith, ints, nominal, least))

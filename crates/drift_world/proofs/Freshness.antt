@@ -1,8 +1,8 @@
 -- A world as it is at first is sound, and it stands.
 use Rattle.{drift_world.proofs.Beginnings.{first_ways_are, found, found_in, none_under_way}, world_law.proofs.steps_lemmas.steps.Beginnings.begun}
 use Rattle.{drift_world.proofs.{Fitting.none_apart, Forwards.forward, Steadiness.steady}, world_state.specs.{Beginning.first_way, Keeping.sound_one}}
-use Rattle.drift_world.proofs.Words.{◌++◌, ◌+◌, ◌<◌, ◌∙◌, ◌∷◌, ◌≡◌, AreApart, AreBelow, AreUnderWay, AreWays, AreWithinHypothesis, DeviceId, HasItsOctets}
-use Rattle.drift_world.proofs.Words.{IsInRange, IsLawful, IsLinkInRange, IsOfNetwork, IsShort, IsSound, KeepsRules, List, Network, Node, Settled, StandsUnder}
+use Rattle.drift_world.proofs.Words.{◌++◌, ◌+◌, ◌<◌, ◌∙◌, ◌∷◌, ◌≡◌, AreApart, AreBelow, AreUnderWay, AreWays, AreWithinHypothesis, HasItsOctets}
+use Rattle.drift_world.proofs.Words.{IsInRange, IsLawful, IsLinkInRange, IsOfNetwork, IsShort, IsSound, KeepsRules, List, Meaning, Network, Settled, StandsUnder}
 use Rattle.drift_world.proofs.Words.{Waits, [], amount, ap, arith, at_port, begins_at_zero, in_all, ints, keeps, keeps_clock_laws, length, length-map, map}
 use Rattle.drift_world.proofs.Words.{on_wire, one, reading_of, refl, scenario, slice_get-get_or, slice_get-map, subst, sym, way_as, world_of, ℕ, ℤ}
 use Rattle.{drift_world.specs.{Beginning.{AreFresh, IsFirstState}, declared.state.State.State}, std.proofs.Common.{All, filter_map, slice_get}}
@@ -17,7 +17,7 @@ none_within network before behind e order = absurd (from before order)
     from [] same = cc
     from (x ∷ l) same = cc
 
-module _ {C M : Type 0} (fresh : ℕ → C) (last_step : C → ℕ) (network : Network) (machines : List M) (state : State C M)
+module _ {C M : Type 0} {fresh : ℕ → C} {last_step : C → ℕ} {network : Network} {machines : List M} {state : State C M}
     (first : IsFirstState fresh last_step network machines state) where
   ways_short : IsInRange network → All IsShort (map first_way network.link)
   ways_short range k d lt =
@@ -54,8 +54,8 @@ module _ {C M : Type 0} (fresh : ℕ → C) (last_step : C → ℕ) (network : N
     };
   }
 
-  module _ (after_step : C → ℕ → ℤ → C) (reading : C → ℕ → ℕ) (grain : C → ℕ) (count : C → ℕ → ℕ) (law : IsLawful fresh after_step reading grain count)
-      (stands : M → Network → DeviceId → Node → Type 0) (are : AreFresh stands network machines) (range : IsInRange network) (rules : KeepsRules network) where
+  module _ {after_step : C → ℕ → ℤ → C} {reading : C → ℕ → ℕ} {grain : C → ℕ} {count : C → ℕ → ℕ} (law : IsLawful fresh after_step reading grain count)
+      {stands : Meaning M} (are : AreFresh stands network machines) (range : IsInRange network) (rules : KeepsRules network) where
     stood : Stands reading (keeps stands) (scenario network (reading_of fresh after_step reading network []) [])
         (world_of network state) []
     stood =

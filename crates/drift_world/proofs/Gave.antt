@@ -36,7 +36,7 @@ pub record IsOnWire (network : Network) (number : ℕ) (e : Entry Content) : Typ
   pub link : e.place.link < length network.link
   pub cause : e.place.cause ≡ number
 
-module _ (network : Network) (ups downs : List WayState) (range : IsInRange network) (number : ℕ) where
+module _ {network : Network} (ups downs : List WayState) (range : IsInRange network) (number : ℕ) where
   placed : (f : DueAt → Entry Content) → ((p : DueAt) → (f p).place ≡ p) → ((p : DueAt) → rank_of (f p).content ≡ 2)
       → (device : DeviceId) (link : LinkId) (time on_port : ℕ)
       → IfSome (option_map f (place_on_wire network ups downs device link time on_port number)) (IsOnWire network number)
@@ -60,13 +60,13 @@ module _ (network : Network) (ups downs : List WayState) (range : IsInRange netw
             cause = number;
           } in
           record {
-            two = ap (λ (q : DueAt). q.rank) (same p);
+            two = ap DueAt.rank (same p);
             kind = kind p;
             device = subst (λ (q : DueAt). q.device < length network.device) (sym (same p))
                 (receiver_in network (way_from network device link) link (link_at network link) receiver refl range is);
             link = subst (λ (q : DueAt). q.link < length network.link) (sym (same p))
-                (link_within network.link link.0 (way_from network device link) (link_at network link) receiver refl is);
-            cause = ap (λ (q : DueAt). q.cause) (same p);
+                (link_within network.link link.0 (way_from network device link) (link_at network link) refl is);
+            cause = ap DueAt.cause (same p);
           }
 
   pub wire_is : (body : NoteBody) (frame : Option Pcf) (octets : Option Timed) (time : ℕ)
@@ -147,20 +147,20 @@ pub waits_more : {C M : Type 0} {reading : C → ℕ → ℕ} {network : Network
 waits_more None out = inl out.no_wait
 waits_more (Some g) out = grind (arith, one_more, awaited_so)
 
-waits_at : (number : ℕ) (xs ys : List Waits) → ys ≡ xs → All (λ w. w.cause < number) xs → All (λ w. w.cause < number + 1) ys
-waits_at number xs ys is all = subst (λ (l : List Waits). All (λ w. w.cause < number + 1) l) (sym is)
+waits_at : (number : ℕ) {xs ys : List Waits} → ys ≡ xs → All (λ w. w.cause < number) xs → All (λ w. w.cause < number + 1) ys
+waits_at number {xs} is all = subst (λ (l : List Waits). All (λ w. w.cause < number + 1) l) (sym is)
     (All-weaker (λ (w : Waits). w.cause < number) (λ (w : Waits). w.cause < number + 1) (λ w lt. omega (arith, lt)) xs all)
 
 module _ (body : NoteBody) (number : ℕ) (old new : List Waits) where
   pub waits_below : (new ≡ old) ⊎ HasOneMore body number old new → All (λ w. w.cause < number) old
       → All (λ w. w.cause < number + 1) new
-  waits_below (inl same) all = waits_at number old new same all
-  waits_below (inr more) all = below_one_more number more.one old new more.is more.cause all
+  waits_below (inl same) all = waits_at number same all
+  waits_below (inr more) all = below_one_more more.one old new more.is more.cause all
 
   pub waits_apart : (new ≡ old) ⊎ HasOneMore body number old new → All (λ w. w.cause < number) old → AreApart old
       → AreApart new
   waits_apart (inl same) all apart = subst AreApart (sym same) apart
-  waits_apart (inr more) all apart = apart_more number more.one old new more.is more.cause all apart
+  waits_apart (inr more) all apart = apart_more more.one old new more.is more.cause all apart
 
   -- of other devices the same frames wait
   pub waits_elsewhere : (new ≡ old) ⊎ HasOneMore body number old new → (w : Waits)
@@ -185,12 +185,12 @@ with_first network state first = record (world_of network state) {
 }
 
 -- the world of a state whose first settled record is taken out
-pub popped_world : {C M : Type 0} (network : Network) (old new : State C M) (first : Settled)
+pub popped_world : {C M : Type 0} (network : Network) (old new : State C M) {first : Settled}
     → new.under_way.entries ≡ old.under_way.entries → new.waiting.items ≡ old.waiting.items → new.stored.items ≡ old.stored.items
     → old.settled.items ≡ first ∷ new.settled.items
     → new ≡ record old { under_way = new.under_way; waiting = new.waiting; stored = new.stored; settled = new.settled }
     → with_first network new first ≡ world_of network old
-popped_world {C} {M} network old new first entries waiting stored settled same =
+popped_world {C} {M} network old new entries waiting stored settled same =
     grind (arith, world_of, on_wire, at_port, map, waiting_as, stored_as, settled_at, with_first)
 
 -- what the timers are for changes as it did since then

@@ -48,15 +48,15 @@ module _ {C : Type 0} (M : Type 0) (reading : C → ℕ → ℕ) (s : Scenario) 
       let number = length notes + 1 in
       let x : Happening =
       happening s.network (happenings s.network notes) (next_note notes state.time first.body) in
-      let frame : x.frame ≡ first.frame = sym (ap (λ (h : Happening). h.frame) own) in
-      let octets : x.octets ≡ octets_in s.network first.octets = sym (ap (λ (h : Happening). h.octets) own) in
+      let frame : x.frame ≡ first.frame = sym (ap Happening.frame own) in
+      let octets : x.octets ≡ octets_in s.network first.octets = sym (ap Happening.octets own) in
       let of : IsOf reading s s.network state =
       record { same = refl; clocks = next.clocks; broken = next.broken; ways = next.ways } in
       let given_out_so = subst (λ f. IsGivenOut reading s.network state after first.body f number giving) (sym frame) out in
       let both = given_out x giving of next.range refl (λ d by no. may.framed d by (sym frame ∙ no)) may.arrived
       given_out_so in
-      let put = puts s state.time state.ups.items state.downs.items next.ways x number refl after.under_way.entries
-      entries first.body first.frame first.octets
+      let put = puts state.ups.items state.downs.items next.ways x number refl after.under_way.entries
+      entries first.body first.octets
       refl
       may.with_octets frame octets sent in
       record {
@@ -74,5 +74,5 @@ module _ {C : Type 0} (M : Type 0) (reading : C → ℕ → ℕ) (s : Scenario) 
       }
 
   -- and so it is on the scenario's network, by whatever name
-  pub launched_on : (network : Network) → s.network ≡ network → LaunchesOn M reading s network
-  launched_on network same = subst (LaunchesOn M reading s) same launched_so
+  pub launched_on : {network : Network} → s.network ≡ network → LaunchesOn M reading s network
+  launched_on same = subst (LaunchesOn M reading s) same launched_so

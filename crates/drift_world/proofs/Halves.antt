@@ -1,5 +1,5 @@
 -- The two timers of a device, each by itself.
-use Rattle.drift_world.proofs.Words.{◌+◌, ◌<◌, ◌↔◌, ◌∙◌, ◌≡◌, DeviceId, IsIn, IsTimed, List, Network, Node, Waits, ap, arith, inl, inr, length, subst, sym, ℕ}
+use Rattle.drift_world.proofs.Words.{◌+◌, ◌<◌, ◌↔◌, ◌∙◌, ◌≡◌, DeviceId, IsIn, IsTimed, List, Meaning, Network, Waits, ap, arith, inl, inr, length, subst, sym, ℕ}
 use Rattle.drift_world.specs.{Stepping.{ActsAt, IsActTimed, IsRekeyed, IsRipeAt, IsRipeTimed, SetsOnly}, declared.state.State.State}
 use Rattle.{std.proofs.Common.slice_get, world_state.specs.declared.timers.Timer.Timer}
 
@@ -9,8 +9,8 @@ pub waits_as : {C M : Type 0} (old new : State C M) → new.waiting ≡ old.wait
 waits_as old new same w =
     subst (λ (f : _). IsIn w f.items ↔ IsIn w old.waiting.items) (sym same) ((λ there. there), (λ there. there))
 
-module _ {C M : Type 0} (reading : C → ℕ → ℕ) (stands : M → Network → DeviceId → Node → Type 0) (network : Network) (old new : State C M)
-    (device : DeviceId) where
+module _ {C M : Type 0} {reading : C → ℕ → ℕ} (stands : Meaning M) (network : Network) (old new : State C M)
+    {device : DeviceId} where
   -- one stays right, where what it is for does
   pub ripe_stays : IsRipeTimed reading old.timers old device → new.clocks ≡ old.clocks → new.time ≡ old.time
       → ((w : Waits) → w.device.0 ≡ device.0 → IsIn w new.waiting.items ↔ IsIn w old.waiting.items)
@@ -40,8 +40,8 @@ module _ {C M : Type 0} (reading : C → ℕ → ℕ) (stands : M → Network �
     acts = subst (λ n. ActsAt reading stands network is.clock is.machine device n is.act is.part) (sym time) is.acts;
   }
 
-module _ {C M : Type 0} (reading : C → ℕ → ℕ) (stands : M → Network → DeviceId → Node → Type 0) (network : Network) (old mid new : State C M)
-    (device : DeviceId) where
+module _ {C M : Type 0} {reading : C → ℕ → ℕ} {stands : Meaning M} {network : Network} {old mid new : State C M}
+    {device : DeviceId} where
   -- one is set, and then the other
   pub set_both : device.0 < length network.device → IsRipeTimed reading mid.timers mid device → SetsOnly (λ slot. slot ≡ device.0) old mid
       → IsActTimed reading stands network new.timers new device → SetsOnly (λ slot. slot ≡ length network.device + device.0) mid new
@@ -54,8 +54,8 @@ module _ {C M : Type 0} (reading : C → ℕ → ℕ) (stands : M → Network �
       later = λ all. then.later (first.later all);
     };
     timed = record {
-      ripe = ripe_stays reading stands network mid new device ripe (ap (λ (t : State C M). t.clocks) then.same) (ap (λ (t : State C M). t.time) then.same)
-          (λ w at. waits_as mid new (ap (λ (t : State C M). t.waiting) then.same) w)
+      ripe = ripe_stays stands network mid new ripe (ap State.clocks then.same) (ap State.time then.same)
+          (λ w at. waits_as mid new (ap State.waiting then.same) w)
           (then.others device.0 (λ e. omega (arith, e, there)));
       act = act;
     };
@@ -71,8 +71,8 @@ module _ {C M : Type 0} (reading : C → ℕ → ℕ) (stands : M → Network �
   set_act there was clocks time waiting timers act sets = record {
     sets = record { same = sets.same; sized = sets.sized; others = λ slot apart. sets.others slot (λ e. apart (inr e)); later = sets.later };
     timed = record {
-      ripe = ripe_stays reading stands network old new device was.ripe (ap (λ (t : State C M). t.clocks) sets.same ∙ clocks)
-          (ap (λ (t : State C M). t.time) sets.same ∙ time)
+      ripe = ripe_stays stands network old new was.ripe (ap State.clocks sets.same ∙ clocks)
+          (ap State.time sets.same ∙ time)
           (λ w at. subst (λ (t : State C M). IsIn w t.waiting.items ↔ IsIn w old.waiting.items) (sym sets.same)
           (waiting w at))
           (sets.others device.0 (λ e. omega (arith, e, there)) ∙ ap (λ (l : List Timer). slice_get l device.0) timers);
@@ -87,8 +87,8 @@ module _ {C M : Type 0} (reading : C → ℕ → ℕ) (stands : M → Network �
     sets = record { same = sets.same; sized = sets.sized; others = λ slot apart. sets.others slot (λ e. apart (inl e)); later = sets.later };
     timed = record {
       ripe = ripe;
-      act = act_stays reading stands network old new device was.act (ap (λ (t : State C M). t.clocks) sets.same ∙ clocks)
-          (ap (λ (t : State C M). t.time) sets.same ∙ time) (ap (λ (t : State C M). t.machines) sets.same ∙ machines)
+      act = act_stays stands network old new was.act (ap State.clocks sets.same ∙ clocks)
+          (ap State.time sets.same ∙ time) (ap State.machines sets.same ∙ machines)
           (sets.others (length network.device + device.0) (λ e. omega (arith, e, there))
           ∙ ap (λ (l : List Timer). slice_get l (length network.device + device.0)) timers);
     };

@@ -1,5 +1,5 @@
 -- What is on a wire arrives: its device may hear it, and the world stands again.
-use Rattle.drift_world.proofs.Words.{if◌then◌else◌, ◌==◌, ◌∙◌, ◌∷◌, ◌≡◌, AreUnderWay, Bool, ComesFirst, Content, DeviceId, Err, Happening, IsBefore, IsHeld}
+use Rattle.drift_world.proofs.Words.{if◌then◌else◌, ◌==◌, ◌∙◌, ◌∷◌, ◌≡◌, AreUnderWay, Bool, ComesFirst, Content, DeviceId, Err, Happening, IsBefore, IsHeld, Meaning}
 use Rattle.drift_world.proofs.Words.{IsIn, IsPermutation, IsPermutation-sym, Kept, LinkId, List, Moment, Network, Node, Note, Ok, OnWire, Pcf}
 use Rattle.drift_world.proofs.Words.{DueAt, Result, Scenario, Signal, Some, Stands, StandsFor, Units, Wire, World, [], amount, ap, arith}
 use Rattle.drift_world.proofs.Words.{at_port, control, false, field, frame_by, frame_from, happenings, in_permuted, inl, inr, is_given, map, moment_of}
@@ -39,10 +39,10 @@ pub record IsTold (network other : Network) (hs : List Happening) (device : Devi
   pub octets : octets_in network (octets_kept is signal) ≡ octets_by other hs (arrival_body device link cause is)
 
 module _ (network other : Network) (hs : List Happening) (device : DeviceId) (link : LinkId) (cause : ℕ) (signal : SignalSent) where
-  told_control : (frame : Pcf) (clock : ℕ) (is : Arrival) → frame_from hs cause ≡ Some frame → frame_kept is ≡ Some (with_clock clock frame)
+  told_control : {frame : Pcf} (clock : ℕ) (is : Arrival) → frame_from hs cause ≡ Some frame → frame_kept is ≡ Some (with_clock clock frame)
       → frame_by other hs (arrival_body device link cause is) ≡ option_map (with_clock clock) (frame_from hs cause)
       → frame_kept is ≡ frame_by other hs (arrival_body device link cause is)
-  told_control frame clock is of one two = one ∙ ap (option_map (with_clock clock)) (sym of) ∙ sym two
+  told_control clock is of one two = one ∙ ap (option_map (with_clock clock)) (sym of) ∙ sym two
 
   told : (node : Node) (moment : Moment) (sent : Signal) → signal_as network signal ≡ sent
       → ((frame : Pcf) → sent ≡ control (Ok frame) → frame_from hs cause ≡ Some frame)
@@ -55,10 +55,10 @@ module _ (network other : Network) (hs : List Happening) (device : DeviceId) (li
       control_so (IsTold network other hs device link cause signal) other device link (standpoint_at node moment) frame
       (record {
         dropped = λ reason. record { frame = refl; octets = refl };
-        waits = λ point. record { frame = told_control frame clock (arrivals.Waits (on_arrival other link frame) point) of refl refl; octets = refl };
-        passes = λ way. record { frame = told_control frame clock (arrivals.Passes (on_arrival other link frame) way) of refl refl; octets = refl };
+        waits = λ point. record { frame = told_control clock (arrivals.Waits (on_arrival other link frame) point) of refl refl; octets = refl };
+        passes = λ way. record { frame = told_control clock (arrivals.Passes (on_arrival other link frame) way) of refl refl; octets = refl };
         both = λ way point. record {
-          frame = told_control frame clock (arrivals.PassesAndWaits (on_arrival other link frame) way point) of refl refl;
+          frame = told_control clock (arrivals.PassesAndWaits (on_arrival other link frame) way point) of refl refl;
           octets = refl;
         };
       })
@@ -95,14 +95,14 @@ arrival_octets network other device node moment place link (signals.Octets given
 
 -- ---- the moment
 
-pub moment_is : {C : Type 0} (reading : C → ℕ → ℕ) (s : Scenario) (now : ℕ) (device : DeviceId) (own clock : C) (time read : Units) → own ≡ clock
+pub moment_is : {C : Type 0} (reading : C → ℕ → ℕ) (s : Scenario) (now : ℕ) (device : DeviceId) {own clock : C} {time : Units} (read : Units) → own ≡ clock
     → IsClockOf reading s now device own → time ≡ units_of now → read.0 ≡ pos (reading clock (amount time))
     → record { time = time; reading = read } ≡ moment_of s device now
-moment_is reading s now device own clock time read same of at reads = grind (arith, units_of, same_units, amount)
+moment_is reading s now device read same of at reads = grind (arith, units_of, same_units, amount)
 
 -- ---- it may come
 
-module _ {C M : Type 0} (reading : C → ℕ → ℕ) (stands : Kept M → Network → DeviceId → Node → Type 0) (s : Scenario) (network : Network) (state : State C M)
+module _ {C M : Type 0} (reading : C → ℕ → ℕ) (stands : Meaning (Kept M)) (s : Scenario) (network : Network) (state : State C M)
     (notes : List Note) (old : Stands reading stands s (world_of network state) notes) (place : DueAt) (signal : SignalSent) (rest : List (Entry Content))
     (took : IsPermutation state.under_way.entries (record { place = place; content = Wire signal } ∷ rest)) (kind : place.rank ≡ 2)
     (at : place.at ≡ state.time) where
@@ -124,8 +124,8 @@ module _ {C M : Type 0} (reading : C → ℕ → ℕ) (stands : Kept M → Netwo
   there : IsIn e (filter_map (on_wire network) state.under_way.entries)
   there = is_given (on_wire network) state.under_way.entries taken e (in_permuted _ _ taken (IsPermutation-sym _ _ took) (inl refl)) refl
 
-  may_come_so : (octets : List ℕ) → AreOctetsOf (signal_as network signal) octets → MayArrive s.network e.device e.link octets
-  may_come_so octets are =
+  may_come_so : {octets : List ℕ} → AreOctetsOf (signal_as network signal) octets → MayArrive s.network e.device e.link octets
+  may_come_so {octets} are =
       may_arrive s hs e octets old.rules (record { ends = old.befallen.sent }) old.run.founded (old.wires.real e there).0 are.is are.least are.most
 
   -- octets of the schedule are no control frame
@@ -141,7 +141,7 @@ module _ {C M : Type 0} (reading : C → ℕ → ℕ) (stands : Kept M → Netwo
   not_gone before = (old.wires.real e there).2
       (subst (λ (t : ℕ). IsBefore (t ∷ 2 ∷ place.device ∷ place.link ∷ place.cause ∷ []) old.frontier) (sym at) before)
 
-  module _ (machine : Kept M) (moment : Moment) (found : slice_get state.machines.items place.device ≡ Some machine)
+  module _ {machine : Kept M} {moment : Moment} (found : slice_get state.machines.items place.device ≡ Some machine)
       (now : moment ≡ moment_of s e.device state.time) where
     held : IsHeld stands s hs (map (settled_at network state.time) state.settled.items) old.frontier state.time
         e.device machine
@@ -182,22 +182,22 @@ module _ {C M : Type 0} (reading : C → ℕ → ℕ) (stands : Kept M → Netwo
       e.device,
       node_of.0,
       node_of.1,
-      record { call = node_of.2; arrives = λ octets are linked. may_come_so octets are },
+      record { call = node_of.2; arrives = λ octets are linked. may_come_so are },
     )
 
     -- and once it has, its record has its octets
-    pub heard_octets : (heard : Kept M) (octets : List ℕ) (result : Arrival) → AreOctetsOf (signal_as network signal) octets
+    pub heard_octets : (heard : Kept M) {octets : List ℕ} (result : Arrival) → AreOctetsOf (signal_as network signal) octets
         → ((other : Network) (device : DeviceId) → HasHeard stands other device moment e.link octets result machine heard)
         → have_octets (arrived place result signal)
-    heard_octets heard octets result are hears =
+    heard_octets heard {octets} result are hears =
         let answer : result ≡ arrival_at s.network e.device node_of.0 moment e.link (signal_as network signal) =
-        (hears s.network e.device node_of.0 node_of.1 node_of.2 (may_come_so octets are)).0
+        (hears s.network e.device node_of.0 node_of.1 node_of.2 (may_come_so are)).0
         ∙ ap (arrival_at s.network e.device node_of.0 moment e.link) are.is in
         subst (λ is. have_octets (arrived place is signal)) (sym answer)
         (arrival_octets network s.network e.device node_of.0 moment place e.link signal)
 
     -- and it is worked off
-    pub heard_turns : (heard : Kept M) (octets : List ℕ) (result : Arrival) (machines : List (Kept M))
+    pub heard_turns : (heard : Kept M) {octets : List ℕ} (result : Arrival) (machines : List (Kept M))
         → AreUnderWay network state.under_way.entries → ComesFirst reading stands s (world_of network state) notes old (numbers_of place)
         → AreOctetsOf (signal_as network signal) octets
         → ((other : Network) (device : DeviceId) → HasHeard stands other device moment e.link octets result machine heard)
@@ -211,10 +211,10 @@ module _ {C M : Type 0} (reading : C → ℕ → ℕ) (stands : Kept M → Netwo
           wires = filter_map (on_wire network) rest;
           ports = filter_map at_port rest;
         }) (numbers_of place)
-    heard_turns heard octets result machines under first are hears set =
+    heard_turns heard {octets} result machines under first are hears set =
         let world = world_of network state in
         let it = (old.wires.real e there).0 in
-        let may = may_come_so octets are in
+        let may = may_come_so are in
         let numbers : numbers_of place ≡ wire_place e = ap (λ (r : ℕ). place.at ∷ r ∷ place.device ∷ place.link ∷ place.cause ∷ []) kind in
         let answer : result ≡ arrival_at s.network e.device node_of.0 moment e.link (signal_as network signal) =
         (hears s.network e.device node_of.0 node_of.1 node_of.2 may).0
@@ -222,7 +222,7 @@ module _ {C M : Type 0} (reading : C → ℕ → ℕ) (stands : Kept M → Netwo
         let so : IsTold network s.network hs e.device e.link e.cause signal result =
         subst (IsTold network s.network hs e.device e.link e.cause signal) (sym answer)
         (told network s.network hs e.device e.link e.cause signal node_of.0 moment (signal_as network signal) refl
-        (λ frame is. frame_told s hs old.run.founded e it frame is) (λ given is. octets_told s hs old.run.founded e it given is)) in
+        (λ frame is. frame_told old.run.founded it frame is) (λ given is. octets_told old.run.founded it given is)) in
         let mid : World C (Kept M) = record world { early = false; machines = machines; wires = filter_map (on_wire network) rest } in
         let turn = heard_turn reading stands s world notes e machine heard octets result machines
         (filter_map (on_wire network) rest) old there at

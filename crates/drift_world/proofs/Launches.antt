@@ -16,12 +16,12 @@ within_and P xs i (Some x) e and = slice_get_within xs i x e
 -- ---- the device that gives a frame, and the link
 
 module _ (network : Network) where
-  pub giver_gives : (body : NoteBody) (device giver : DeviceId) (link : LinkId) → Gives network body device link
+  pub giver_gives : (body : NoteBody) (device : DeviceId) {giver : DeviceId} (link : LinkId) → Gives network body device link
       → giver_of body ≡ Some giver → device ≡ giver
-  giver_gives (Sent master cycle) device giver link gives by = gives.0 ∙ same_Some _ _ by
-  giver_gives (Compressed cm opened at cycle members verdict) device giver link gives by = gives.0 ∙ same_Some _ _ by
-  giver_gives (Arrived relay from cause clock) device giver link gives by = gives.0 ∙ same_Some _ _ by
-  giver_gives other device giver link gives by = absurd gives
+  giver_gives (Sent master cycle) device link gives by = gives.0 ∙ same_Some _ _ by
+  giver_gives (Compressed cm opened at cycle members verdict) device link gives by = gives.0 ∙ same_Some _ _ by
+  giver_gives (Arrived relay from cause clock) device link gives by = gives.0 ∙ same_Some _ _ by
+  giver_gives other device link gives by = absurd gives
 
   pub gives_within : (body : NoteBody) (device : DeviceId) (link : LinkId) → Gives network body device link
       → link.0 < length network.link
@@ -64,7 +64,7 @@ gives_in network other device link range gives = absurd gives
 
 -- ---- the ways
 
-module _ (s : Scenario) (now : ℕ) (ups downs : List WayState) (ways : AreWays s now (map way_as ups) (map way_as downs)) where
+module _ {s : Scenario} {now : ℕ} (ups downs : List WayState) (ways : AreWays s now (map way_as ups) (map way_as downs)) where
   way_there : (down : Bool) (link : LinkId) → link.0 < length s.network.link
       → (w : WayState) × (slice_get (if down then downs else ups) link.0 ≡ Some w) × (way_as w ≡ way_now s now link (if down then Down else Up))
   way_there true link lt = mapped way_as (slice_get downs link.0) _ (sym (slice_get-map way_as downs link.0) ∙ ways.down link lt)
@@ -74,17 +74,17 @@ module _ (s : Scenario) (now : ℕ) (ups downs : List WayState) (ways : AreWays 
       → hold_by s.network ups downs device link ≡ hold_at s link (way_from s.network device link) now
   hold_is device link lt =
       let w = way_there (is_parent_of s.network device link) link lt in
-      ap (λ (o : Option WayState). option_map_or (λ (v : WayState). v.hold) o 0) w.1 ∙ ap (λ (k : WayNow). k.hold) w.2
+      ap (λ (o : Option WayState). option_map_or (λ (v : WayState). v.hold) o 0) w.1 ∙ ap WayNow.hold w.2
 
   pub delay_is : (device : DeviceId) (link : LinkId) → link.0 < length s.network.link
       → delay_by s.network ups downs device link ≡ delay_at s link (way_from s.network device link) now
   delay_is device link lt =
       let w = way_there (is_parent_of s.network device link) link lt in
-      ap (λ (o : Option WayState). option_map_or (λ (v : WayState). v.delay) o 0) w.1 ∙ ap (λ (k : WayNow). k.delay) w.2
+      ap (λ (o : Option WayState). option_map_or (λ (v : WayState). v.delay) o 0) w.1 ∙ ap WayNow.delay w.2
 
   -- ---- what is given to ports
 
-  module _ (x : Happening) (number : ℕ) (giving : Giving) (at : time_of x ≡ now) (by : giver_of x.note.body ≡ Some giving.device)
+  module _ (x : Happening) {number : ℕ} (giving : Giving) (at : time_of x ≡ now) (by : giver_of x.note.body ≡ Some giving.device)
       (time : giving.time ≡ now) (numbered : giving.number ≡ number) (frame : x.frame ≡ Some giving.frame)
       (read : giving.reading ≡ s.reading giving.device now) where
     abbrev port_of : LinkId → AtPort
@@ -108,9 +108,9 @@ module _ (s : Scenario) (now : ℕ) (ups downs : List WayState) (ways : AreWays 
     given_so link lt gives =
         record { gives = gives; held = held_so link lt; of_frame = frame; read = read ∙ ap (s.reading giving.device) (sym at) }
 
-    pub given_to : (old new : List (Entry Content)) → ArePutTo (length s.network.link) s.network ups downs x.note.body giving old new
+    pub given_to : {old new : List (Entry Content)} → ArePutTo (length s.network.link) s.network ups downs x.note.body giving old new
         → AreGiven s x number (filter_map at_port old) (filter_map at_port new)
-    given_to old new put =
+    given_to {old} {new} put =
         record {
           real = λ e there.
               let of = given_of at_port new e there in
@@ -123,7 +123,7 @@ module _ (s : Scenario) (now : ℕ) (ups downs : List WayState) (ways : AreWays 
           kept = λ e there. let of = given_of at_port old e there in is_given at_port new of.0 e (put.kept of.0 of.1) of.2;
           all = λ device link gives.
               let lt = gives_within s.network x.note.body device link gives in
-              let own = giver_gives s.network x.note.body device giving.device link gives by in
+              let own = giver_gives s.network x.note.body device link gives by in
               let to = subst (λ d. Gives s.network x.note.body d link) own gives in (
                 port_of link,
                 is_given at_port new (entry_at_port s.network ups downs giving link) (port_of link) (put.all link lt to) refl,
@@ -163,9 +163,8 @@ given_out {reading} {s} {old} {new} x {number} (Some g) of range at framed arriv
     let read : g.reading ≡ s.reading g.device old.time =
     by.reads ∙ ap (λ k. reading k old.time) (same_Some _ _ (sym by.own ∙ clock.1)) ∙ sym (clock.2 old.time (omega arith)) in
     let broken : g.broken ≡ is_broken s g.device old.time = same_Some _ _ (sym by.broken ∙ of.broken g.device by.there) in (
-      given_to s old.time old.ups.items old.downs.items of.ways x number g at by.by by.time by.numbered frame read old.under_way.entries
-          new.under_way.entries out.put,
-      awaits s old.time x number g at by.by by.numbered frame read broken old.waiting.items new.waiting.items out.waits,
+      given_to old.ups.items old.downs.items of.ways x g at by.by by.time by.numbered frame read out.put,
+      awaits s x g at by.by by.numbered frame read broken old.waiting.items new.waiting.items out.waits,
     )
 given_out {s} {old} x {number} None of range at framed arrived out =
     let none : (device : DeviceId) (link : LinkId) → Gives s.network x.note.body device link → ⊥ = λ device link gives.

@@ -1,6 +1,6 @@
 -- The values that local clocks show, where the machines' adjustments are small.
 use Rattle.{drift_world.proofs.Agreements.reads_value, net_plan.specs.declared.event.Event.Event, sync_state.specs.correction.Deviation.IsSmall}
-use Rattle.drift_world.proofs.Words.{◌+◌, ◌<◌, ◌^◌, ◌∙◌, ◌≡◌, ◌≤◌, Bool, DeviceId, DeviceState, Happening, IfSome, IsComplete, IsHeld, Kept, List, Network}
+use Rattle.drift_world.proofs.Words.{◌+◌, ◌<◌, ◌^◌, ◌∙◌, ◌≡◌, ◌≤◌, Bool, DeviceId, DeviceState, Happening, IfSome, IsComplete, IsHeld, Kept, List, Meaning, Network}
 use Rattle.drift_world.proofs.Words.{Node, Note, Option, Scenario, Shows, Stands, Units, ap, arith, false, happenings, inl, inr, ints, is_broken, keeps, length}
 use Rattle.{drift_world.proofs.Words.{local_shown, reading_of, subst, sym, true, world_of, ℕ, ℤ}, world_state.specs.declared.kept.Kept.TheVariants.{Out, Sound}}
 use Rattle.{drift_world.specs.{Locals.{AreSmall, IsLocalValue}, declared.state.State.State}, world_law.proofs.giving.GivenParts.{no_later_breaks, some_same}}
@@ -8,7 +8,7 @@ use Rattle.{drift_world.specs.Running.clock_of, world_law.specs.world.World.Have
 use Rattle.sync_state.specs.declared.state.State.TheVariants as states
 
 -- the machine of a sound device has a small adjustment
-small_kept : {M : Type 0} (stands : M → Network → DeviceId → Node → Type 0) → AreSmall stands → (kept : Kept M) (network : Network)
+small_kept : {M : Type 0} (stands : Meaning M) → AreSmall stands → (kept : Kept M) (network : Network)
     (device : DeviceId) (node : Node) → keeps stands kept network device node → node.broken ≡ false → IsSmall node.standing.adjustment.0
 small_kept stands small (Sound machine) network device node is sound = small machine network device node is.0
 small_kept stands small (Out state adjustment) network device node is sound = let no : true ≡ false = sym is.0 ∙ sound in absurd cc
@@ -21,7 +21,7 @@ shown_small false states.Synchronised reading adjustment low small = grind (arit
 shown_small false other reading adjustment low small = tt
 
 -- what is kept of a device stands for a node of it, with a small adjustment unless it is broken
-small_held : {M : Type 0} (stands : M → Network → DeviceId → Node → Type 0) → AreSmall stands
+small_held : {M : Type 0} (stands : Meaning M) → AreSmall stands
     → {s : Scenario} {hs coming : List Happening} {frontier : List ℕ} {now : ℕ} {device : DeviceId}
     {kept : Kept M} → HaveBefallen s frontier now → IsHeld (keeps stands) s hs coming frontier now device kept
     → (node : Node) × keeps stands kept s.network device node
@@ -30,12 +30,12 @@ small_held stands small befallen (inl k) = grind (arith, small_kept, no_later_br
 small_held stands small befallen (inr k) =
     (k.node, k.is, λ sound. (let no : true ≡ false = sym k.broken ∙ sound in absurd cc))
 
-pub local_value : {C M : Type 0} {reading : C → ℕ → ℕ} {stands : M → Network → DeviceId → Node → Type 0}
-    → AreSmall stands → {s : Scenario} (own : Network) {state : State C M} {notes : List Note} {device : DeviceId}
+pub local_value : {C M : Type 0} {reading : C → ℕ → ℕ} {stands : Meaning M}
+    → AreSmall stands → {s : Scenario} {own : Network} {state : State C M} {notes : List Note} {device : DeviceId}
     {t : ℕ} {shown : Option ℤ} → Stands reading (keeps stands) s (world_of own state) notes
     → device.0 < length own.device → t ≤ 2 ^ 60 → (shows : Shows reading stands state device t shown)
     → reading shows.clock t ≡ s.reading device t → IfSome shown IsLocalValue
-local_value {reading} {stands} small {s} own {state} {notes} {device} {t} old lt limit shows reads =
+local_value {reading} {stands} small {s} {state} {notes} {device} {t} old lt limit shows reads =
     let hs = happenings s.network notes in
     let now = state.time in
     let there : device.0 < length s.network.device = subst (λ (n : Network). device.0 < length n.device) old.same lt in
@@ -51,7 +51,7 @@ local_value {reading} {stands} small {s} own {state} {notes} {device} {t} old lt
 
 -- what the clock of a device reads at a time up to which the records are all of the run
 pub complete_reads : {C M : Type 0} {fresh : ℕ → C} {after_step : C → ℕ → ℤ → C} {reading : C → ℕ → ℕ}
-    {stands : M → Network → DeviceId → Node → Type 0} {own : Network} {state : State C M} {t : ℕ}
+    {stands : Meaning M} {own : Network} {state : State C M} {t : ℕ}
     {events : List Event} {notes : List Note} {device : DeviceId} {shown : Option ℤ} → device.0 < length own.device
     → IsComplete fresh after_step reading stands own (world_of own state) t events notes
     → (shows : Shows reading stands state device t shown)
@@ -61,11 +61,11 @@ complete_reads {fresh} {after_step} {reading} {own} {t} {events} {device} lt com
     ap (λ c. reading c t) clock ∙ sym (reads_value fresh after_step reading own events device t complete.past)
 
 -- what it reads at the present time
-pub now_reads : {C M : Type 0} {reading : C → ℕ → ℕ} {stands : M → Network → DeviceId → Node → Type 0} {s : Scenario}
-    (own : Network) {state : State C M} {notes : List Note} {device : DeviceId} {t : ℕ} {shown : Option ℤ}
+pub now_reads : {C M : Type 0} {reading : C → ℕ → ℕ} {stands : Meaning M} {s : Scenario}
+    {own : Network} {state : State C M} {notes : List Note} {device : DeviceId} {t : ℕ} {shown : Option ℤ}
     → Stands reading (keeps stands) s (world_of own state) notes → device.0 < length own.device → t ≡ state.time
     → (shows : Shows reading stands state device t shown) → reading shows.clock t ≡ s.reading device t
-now_reads {reading} {s} own {device} {t} old lt at shows =
+now_reads {reading} {s} {device} {t} old lt at shows =
     let there : device.0 < length s.network.device = subst (λ (n : Network). device.0 < length n.device) old.same lt in
     let own_clock = old.clocks device there in
     let clock : own_clock.0 ≡ shows.clock = some_same _ _ _ own_clock.1 shows.clock_is in

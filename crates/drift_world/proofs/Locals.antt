@@ -4,7 +4,7 @@ use Rattle.world_law.{proofs.runs.Worlds.length_is, specs.world.World.IsDueAs}
 use Rattle.{drift_clock.specs.Readings.value_after, drift_world.specs.Running.clock_of, run_law.{proofs.runs.Places.either_way, specs.records.Happenings.up_to}}
 use Rattle.{drift_world.proofs.{Agreements.{all_come, reads_value}, EventRuns.none_coming, Words.{true, world_of, ℕ, ℤ}}, run_law.specs.device.States.{adjustment_after, state_after}}
 use Rattle.drift_world.proofs.Words.{◌++◌, ◌+◌, ◌<◌, ◌∙◌, ◌∷◌, ◌≡◌, ◌≤◌, Bool, DeviceId, DeviceState, Happening, IsBefore, IsComplete, IsDue, IsIn}
-use Rattle.drift_world.proofs.Words.{IsScenarioRun, List, Network, Node, Note, Option, RateStep, Scenario, Shows, Stands, Units, World, [], amount, ap}
+use Rattle.drift_world.proofs.Words.{IsScenarioRun, List, Meaning, Network, Note, Option, RateStep, Scenario, Shows, Stands, Units, World, [], amount, ap}
 use Rattle.drift_world.proofs.Words.{append-nil, arith, breaks_at, chain, false, filter, happenings, inl, inr, is_broken, keeps, le-leb, length, list_any}
 use Rattle.drift_world.proofs.Words.{local_shown, nat_le, numbered_in, place_of, rate_steps, reading_of, refl, scenario, subst, suc, sym, time_of}
 use Rattle.{drift_world.specs.{Locals.{HasCome, IsLocalClock}, declared.state.State.State}, world_law.proofs.devices.Shown.{all_past, held_shows}}
@@ -28,9 +28,9 @@ still_broken s device t now le past =
     (all_befallen now s.events (λ e i. (let at = past e i in omega (arith, at, le))) ∙ sym (all_befallen t s.events past))
 
 -- the records of a run up to a time are no later
-no_later : (s : Scenario) (t : ℕ) (notes : List Note) → IsScenarioRun s ((t + 1) ∷ []) notes → (h : Happening)
+no_later : {s : Scenario} (t : ℕ) (notes : List Note) → IsScenarioRun s ((t + 1) ∷ []) notes → (h : Happening)
     → IsIn h (happenings s.network notes) → time_of h ≤ t
-no_later s t notes run h i = elim (run.within h i) [ inl lt ↦ omega (arith, lt) | inr bad ↦ absurd bad.1 ]
+no_later t notes run h i = elim (run.within h i) [ inl lt ↦ omega (arith, lt) | inr bad ↦ absurd bad.1 ]
 
 -- ---- nothing is to come
 
@@ -38,7 +38,7 @@ no_first : {M : Type 0} (coming : List M) → ((z : M) (rest : List M) → comin
 no_first [] none = refl
 no_first (z ∷ rest) none = absurd (none z rest refl)
 
-module _ {C M : Type 0} (reading : C → ℕ → ℕ) (stands : M → Network → DeviceId → Node → Type 0) (s : Scenario) (world : World C M) (notes : List Note)
+module _ {C M : Type 0} {reading : C → ℕ → ℕ} {stands : Meaning M} {s : Scenario} {world : World C M} {notes : List Note}
     (old : Stands reading stands s world notes) (t : ℕ) (run : IsScenarioRun s ((t + 1) ∷ []) notes) where
   -- where it is at the time still, what is to come would be a record of the run
   none_now : world.now ≡ t → world.settled ≡ []
@@ -69,7 +69,7 @@ module _ {C M : Type 0} (reading : C → ℕ → ℕ) (stands : M → Network �
   -- what follows events of the instant is settled
   worked : HasCome world (happenings s.network notes) t → IsWorked (happenings s.network notes) old.frontier world.now
   worked (inl past) number h is =
-      let le = no_later s t notes run h (numbered_in (happenings s.network notes) number h is.there) in
+      let le = no_later t notes run h (numbered_in (happenings s.network notes) number h is.there) in
       let at = is.same_time in
       let lt = past.0 in
       absurd (omega (arith, le, at, lt))
@@ -102,36 +102,36 @@ clock_stepped fresh after_step last_step begins by network events device t past 
 
 -- ---- what is shown
 
-shown_is : (s : Scenario) (hs : List Happening) (device : DeviceId) (t : ℕ) (broken : Bool) (state : DeviceState) (x : ℕ) (a : Units)
+shown_is : (s : Scenario) (hs : List Happening) (device : DeviceId) (t : ℕ) (broken : Bool) {state : DeviceState} {x : ℕ} {a : Units}
     → is_broken s device t ≡ broken → state_after s (up_to t hs) device ≡ state → x ≡ s.reading device t → a ≡ adjustment_after s (up_to t hs) device
     → IsLocalClock s hs device t (local_shown broken state x a)
-shown_is s hs device t true state x a broken in_state reads adjusts = grind arith
-shown_is s hs device t false states.Synchronised x a broken in_state reads adjusts = grind arith
-shown_is s hs device t false other x a broken in_state reads adjusts =
+shown_is s hs device t true broken in_state reads adjusts = grind arith
+shown_is s hs device t false {state = states.Synchronised} broken in_state reads adjusts = grind arith
+shown_is s hs device t false {state = other} broken in_state reads adjusts =
     λ step. (let no : ◌≡◌ {A = DeviceState} other states.Synchronised = sym in_state ∙ step.synchronised in cc)
 
 pub local_is : {C M : Type 0} {fresh : ℕ → C} {after_step : C → ℕ → ℤ → C} {reading : C → ℕ → ℕ}
-    {stands : M → Network → DeviceId → Node → Type 0} (own : Network) {network : Network} {state : State C M} {t : ℕ}
+    {stands : Meaning M} {own : Network} {network : Network} {state : State C M} {t : ℕ}
     {events : List Event} {notes : List Note} {device : DeviceId} {shown : Option ℤ} → device.0 < length own.device
     → IsComplete fresh after_step reading stands network (world_of own state) t events notes
     → Shows reading stands state device t shown → IsLocalClock
     (scenario network (reading_of fresh after_step reading network events) events)
     (happenings network notes) device t shown
-local_is {fresh} {after_step} {reading} {stands} own {network} {state} {t} {events} {notes} {device} lt complete shows =
+local_is {fresh} {after_step} {reading} {stands} {own} {network} {state} {t} {events} {notes} {device} lt complete shows =
     let s = scenario network (reading_of fresh after_step reading network events) events in
     let world = world_of own state in
     let hs = happenings network notes in
     let old = complete.is.is in
     let now = world.now in
     let there : device.0 < length network.device = subst (λ (n : Network). device.0 < length n.device) old.same lt in
-    let le = come reading (keeps stands) s world notes old t complete.all complete.come in
+    let le = come old t complete.all complete.come in
     let held = old.devices device there in
-    let empty = none_left reading (keeps stands) s world notes old t complete.all complete.come in
+    let empty = none_left old t complete.all complete.come in
     let at = held_shows (keeps stands) s hs world.settled old.frontier now device held.0 held.2
-    (worked reading (keeps stands) s world notes old t complete.all complete.come)
+    (worked old t complete.all complete.come)
     (all_past reading (keeps stands) s world notes old) old.befallen in
     let all : hs ++ world.settled ≡ hs = ap (λ (l : List Happening). hs ++ l) empty ∙ append-nil hs in
-    let past = no_later s t notes complete.all in
+    let past = no_later t notes complete.all in
     let same : up_to now (hs ++ world.settled) ≡ up_to t hs =
     ap (up_to now) all ∙ all_up_to now hs (λ h i. (let was = past h i in omega (arith, was, le))) ∙ sym (all_up_to t hs past) in
     let node = at.0 in
@@ -143,6 +143,6 @@ local_is {fresh} {after_step} {reading} {stands} own {network} {state} {t} {even
     let reads : reading shows.clock t ≡ s.reading device t =
     ap (λ c. reading c t) clock ∙ sym (reads_value fresh after_step reading network events device t complete.past) in
     subst (IsLocalClock s hs device t) (sym is)
-    (shown_is s hs device t shows.broken node.standing.state (reading shows.clock t) node.standing.adjustment broken
+    (shown_is s hs device t shows.broken broken
     (sym (at.2.state ∙ ap (λ l. state_after s l device) same)) reads
     (at.2.adjustment ∙ ap (λ l. adjustment_after s l device) same))

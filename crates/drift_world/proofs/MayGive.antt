@@ -25,22 +25,22 @@ arrives_in : {s : Scenario} {h : Happening} {device : DeviceId} {link : LinkId} 
     → IsInRange s.network → Arrives s h device link t signal
     → (link.0 < length s.network.link) × (device.0 < length s.network.device)
 arrives_in {s} {device} {link} range a = (
-  link_within s.network.link link.0 a.way (link_at s.network link) device refl a.receiver,
+  link_within s.network.link link.0 a.way (link_at s.network link) refl a.receiver,
   receiver_in s.network a.way link (link_at s.network link) device refl range a.receiver,
 )
 
 module _ (s : Scenario) (hs : List Happening) (time : Units) where
-  arrived_may : {device : DeviceId} {link : LinkId} {cause clock : ℕ} (frame : Option Pcf) → IsInRange s.network
+  arrived_may : {device : DeviceId} {link : LinkId} {cause clock : ℕ} {frame : Option Pcf} → IsInRange s.network
       → IsFounded place_of (IsDue s) hs → IsArrivedRecord s hs device (amount time) link cause clock
       → frame ≡ frame_by s.network hs (Arrived device link cause clock)
       → MayBut s.network (Arrived device link cause clock) frame
-  arrived_may {device} {link} {cause} {clock} frame range founded a own =
+  arrived_may {device} {link} {cause} {clock} {frame} range founded a own =
       let so = arrived_so s hs device (amount time) link cause clock a in
       let there = arrives_in range so.arrives in
       let put = founded_at s hs so.putting founded (numbered_in hs cause so.putting so.there) in
       let put_frame : so.putting.frame ≡ Some so.came =
       launched_frame s put.front so.putting (time_of so.putting) link so.arrives.way so.came so.putting.note.body
-      (ap (λ (h : Happening). h.frame) put.due.same)
+      (ap Happening.frame put.due.same)
       so.arrives.put in
       let has : frame ≡ Some (with_clock clock so.came) = own
       ∙ ap (λ (o : Option Happening). option_map (with_clock clock) (option_and_then (λ h. h.frame) o)) so.there
@@ -54,19 +54,19 @@ module _ (s : Scenario) (hs : List Happening) (time : Units) where
 
   -- ---- by its cause
 
-  caused_may : (body : NoteBody) (frame : Option Pcf) → IsInRange s.network → IsFounded place_of (IsDue s) hs
+  caused_may : (body : NoteBody) {frame : Option Pcf} → IsInRange s.network → IsFounded place_of (IsDue s) hs
       → IsCaused s hs time body → frame ≡ frame_by s.network hs body → MayBut s.network body frame
-  caused_may (Arrived d l c k) frame range founded caused own = arrived_may frame range founded caused own
-  caused_may (Sent d k) frame range founded caused own =
+  caused_may (Arrived d l c k) {frame} range founded caused own = arrived_may range founded caused own
+  caused_may (Sent d k) range founded caused own =
       record { by = tt; young = tt; arrived = tt; framed = λ e is none. let bad : None ≡ Some _ = sym none ∙ own in absurd cc }
-  caused_may (Compressed d o a k m v) frame range founded caused own =
+  caused_may (Compressed d o a k m v) range founded caused own =
       record { by = tt; young = tt; arrived = tt; framed = λ e is none. let bad : None ≡ Some _ = sym none ∙ own in absurd cc }
-  caused_may other frame range founded caused own =
+  caused_may other range founded caused own =
       record { by = tt; young = tt; arrived = tt; framed = λ e is none. absurd cc }
 
 -- ---- a record that is the next
 
-module _ {C M : Type 0} (reading : C → ℕ → ℕ) (network : Network) (state : State C M) (first : Settled) where
+module _ {C M : Type 0} {reading : C → ℕ → ℕ} {network : Network} (state : State C M) (first : Settled) where
   -- it may be given, with its octets
   pub may_in : {s : Scenario} {notes : List Note} → IsNext reading s notes (world_of network state) first.body
       → IsOwn s.network network state.time (happenings s.network notes) (Some first)
@@ -74,8 +74,8 @@ module _ {C M : Type 0} (reading : C → ℕ → ℕ) (network : Network) (state
   may_in {s} {notes} next own has =
       let hs = happenings s.network notes in
       let may = subst (λ (n : Network). MayBut n first.body first.frame) (sym next.same)
-      (caused_may s hs (units_of state.time) first.body first.frame next.range next.founded next.due.cause
-      (ap (λ (h : Happening). h.frame) own)) in
+      (caused_may s hs (units_of state.time) first.body next.range next.founded next.due.cause
+      (ap Happening.frame own)) in
       record { by = may.by; young = may.young; arrived = may.arrived; with_octets = has; framed = may.framed }
 
   pub may_give : IsToGive reading network state first → HasItsOctets first.body first.octets

@@ -1,7 +1,7 @@
 -- A world comes nearer to a time, turn by turn.
 use Rattle.{drift_world.proofs.{Foremost.node_of, Showings.shows_of}, run_law.specs.machines.Tasks.IsPending, std.proofs.Math.Nat.mul-le-mul_right}
 use Rattle.drift_world.proofs.Words.{◌*◌, ◌+◌, ◌-◌, ◌<◌, ◌∙◌, ◌∷◌, ◌≡◌, ◌≤ℤ◌, ◌≤◌, Befallen, Bool, Content, DeviceId, Err, IsPutOn, IsRunning, IsWell}
-use Rattle.drift_world.proofs.Words.{List, Network, Node, None, Ok, OnOk, Option, Result, Settled, Some, Turn, WayState, [], ap, arith, cases_lt, false}
+use Rattle.drift_world.proofs.Words.{List, Meaning, Network, None, Ok, OnOk, Option, Result, Settled, Some, Turn, WayState, [], ap, arith, cases_lt, false}
 use Rattle.drift_world.proofs.Words.{if◌then◌else◌, in_all, inl, inr, ints, keeps, le-ltb, length, length_permutation, lt-ltb, nat_lt, pos}
 use Rattle.{drift_world.proofs.Words.{reading_for, refl, subst, suc, sym, true, zero, ℕ}, world_state.specs.Befalling.AreSettledBy}
 use Rattle.drift_world.specs.Nearing.{IsLess, IsNoFarther, Nears, acting, burden, distance, due_work}
@@ -46,20 +46,20 @@ due_same now (x ∷ xs) (y ∷ ys) same =
     ap (λ t. work_of now t + due_work now ys) head ∙ ap (λ n. work_of now x + n) (due_same now xs ys (λ j. same (suc j)))
 
 -- less, where one adds less
-due_falls : (now : ℕ) (xs ys : List Timer) (i : ℕ) (a b : Timer) → ((j : ℕ) → (j ≡ i → ⊥) → slice_get ys j ≡ slice_get xs j) → slice_get xs i ≡ Some a
+due_falls : (now : ℕ) (xs ys : List Timer) (i : ℕ) {a b : Timer} → ((j : ℕ) → (j ≡ i → ⊥) → slice_get ys j ≡ slice_get xs j) → slice_get xs i ≡ Some a
     → slice_get ys i ≡ Some b → work_of now b < work_of now a → due_work now ys < due_work now xs
-due_falls now [] ys i a b same was is lt = absurd cc
-due_falls now (x ∷ xs) [] i a b same was is lt = absurd cc
-due_falls now (x ∷ xs) (y ∷ ys) zero a b same was is lt =
+due_falls now [] ys i same was is lt = absurd cc
+due_falls now (x ∷ xs) [] i same was is lt = absurd cc
+due_falls now (x ∷ xs) (y ∷ ys) zero {a} {b} same was is lt =
     let before = ap (work_of now) (let e : x ≡ a = (let f : Some x ≡ Some a = was in cc) in e) in
     let after = ap (work_of now) (let e : y ≡ b = (let f : Some y ≡ Some b = is in cc) in e) in
     let rest = due_same now xs ys (λ j. same (suc j) (λ e. omega (arith, e))) in
     let old = due_cons now x xs in
     let new = due_cons now y ys in
     omega (arith, before, after, rest, lt, old, new)
-due_falls now (x ∷ xs) (y ∷ ys) (suc i) a b same was is lt =
+due_falls now (x ∷ xs) (y ∷ ys) (suc i) {a} {b} same was is lt =
     let head = ap (work_of now) (let e : y ≡ x = (let f : Some y ≡ Some x = same 0 (λ e. omega (arith, e)) in cc) in e) in
-    let rest = due_falls now xs ys i a b (λ j ne. same (suc j) (λ e. ne (omega (arith, e)))) was is lt in
+    let rest = due_falls now xs ys i (λ j ne. same (suc j) (λ e. ne (omega (arith, e)))) was is lt in
     let old = due_cons now x xs in
     let new = due_cons now y ys in
     omega (arith, head, rest, old, new)
@@ -70,11 +70,11 @@ get_drop (suc n) [] j = refl
 get_drop (suc n) (x ∷ xs) j = let e : suc (n + j) ≡ suc n + j = omega arith in get_drop n xs j ∙ ap (slice_get (x ∷ xs)) e
 
 -- the same, of the timers behind the first so many
-pub due_falls_behind : (now n : ℕ) (xs ys : List Timer) (i : ℕ) (a b : Timer)
+pub due_falls_behind : (now n : ℕ) (xs ys : List Timer) (i : ℕ) {a b : Timer}
     → ((slot : ℕ) → (slot ≡ n + i → ⊥) → slice_get ys slot ≡ slice_get xs slot) → slice_get xs (n + i) ≡ Some a → slice_get ys (n + i) ≡ Some b
     → work_of now b < work_of now a → due_work now (drop n ys) < due_work now (drop n xs)
-due_falls_behind now n xs ys i a b same was is lt =
-    due_falls now (drop n xs) (drop n ys) i a b
+due_falls_behind now n xs ys i {a} {b} same was is lt =
+    due_falls now (drop n xs) (drop n ys) i
     (λ j ne. get_drop n ys j ∙ same (n + j) (λ e. ne (omega (arith, e))) ∙ sym (get_drop n xs j)) (get_drop n xs i ∙ was) (get_drop n ys i ∙ is) lt
 
 -- ---- what is settled
@@ -94,21 +94,21 @@ settled_length network broken ups time (b ∷ befell) settled after entries then
 
 -- ---- steps
 
-module _ {C M : Type 0} (last_step : C → ℕ) (reading : C → ℕ → ℕ) (stands : M → Network → DeviceId → Node → Type 0) (network : Network) where
+module _ {C M : Type 0} (last_step : C → ℕ) (reading : C → ℕ → ℕ) (stands : Meaning M) (network : Network) where
   -- the timer of one that is idle is later
-  act_later : (device : DeviceId) (mid new : State C M) → device.0 < length network.device → IsRunning reading stands network mid
+  act_later : (device : DeviceId) {mid new : State C M} → device.0 < length network.device → IsRunning reading stands network mid
       → new ≡ record mid { timers = new.timers } → IsWell last_step reading stands network new → IsIdleAt reading stands network mid device
       → (timer : Timer) × (slice_get new.timers (length network.device + device.0) ≡ Some timer) × (new.time < timer.time)
-  act_later device mid new of_it running same well idle =
+  act_later device {mid} {new} of_it running same well idle =
       let timed = (well.timed.each device of_it).act in
       let s = running.s in
-      let time : new.time ≡ mid.time = ap (λ (t : State C M). t.time) same in
+      let time : new.time ≡ mid.time = ap State.time same in
       let limit = well.sound.sized.limit in
       let held : slice_get mid.machines.items device.0 ≡ Some timed.machine =
       sym (ap (λ (t : State C M). slice_get t.machines.items device.0) same) ∙ timed.of_machine in
       let clocked : slice_get mid.clocks.items device.0 ≡ Some timed.clock =
       sym (ap (λ (t : State C M). slice_get t.clocks.items device.0) same) ∙ timed.of_clock in
-      let node = node_of reading stands network mid running device timed.machine of_it held in
+      let node = node_of running device of_it held in
       let own = running.is.clocks device (subst (λ (k : Network). device.0 < length k.device) running.is.same of_it) in
       let clock_is = some_same _ _ _ own.1 clocked in (
         record { time = timed.act; rank = part_rank timed.part },
@@ -121,7 +121,7 @@ module _ {C M : Type 0} (last_step : C → ℕ) (reading : C → ℕ → ℕ) (s
               let reads : reading timed.clock timed.act ≡ s.reading device mid.time =
               ap (λ (n : ℕ). reading timed.clock n) (omega (arith, le, from, time)) ∙ ap (λ (k : C). reading k mid.time) (sym clock_is)
               ∙ sym (own.2 mid.time (omega arith)) in
-              let less = idle s timed.machine (shows_of network mid running.is) held node.0 task.0
+              let less = idle s timed.machine (shows_of mid running.is) held node.0 task.0
               (subst (λ k. keeps stands timed.machine k device node.0) running.is.same node.1)
               (subst (λ k. IsPending k device node.0 task.0) running.is.same task.1) in
               let more = subst (λ k. reading_for k node.0 task.0 ≤ℤ pos (s.reading device mid.time)) running.is.same
@@ -131,17 +131,17 @@ module _ {C M : Type 0} (last_step : C → ℕ) (reading : C → ℕ → ℕ) (s
       )
 
   -- where its timer is set to one that adds less, and those of other devices stay, there is less to do
-  fewer_acts : (part : Part) (device : DeviceId) (old mid new : State C M) (timer : Timer) → IsActive reading stands network old part device
+  fewer_acts : {part : Part} {device : DeviceId} {old mid new : State C M} {timer : Timer} → IsActive reading stands network old part device
       → mid ≡ record old { machines = mid.machines; early = mid.early; settled = mid.settled; spare = mid.spare }
       → new ≡ record mid { timers = new.timers }
       → ((slot : ℕ) → (slot ≡ length network.device + device.0 → ⊥) → slice_get new.timers slot ≡ slice_get mid.timers slot)
       → slice_get new.timers (length network.device + device.0) ≡ Some timer → work_of old.time timer < 7 - part_rank part → IsLess network old new
-  fewer_acts part device old mid new timer active acted same others is less =
-      let time : new.time ≡ old.time = ap (λ (t : State C M). t.time) same ∙ ap (λ (t : State C M). t.time) acted in
+  fewer_acts {part} {device} {old} {new} {timer} active acted same others is less =
+      let time : new.time ≡ old.time = ap State.time same ∙ ap State.time acted in
       let was : Timer = record { time = old.time; rank = part_rank part } in
       let before : work_of old.time was ≡ 7 - part_rank part = work_now old.time was (let le : old.time ≤ old.time = omega arith in le) in
-      let falls = due_falls_behind old.time (length network.device) old.timers new.timers device.0 was timer
-      (λ slot ne. others slot ne ∙ ap (λ (l : List Timer). slice_get l slot) (ap (λ (t : State C M). t.timers) acted)) active.due is
+      let falls = due_falls_behind old.time (length network.device) old.timers new.timers device.0
+      (λ slot ne. others slot ne ∙ ap (λ (l : List Timer). slice_get l slot) (ap State.timers acted)) active.due is
       (omega (arith, less, before)) in
       inr (
         ap (λ t. burden network t) same ∙ ap (λ t. burden network t) acted,
@@ -152,38 +152,38 @@ module _ {C M : Type 0} (last_step : C → ℕ) (reading : C → ℕ → ℕ) (s
   part_work part = let most = part_most part in omega (arith, most)
 
   -- what a device does leaves as much to work off, and the device has nothing more to do
-  pub act_less : (part : Part) (device : DeviceId) (old mid new : State C M) → IsActive reading stands network old part device
+  pub act_less : {part : Part} {device : DeviceId} {old mid new : State C M} → IsActive reading stands network old part device
       → mid ≡ record old { machines = mid.machines; early = mid.early; settled = mid.settled; spare = mid.spare } → IsRunning reading stands network mid
       → new ≡ record mid { timers = new.timers }
       → ((slot : ℕ) → (slot ≡ length network.device + device.0 → ⊥) → slice_get new.timers slot ≡ slice_get mid.timers slot)
       → IsWell last_step reading stands network new → IsIdleAt reading stands network mid device → IsLess network old new
-  act_less part device old mid new active acted running same others well_new idle =
-      let time : new.time ≡ old.time = ap (λ (t : State C M). t.time) same ∙ ap (λ (t : State C M). t.time) acted in
-      let later = act_later device mid new active.of running same well_new idle in
+  act_less {part} {device} {old} {mid} {new} active acted running same others well_new idle =
+      let time : new.time ≡ old.time = ap State.time same ∙ ap State.time acted in
+      let later = act_later device active.of running same well_new idle in
       let lt = later.2 in
       let none = work_later old.time later.0 (omega (arith, lt, time)) in
       let some = part_work part in
-      fewer_acts part device old mid new later.0 active acted same others later.1 (omega (arith, none, some))
+      fewer_acts active acted same others later.1 (omega (arith, none, some))
 
   -- or only what is of a later part, which it has put off
-  pub defer_less : (part other : Part) (device : DeviceId) (old mid new : State C M) → IsActive reading stands network old part device
+  pub defer_less : (part other : Part) {device : DeviceId} {old mid new : State C M} → IsActive reading stands network old part device
       → part_rank part < part_rank other
       → mid ≡ record old { machines = mid.machines; early = mid.early; settled = mid.settled; spare = mid.spare }
       → new ≡ record mid { timers = new.timers }
       → ((slot : ℕ) → (slot ≡ length network.device + device.0 → ⊥) → slice_get new.timers slot ≡ slice_get mid.timers slot)
       → slice_get new.timers (length network.device + device.0) ≡ Some (record { time = new.time; rank = part_rank other }) → IsLess network old new
-  defer_less part other device old mid new active later acted same others put =
-      let time : new.time ≡ old.time = ap (λ (t : State C M). t.time) same ∙ ap (λ (t : State C M). t.time) acted in
+  defer_less part other {device} {old} {mid} {new} active later acted same others put =
+      let time : new.time ≡ old.time = ap State.time same ∙ ap State.time acted in
       let put_off : Timer = record { time = new.time; rank = part_rank other } in
       let is : work_of old.time put_off ≡ 7 - part_rank other = work_now old.time put_off (let le : new.time ≤ old.time = omega (arith, time) in le) in
       let most = part_most other in
-      fewer_acts part device old mid new put_off active acted same others put (omega (arith, is, later, most))
+      fewer_acts active acted same others put (omega (arith, is, later, most))
 
   -- ---- the distance
 
   -- no more than so much for each device
-  acting_most : (state : State C M) → IsWell last_step reading stands network state → acting network state ≤ 7 * length network.device
-  acting_most state well =
+  acting_most : {state : State C M} → IsWell last_step reading stands network state → acting network state ≤ 7 * length network.device
+  acting_most {state} well =
       let most = due_most state.time (drop (length network.device) state.timers) in
       let long = length-drop (length network.device) state.timers in
       let sized = well.timed.sized in
@@ -200,7 +200,7 @@ module _ {C M : Type 0} (last_step : C → ℕ) (reading : C → ℕ → ℕ) (s
       → distance network until new < distance network until old
   less_nears until old new well time (inl lt) =
       fewer ((until - new.time) + burden network new) ((until - old.time) + burden network old) (7 * length network.device) (acting network new)
-      (acting network old) (sum_less until old new time lt) (acting_most new well)
+      (acting network old) (sum_less until old new time lt) (acting_most well)
     where
       sum_less : (until : ℕ) (old new : State C M) → new.time ≡ old.time → burden network new < burden network old
           → ((until - new.time) + burden network new) < ((until - old.time) + burden network old)
@@ -218,13 +218,13 @@ module _ {C M : Type 0} (last_step : C → ℕ) (reading : C → ℕ → ℕ) (s
           subst (λ k. (a + c) * (n + 1) + x < k * (n + 1) + y) (let g : a + c ≡ b + d = omega (arith, e, f) in g) (omega (arith, l))
 
   -- so does one where time passes
-  pub passing_nears : (until time : ℕ) (early : Bool) (old new : State C M) → IsWell last_step reading stands network new
+  pub passing_nears : (until time : ℕ) (early : Bool) (old : State C M) {new : State C M} → IsWell last_step reading stands network new
       → new ≡ record old { time = time; early = early } → old.time < time → time ≤ until → distance network until new < distance network until old
-  passing_nears until time early old new well same later within =
+  passing_nears until time early old {new} well same later within =
       fewer ((until - new.time) + burden network new) ((until - old.time) + burden network old) (7 * length network.device) (acting network new)
       (acting network old)
-      (plus new.time (burden network new) (burden network old) (ap (λ (t : State C M). t.time) same) (ap (λ t. burden network t) same))
-      (acting_most new well)
+      (plus new.time (burden network new) (burden network old) (ap State.time same) (ap (λ t. burden network t) same))
+      (acting_most well)
     where
       plus : (t c d : ℕ) → t ≡ time → c ≡ d → (until - t) + c < (until - old.time) + d
       plus t c d e f = omega (arith, e, f, later, within)
@@ -232,7 +232,7 @@ module _ {C M : Type 0} (last_step : C → ℕ) (reading : C → ℕ → ℕ) (s
 -- ---- each kind of source
 
 -- the events of the instant are settled
-pub settled_less : {C M : Type 0} (network : Network) (old new : State C M) → old.pending ≡ true → new.pending ≡ false
+pub settled_less : {C M : Type 0} (network : Network) (old : State C M) {new : State C M} → old.pending ≡ true → new.pending ≡ false
     → length new.befell.items + length new.under_way.entries ≤ length old.befell.items + length old.under_way.entries → new ≡ record old {
       under_way = new.under_way;
       befell = new.befell;
@@ -240,7 +240,7 @@ pub settled_less : {C M : Type 0} (network : Network) (old new : State C M) → 
       early = new.early;
       pending = new.pending;
     } → IsLess network old new
-settled_less network old new was is most same = grind (arith, length)
+settled_less network old was is most same = grind (arith, length)
 
 pub on_both : {A E : Type 0} (result : Result A E) (P Q R : Type 0) → OnOk result P → OnOk result Q → (P → Q → R) → OnOk result R
 on_both (Ok a) P Q R p q f = f p q
@@ -265,8 +265,8 @@ module _ {C M : Type 0} (network : Network) (until : ℕ) (old : State C M) wher
   nears_behind mid new GoesOn le nears =
       let lt : distance network until new < distance network until mid = nears in omega (arith, le, lt)
 
-pub no_more : (a b : ℕ) → a ≡ b → a ≤ b
-no_more a b e = omega (arith, e)
+pub no_more : {a b : ℕ} → a ≡ b → a ≤ b
+no_more e = omega (arith, e)
 
 -- it is as far where room is taken
 pub as_far : {C M : Type 0} (network : Network) (until : ℕ) (old new : State C M)

@@ -59,14 +59,14 @@ module _ (s : Scenario) (device : DeviceId) (begins : state_at_start (start_of s
   off_at_hearing : (hs : List Happening) (t : ℕ) → ((h : Happening) → IsIn h hs → moves device h.note.body ≡ false) → state_at_hearing s hs device t ≡ Off
   off_at_hearing hs t still = ap (λ (b : Bool). if b then Joining else state_before s hs device t) (none_joined device t hs still) ∙ off_then hs t still
 
-  no_point : (hs : List Happening) (t cycle : ℕ) → ((h : Happening) → IsIn h hs → moves device h.note.body ≡ false)
+  no_point : (hs : List Happening) (t : ℕ) {cycle : ℕ} → ((h : Happening) → IsIn h hs → moves device h.note.body ≡ false)
       → point_in (state_before s hs device t) (next_cycle s hs device t) ≡ Some cycle → ⊥
-  no_point hs t cycle still e =
+  no_point hs t {cycle} still e =
       let bad : None ≡ Some cycle = sym (ap (λ z. point_in z (next_cycle s hs device t)) (off_then hs t still)) ∙ e in cc
 
-  no_frame : (hs : List Happening) (t : ℕ) (link : LinkId) (cause : ℕ) (point : Units)
+  no_frame : {hs : List Happening} {t : ℕ} {link : LinkId} {cause : ℕ} {point : Units}
       → ((h : Happening) → IsIn h hs → moves device h.note.body ≡ false) → BecomesPermanent s hs device t link cause point ripe.Integrates → ⊥
-  no_frame hs t link cause point still c =
+  no_frame {hs} {t} {link} {cause} {point} still c =
       let judged = before_permanence hs device t link cause c.frame point in
       let kept : (h : Happening) → IsIn h judged → moves device h.note.body ≡ false = λ h i. still h (in_filter _ hs h i) in
       from judged kept (is_cm s.network device) c.becomes
@@ -101,8 +101,8 @@ module _ (s : Scenario) (device : DeviceId) (begins : state_at_start (start_of s
       let no = joins_no_other device h.note.body (still h (numbered_in hs cause h c.1.1.there)) in
       let bad : false ≡ true = sym no ∙ c.1.2 in cc
   no_change hs t state cause whys.Correction still untold c = let bad : Off ≡ Joining = sym (off_then hs t still) ∙ c.1 in cc
-  no_change hs t state cause whys.SyncClique still untold c = no_point hs t c.2.0 still c.2.1.next
-  no_change hs t state cause whys.AsyncClique still untold c = no_point hs t c.2.0 still c.2.1.next
+  no_change hs t state cause whys.SyncClique still untold c = no_point hs t still c.2.1.next
+  no_change hs t state cause whys.AsyncClique still untold c = no_point hs t still c.2.1.next
 
   stays : (hs : List Happening) (time : Units) (body : NoteBody) → ((h : Happening) → IsIn h hs → moves device h.note.body ≡ false)
       → ((h : Happening) → IsIn h hs → (line : ℕ) → h.note.body ≡ notes.Event line (On device) → ⊥) → IsCaused s hs time body → moves device body ≡ true → ⊥
@@ -110,11 +110,11 @@ module _ (s : Scenario) (device : DeviceId) (begins : state_at_start (start_of s
       no_change hs (amount time) state cause why still untold
       (subst (λ d. ChangesState s hs d (amount time) state cause why) (one_device device other own) c)
   stays hs time (notes.Corrected other cycle by adjustment) still untold c own =
-      no_point hs (amount time) cycle still
+      no_point hs (amount time) still
       (subst (λ d. ComesToCorrection s hs d (amount time) cycle
       (Corrected by)) (one_device device other own) c.corrected).next
   stays hs time (notes.Permanent other link cause point Integrates) still untold c own =
-      no_frame hs (amount time) link cause point still
+      no_frame still
       (subst (λ d. BecomesPermanent s hs d (amount time) link cause point ripe.Integrates) (one_device device other own) c)
   stays hs time (notes.Compressed other opened at cycle members Integrates) still untold c own =
       let e = subst (λ (d : DeviceId). Emits s hs d (amount time) (record { opened = opened; at = at; cycle = cycle; members = members }) Integrates)
@@ -125,8 +125,8 @@ module _ (s : Scenario) (device : DeviceId) (begins : state_at_start (start_of s
   stays hs time other still untold c own = absurd cc
 
   -- the record of an event that turns it on is not there
-  untold_by : (h : Happening) (ps : List Happening) → IsDue s ps h → (line : ℕ) → h.note.body ≡ notes.Event line (On device) → ⊥
-  untold_by h ps due line is =
+  untold_by : (h : Happening) {ps : List Happening} → IsDue s ps h → (line : ℕ) → h.note.body ≡ notes.Event line (On device) → ⊥
+  untold_by h {ps} due line is =
       let r : IsEventRecord s.events h.note.time line (On device) = subst (IsCaused s ps h.note.time) is due.cause in
       never r.event (in_at s.events r.before r.event r.is) (sym r.same)
 
@@ -150,7 +150,7 @@ module _ (s : Scenario) (device : DeviceId) (begins : state_at_start (start_of s
             ])
             (λ g j line is. elim (in_parts g ps (q ∷ []) j) [
               | inl l ↦ untold g l line is
-              | inr (inl same) ↦ untold_by q ps due line (ap (λ (x : Happening). x.note.body) (sym same) ∙ is)
+              | inr (inl same) ↦ untold_by q due line (ap (λ (x : Happening). x.note.body) (sym same) ∙ is)
               | inr (inr none) ↦ absurd none
             ])
             h more

@@ -2,7 +2,7 @@
 use Rattle.drift_world.{proofs.Agreements.{clock_more, reads_same, reads_value}, specs.Running.{HoldsATime, IsOpenTo, clock_of}}
 use Rattle.{drift_world.{proofs.{Forwards.forward, Steadiness.steady, Suits.suits}, specs.Following.Follows}, std.proofs.lemmas.List.Elements.All-push}
 use Rattle.drift_world.proofs.Words.{◌++◌, ◌<◌, ◌∙◌, ◌∷◌, ◌≡◌, ◌≤ℤ◌, ◌≤◌, DeviceId, Err, FitsWorld, IfOk, IsIn, IsLawful, IsOfNetwork}
-use Rattle.drift_world.proofs.Words.{IsWithinHypothesis, Kept, List, Network, Node, Note, Ok, OnOk, OutOfMemory, Result, Some, Stands, StandsUnder, World, []}
+use Rattle.drift_world.proofs.Words.{IsWithinHypothesis, Kept, List, Meaning, Network, Note, Ok, OnOk, OutOfMemory, Result, Some, Stands, StandsUnder, World, []}
 use Rattle.drift_world.proofs.Words.{amount, ap, arith, begins_at_zero, clock_after, happenings, in_get, in_parts, inl, inr, ints, keeps, keeps_clock_laws}
 use Rattle.drift_world.proofs.Words.{length, one, pos, reading_of, refl, scenario, slice_get_within, subst, sym, unsigned_abs, world_of, ℕ, ℤ}
 use Rattle.{drift_world.specs.declared.state.State.State, world_law.specs.source.Applying.note_of_event}
@@ -13,9 +13,9 @@ use Rattle.std.proofs.Common.{slice_get}
 in_range : (event : Event) (time : ℕ) → event.time.0 ≡ pos time → HoldsATime event.what → IsEventInRange event
 in_range event time at hold = grind (arith, ints)
 
-module _ {C M : Type 0} (fresh : ℕ → C) (after_step : C → ℕ → ℤ → C) (reading : C → ℕ → ℕ) (grain : C → ℕ) (count : C → ℕ → ℕ)
-    (law : IsLawful fresh after_step reading grain count) (stands : M → Network → DeviceId → Node → Type 0) (network : Network) (state : State C M)
-    (events : List Event) (notes : List Note) (event : Event)
+module _ {C M : Type 0} {fresh : ℕ → C} {after_step : C → ℕ → ℤ → C} {reading : C → ℕ → ℕ} {grain : C → ℕ} {count : C → ℕ → ℕ}
+    (law : IsLawful fresh after_step reading grain count) {stands : Meaning M} {network : Network} (state : State C M)
+    {events : List Event} {notes : List Note} (event : Event)
     (under : StandsUnder fresh after_step reading stands network (world_of network state) events notes)
     (time : event.time.0 ≡ pos state.time) (hold : HoldsATime event.what) (within : IsWithinHypothesis network events event) where
   -- no event is before time 0, or later than the present
@@ -60,13 +60,13 @@ module _ {C M : Type 0} (fresh : ℕ → C) (after_step : C → ℕ → ℤ → 
   }
 
   -- and the world stands under the events with it
-  pub stands_again : (new : State C M) (more : List Note) → IsOfNetwork network event.what
+  pub stands_again : (new : State C M) {more : List Note} → IsOfNetwork network event.what
       → ((device : DeviceId) (clock : C) → slice_get state.clocks.items device.0 ≡ Some clock
       → slice_get new.clocks.items device.0 ≡ Some (clock_after after_step device event.time event.what clock))
       → Stands reading (keeps stands)
       (scenario network (reading_of fresh after_step reading network (events ++ event ∷ [])) (events ++ event ∷ []))
       (world_of network new) more → StandsUnder fresh after_step reading stands network (world_of network new) (events ++ event ∷ []) more
-  stands_again new more of_network clocks is = record {
+  stands_again new of_network clocks is = record {
     is = is;
     clocks = λ device lt. clocks device (clock_of fresh after_step network events device) (under.clocks device lt)
         ∙ ap Some (sym (clock_more fresh after_step network events event device));
@@ -81,8 +81,8 @@ pub more_ok : {T E : Type 0} (P Q : T → Type 0) (K : Type 0) (r : Result T E) 
 more_ok P Q K (Ok x) step known it = step known x it
 more_ok P Q K (Err e) step known it = it
 
-module _ {C M E : Type 0} (fresh : ℕ → C) (after_step : C → ℕ → ℤ → C) (reading : C → ℕ → ℕ) (grain : C → ℕ) (count : C → ℕ → ℕ)
-    (law : IsLawful fresh after_step reading grain count) (stands : M → Network → DeviceId → Node → Type 0) (network : Network) (state new : State C M)
+module _ {C M E : Type 0} {fresh : ℕ → C} {after_step : C → ℕ → ℤ → C} {reading : C → ℕ → ℕ} {grain : C → ℕ} {count : C → ℕ → ℕ}
+    (law : IsLawful fresh after_step reading grain count) {stands : Meaning M} {network : Network} (state new : State C M)
     (event : Event) (result : Result Note E) (many : length state.clocks.items ≡ length network.device)
     (time : event.time.0 ≡ pos state.time) (hold : HoldsATime event.what) (of_network : IsOfNetwork network event.what)
     (clocks : OnOk result ((device : DeviceId) (clock : C) → slice_get state.clocks.items device.0 ≡ Some clock
@@ -98,33 +98,32 @@ module _ {C M E : Type 0} (fresh : ℕ → C) (after_step : C → ℕ → ℤ �
   goes_on events notes under within =
       let f = reading_of fresh after_step reading network events in
       let h = reading_of fresh after_step reading network (events ++ event ∷ []) in
-      let fits = suits reading (keeps stands) network f events (world_of network state) notes under.is event within event.what refl under.within
+      let fits = suits network f events under.is event within event.what refl under.within
       of_network in
-      let goes = followed fresh after_step reading grain count law stands network state events notes event under time hold within many in
+      let goes = followed law state event under time hold within many in
       more_ok (λ (note : Note). (note ≡ note_of_event notes events event)
       × Stands reading (keeps stands) (scenario network h (events ++ event ∷ [])) (world_of network new)
       (notes ++ note ∷ []))
       (λ (note : Note). StandsUnder fresh after_step reading stands network (world_of network new) (events ++ event ∷ []) (notes ++ note ∷ []))
       _ result
-      (λ known note it. stands_again fresh after_step reading grain count law stands network state events notes event under time hold within new (notes ++ note
-      ∷ [])
+      (λ known note it. stands_again law state event under time hold within new
       of_network known it.1)
       clocks (step f h events notes under.is goes fits)
 
   -- and so for the network that it is
-  pub goes_on_there : (n : Network) (events : List Event) (notes : List Note)
+  pub goes_on_there : {n : Network} {events : List Event} {notes : List Note}
       → StandsUnder fresh after_step reading stands n (world_of network state) events notes → IsWithinHypothesis n events event
       → IfOk result (λ note. StandsUnder fresh after_step reading stands n (world_of network new) (events ++ event ∷ []) (notes ++ note ∷ []))
-  goes_on_there n events notes under within =
+  goes_on_there {events} {notes} under within =
       subst (λ (m : Network). StandsUnder fresh after_step reading stands m (world_of network state) events notes → IsWithinHypothesis m events event
       → IfOk result (λ note. StandsUnder fresh after_step reading stands m (world_of network new) (events ++ event ∷ []) (notes ++ note ∷ [])))
       under.is.same (goes_on events notes) under within
 
 -- ---- by the view of the state
 
-module _ {C M : Type 0} (fresh : ℕ → C) (after_step : C → ℕ → ℤ → C) (reading : C → ℕ → ℕ) (grain : C → ℕ) (count : C → ℕ → ℕ)
-    (law : IsLawful fresh after_step reading grain count) (stands : M → Network → DeviceId → Node → Type 0) (network : Network) (state new : State C M)
-    (world : World C (Kept M)) (view : world_of network state ≡ world) (event : Event) (note : Note)
+module _ {C M : Type 0} {fresh : ℕ → C} {after_step : C → ℕ → ℤ → C} {reading : C → ℕ → ℕ} {grain : C → ℕ} {count : C → ℕ → ℕ}
+    (law : IsLawful fresh after_step reading grain count) {stands : Meaning M} {network : Network} (state new : State C M)
+    {world : World C (Kept M)} (view : world_of network state ≡ world) {event : Event} (note : Note)
     (many : length state.clocks.items ≡ length network.device) (open_to : IsOpenTo world event) (hold : HoldsATime event.what)
     (of_network : IsOfNetwork world.network event.what)
     (clocks : (device : DeviceId) (clock : C) → slice_get state.clocks.items device.0 ≡ Some clock
@@ -135,11 +134,11 @@ module _ {C M : Type 0} (fresh : ℕ → C) (after_step : C → ℕ → ℤ → 
     × Stands reading (keeps stands) (scenario network h (past ++ event ∷ [])) (world_of network new)
     (notes ++ note ∷ [])) where
   -- it stands again
-  pub befalls : (n : Network) (events : List Event) (notes : List Note) → StandsUnder fresh after_step reading stands n world events notes
+  pub befalls : {n : Network} {events : List Event} {notes : List Note} → StandsUnder fresh after_step reading stands n world events notes
       → IsWithinHypothesis n events event → StandsUnder fresh after_step reading stands n (world_of network new) (events ++ event ∷ []) (notes ++ note ∷ [])
-  befalls n events notes under within =
+  befalls {n} {events} {notes} under within =
       let here = subst (λ w. StandsUnder fresh after_step reading stands n w events notes) (sym view) under in
       let time : event.time.0 ≡ pos state.time = open_to.time ∙ ap (λ (w : World C (Kept M)). pos w.now) (sym view) in
       let own = subst (λ (w : World C (Kept M)). IsOfNetwork w.network event.what) (sym view) of_network in
       let answer : Result Note OutOfMemory = Ok note in
-      goes_on_there fresh after_step reading grain count law stands network state new event answer many time hold own clocks step n events notes here within
+      goes_on_there law state new event answer many time hold own clocks step here within

@@ -47,7 +47,7 @@ kind_grows Dispatch Emission le = absurd (let no : 3 ≤ 0 = le in omega (arith,
 kind_grows Dispatch Sending le = absurd (let no : 3 ≤ 1 = le in omega (arith, no))
 kind_grows Dispatch other le = part_most Late
 
-module _ (network : Network) (device : DeviceId) (node : Node) (reading : ℤ) (part : Part) where
+module _ {network : Network} {device : DeviceId} {node : Node} {reading : ℤ} {part : Part} where
   -- nothing is of an earlier part than the first of all
   pub none_sooner : IsFirstPart network device node reading part → IsNoSooner network device node reading part
   none_sooner first = λ task pending due.

@@ -59,9 +59,9 @@ module _ (network : Network) (now : ℕ) where
   none_before (suc at) (x ∷ old) z none h there before =
       none_before at old z (λ k d le lt. none (suc k) d (omega (arith, le)) (omega (arith, lt))) h there before
 
-  pub is_put_in : (z : Settled) (old new : List Settled) (at : ℕ) → IsPutAt z old new at → InOrder (map shown old)
+  pub is_put_in : {z : Settled} {old new : List Settled} {at : ℕ} → IsPutAt z old new at → InOrder (map shown old)
       → IsPutIn (shown z) (map shown old) (map shown new)
-  is_put_in z old new at put order =
+  is_put_in {z} {old} {at} put order =
       record {
         front = map shown (take at old);
         back = map shown (drop at old);
@@ -74,13 +74,13 @@ module _ (network : Network) (now : ℕ) where
 module _ (other network : Network) (now : ℕ) (hs : List Happening) (body : NoteBody) (z : Settled)
     (old new : List Settled) where
   -- one record is put in, as the law says it
-  pub one_put_in : (at : ℕ) → IsPutAt z old new at → InOrder (map (settled_at network now) old)
+  pub one_put_in : {at : ℕ} → IsPutAt z old new at → InOrder (map (settled_at network now) old)
       → settled_at network now z ≡ settled_as other hs now body
       → ArePutIn other hs now (body ∷ []) (map (settled_at network now) old) (map (settled_at network now) new)
-  one_put_in at put order is = (
+  one_put_in {at} put order is = (
     map (settled_at network now) new,
     subst (λ h. IsPutIn h (map (settled_at network now) old) (map (settled_at network now) new)) is
-        (is_put_in network now z old new at put order),
+        (is_put_in network now put order),
     refl,
   )
 
@@ -90,7 +90,7 @@ module _ (other network : Network) (now : ℕ) (hs : List Happening) (body : Not
       → ArePutIn other hs now (if none then [] else body ∷ []) (map (settled_at network now) old)
       (map (settled_at network now) new)
   some_put_in true put order is = ap (map (settled_at network now)) put
-  some_put_in false put order is = one_put_in put.0 put.1 order is
+  some_put_in false put order is = one_put_in put.1 order is
 
 -- the record of a frame that leaves
 pub departed_is : (other network : Network) (now : ℕ) (hs : List Happening) (e : AtPort) (d : Departure) → frame_from hs e.cause ≡ Some e.frame

@@ -1,15 +1,13 @@
 -- How far a world came that was asked for the next record.
-use Rattle.drift_world.proofs.Words.{◌++◌, ◌<◌, ◌∙◌, ◌≡◌, Bool, ComesUpTo, DeviceId, Err, IsRunning, List, Network, Node, Note, Ok}
-use Rattle.drift_world.proofs.Words.{Result, Scenario, Stands, Units, [], ap, append-nil, arith, false, given_by, ints, keeps, length, pos}
+use Rattle.drift_world.proofs.Words.{◌++◌, ◌<◌, ◌∙◌, ◌≡◌, Bool, ComesUpTo, Err, IsRunning, List, Meaning, Network, Note, Ok}
+use Rattle.drift_world.proofs.Words.{Result, Scenario, Stands, StandsWith, Units, [], ap, append-nil, arith, false, given_by, ints, keeps, length, pos}
 use Rattle.drift_world.{proofs.Words.{sym, true, world_of, ℕ}, specs.declared.state.State.State}
 use Rattle.drift_world.specs.{Running.{MayTryAgain, next_of}, Turns.{IsAfter, NextSays}}
 
-module _ {C M : Type 0} (reading : C → ℕ → ℕ) (stands : M → Network → DeviceId → Node → Type 0) (own : Network)
-    (old new : State C M) where
+module _ {C M : Type 0} {reading : C → ℕ → ℕ} {stands : Meaning M} {own : Network} {old new : State C M} where
   -- memory ran out before the time
   try_again : (until : Units) (n : ℕ) → until.0 ≡ pos n → IsAfter old new → IsRunning reading stands own old
-      → ((s : Scenario) (notes : List Note) → Stands reading (keeps stands) s (world_of own old) notes
-      → Stands reading (keeps stands) s (world_of own new) (notes ++ [])) → new.time < n
+      → StandsWith reading stands own old new [] → new.time < n
       → MayTryAgain (world_of own old) (world_of own new) until
   try_again until n is after run still lt =
       let a = run.is in

@@ -5,7 +5,7 @@ use Rattle.world_state.specs.{Acting.body_of, Ripening.{AreSettledSo, joined_rec
 use Rattle.world_state.proofs.{Swaps.{stayed, stays, was_there}, queue_lemmas.Bags.each_apart}
 use Rattle.drift_world.proofs.Words.{◌++◌, IsOwn, TurnsIn, World, true}
 use Rattle.drift_world.proofs.Words.{◌+◌, ◌<◌, ◌^◌, ◌↔◌, ◌∙◌, ◌∷◌, ◌≡◌, ◌≤ℤ◌, ◌≤◌, AreApart, ComesFirst, DeviceId, Happening, IsAt, IsIn}
-use Rattle.drift_world.proofs.Words.{IsPermutation, IsPermutation-map, Kept, List, Moment, Network, Node, Note, Option, Scenario, Settled}
+use Rattle.drift_world.proofs.Words.{IsPermutation, IsPermutation-map, Kept, List, Meaning, Moment, Network, Note, Option, Scenario, Settled}
 use Rattle.drift_world.proofs.Words.{Some, Stands, StandsFor, Units, Waits, ap, arith, false, frame_from}
 use Rattle.drift_world.proofs.Words.{get_or_from_slice_get, happenings, in_get, is_mapped, is_set, keeps, length, map, moment_of, pos, refl}
 use Rattle.drift_world.proofs.Words.{ripe_place, settled_as, settled_at, slice_get_within, slice_set, subst, sym, units_of, waiting_as, world_of, ℕ}
@@ -67,47 +67,47 @@ others_wait w old new t v other = (
 abbrev pub moment_by : Units → Units → Moment
 moment_by time reading = record { time = time; reading = reading }
 
-module _ {C M : Type 0} (reading : C → ℕ → ℕ) (stands : M → Network → DeviceId → Node → Type 0) (network : Network) (state : State C M) (w : Waits)
+module _ {C M : Type 0} (reading : C → ℕ → ℕ) (stands : Meaning M) (network : Network) (state : State C M) (w : Waits)
     (there : IsIn w state.waiting.items)
     (reached : (clock : C) → slice_get state.clocks.items w.device.0 ≡ Some clock → w.point.0 ≤ℤ pos (reading clock state.time)) where
   in_waiting : IsIn (waiting_as w) (map waiting_as state.waiting.items)
   in_waiting = is_mapped waiting_as state.waiting.items w there
 
-  pub within : (s : Scenario) (notes : List Note) → Stands reading (keeps stands) s (world_of network state) notes → w.device.0 < length s.network.device
-  within s notes old = waits_within s (happenings s.network notes) (waiting_as w) (old.waiting.real (waiting_as w) in_waiting) old.run.founded old.range
+  pub within : {s : Scenario} {notes : List Note} → Stands reading (keeps stands) s (world_of network state) notes → w.device.0 < length s.network.device
+  within {s} {notes} old = waits_within s (happenings s.network notes) (waiting_as w) (old.waiting.real (waiting_as w) in_waiting) old.run.founded old.range
 
-  pub device_in : (s : Scenario) (notes : List Note) → Stands reading (keeps stands) s (world_of network state) notes → w.device.0 < length network.device
-  device_in s notes old = subst (λ (n : Network). w.device.0 < length n.device) (sym old.same) (within s notes old)
+  pub device_in : {s : Scenario} {notes : List Note} → Stands reading (keeps stands) s (world_of network state) notes → w.device.0 < length network.device
+  device_in {s} {notes} old = subst (λ (n : Network). w.device.0 < length n.device) (sym old.same) (within old)
 
   -- what its clock reads is what the scenario says
-  pub reads : (s : Scenario) (notes : List Note) → Stands reading (keeps stands) s (world_of network state) notes → (clock : C)
+  pub reads : {s : Scenario} {notes : List Note} → Stands reading (keeps stands) s (world_of network state) notes → {clock : C}
       → slice_get state.clocks.items w.device.0 ≡ Some clock → reading clock state.time ≡ s.reading w.device state.time
-  reads s notes old clock own =
-      let it = old.clocks w.device (within s notes old) in
+  reads {s} {notes} old {clock} own =
+      let it = old.clocks w.device (within old) in
       ap (λ (k : C). reading k state.time) (some_same clock it.0 _ own it.1) ∙ sym (it.2 state.time (omega arith))
 
-  point : (s : Scenario) (notes : List Note) → Stands reading (keeps stands) s (world_of network state) notes → w.point.0 ≤ℤ pos (s.reading w.device state.time)
-  point s notes old =
-      let it = old.clocks w.device (within s notes old) in
-      subst (λ n. w.point.0 ≤ℤ pos n) (reads s notes old it.0 it.1) (reached it.0 it.1)
+  point : {s : Scenario} {notes : List Note} → Stands reading (keeps stands) s (world_of network state) notes → w.point.0 ≤ℤ pos (s.reading w.device state.time)
+  point {s} {notes} old =
+      let it = old.clocks w.device (within old) in
+      subst (λ n. w.point.0 ≤ℤ pos n) (reads old it.1) (reached it.0 it.1)
 
-  pub low : (s : Scenario) (notes : List Note) → Stands reading (keeps stands) s (world_of network state) notes → (clock : C)
+  pub low : {s : Scenario} {notes : List Note} → Stands reading (keeps stands) s (world_of network state) notes → {clock : C}
       → slice_get state.clocks.items w.device.0 ≡ Some clock → reading clock state.time ≤ 2 ^ 60 + 2 ^ 51
-  low s notes old clock own = subst (λ n. n ≤ 2 ^ 60 + 2 ^ 51) (sym (reads s notes old clock own)) ((old.steady w.device).low state.time old.limit)
+  low {s} {notes} old {clock} own = subst (λ n. n ≤ 2 ^ 60 + 2 ^ 51) (sym (reads old own)) ((old.steady w.device).low state.time old.limit)
 
-  pub moment_is : (s : Scenario) (notes : List Note) → Stands reading (keeps stands) s (world_of network state) notes → (clock : C)
-      → slice_get state.clocks.items w.device.0 ≡ Some clock → (number : ℕ) → number ≡ reading clock state.time → (time read : Units)
+  pub moment_is : (s : Scenario) {notes : List Note} → Stands reading (keeps stands) s (world_of network state) notes → {clock : C}
+      → slice_get state.clocks.items w.device.0 ≡ Some clock → {number : ℕ} → number ≡ reading clock state.time → {time read : Units}
       → time ≡ units_of state.time → read ≡ units_of number → moment_by time read ≡ moment_of s w.device state.time
-  moment_is s notes old clock own number is time read a b =
+  moment_is s {notes} old {clock} own is {read} a b =
       ap (λ t. moment_by t read) a ∙ ap (moment_by (units_of state.time)) b
-      ∙ ap (λ n. moment_by (units_of state.time) (units_of n)) (is ∙ reads s notes old clock own)
+      ∙ ap (λ n. moment_by (units_of state.time) (units_of n)) (is ∙ reads old own)
 
-  pub asked : (at : IsAt reading stands network state (ripe_place state.time (waiting_as w))) (machine : Kept M) (moment : Moment)
+  pub asked : (at : IsAt reading stands network state (ripe_place state.time (waiting_as w))) {machine : Kept M} {moment : Moment}
       → slice_get state.machines.items w.device.0 ≡ Some machine → moment ≡ moment_of at.s w.device state.time
       → StandsFor (keeps stands) machine (λ n device node. MayTake n device node moment w.link w.frame w.point)
-  asked at machine moment own same =
+  asked at {machine} own same =
       let s = at.s in
-      let ask = may_ask reading (keeps stands) s (world_of network state) at.notes (waiting_as w) at.is in_waiting (point s at.notes at.is) at.first in
+      let ask = may_ask reading (keeps stands) s (world_of network state) at.notes (waiting_as w) at.is in_waiting (point at.is) at.first in
       let machine_is = some_same ask.machine machine _ ask.there own in
       subst (λ (m : Moment). StandsFor (keeps stands) machine (λ n device node. MayTake n device node m w.link w.frame w.point)) (sym same) (
         s.network,
@@ -166,17 +166,17 @@ pub octets_fit : {number : ℕ} {w : Waits} {result : Ripe} {old new : List Sett
     → AreSettledSo number w result old new → All have_octets old → All have_octets new
 octets_fit {number} {w} {result} {old} {new} a all =
     all_put_some have_octets (joined_record number w.device result) a.mid new a.more (joined_fits number w.device result)
-    (all_put have_octets (ripe_record w result) old a.mid a.at a.first (record_fits w result) all)
+    (all_put have_octets a.first (record_fits w result) all)
 
 -- ---- so it is worked off
 
-pub ripened : {C M : Type 0} {reading : C → ℕ → ℕ} (stands : M → Network → DeviceId → Node → Type 0)
-    (network : Network) (state : State C M) {w : Waits} (new : List Waits) (machine after : Kept M) (result : Ripe)
+pub ripened : {C M : Type 0} {reading : C → ℕ → ℕ} (stands : Meaning M)
+    {network : Network} (state : State C M) {w : Waits} (new : List Waits) {machine : Kept M} (after : Kept M) (result : Ripe)
     → IsPermutation state.waiting.items (w ∷ new) → AreApart state.waiting.items
     → ((clock : C) → slice_get state.clocks.items w.device.0 ≡ Some clock
     → w.point.0 ≤ℤ pos (reading clock state.time)) → w.device.0 < length state.machines.items
     → slice_get state.machines.items w.device.0 ≡ Some machine
-    → {s : Scenario} {notes : List Note} (old : Stands reading (keeps stands) s (world_of network state) notes)
+    → {s : Scenario} {notes : List Note} {old : Stands reading (keeps stands) s (world_of network state) notes}
     → ComesFirst reading (keeps stands) s (world_of network state) notes old (ripe_place state.time (waiting_as w))
     → HasRipened (keeps stands) s.network w.device
     (moment_of s w.device state.time) w.link w.frame w.point result machine after
@@ -188,7 +188,7 @@ pub ripened : {C M : Type 0} {reading : C → ℕ → ℕ} (stands : M → Netwo
     })
     (ripe_place state.time (waiting_as w)) (Some (ripe_record w result))
     (joined_record (state.given + 1) w.device result)
-ripened {reading} stands network state {w} new machine after result t apart reached many own {s} {notes} old first has =
+ripened {reading} stands {network} state {w} new {machine} after result t apart reached many own {s} {notes} {old} first has =
     let world = world_of network state in
     let there = was_there w state.waiting.items new t in
     let hs = happenings s.network notes in
@@ -212,6 +212,6 @@ ripened {reading} stands network state {w} new machine after result t apart reac
       by = subst (λ l. TurnsBy reading (keeps stands) s notes l mid place) bodies
           (ripened_turn reading (keeps stands) s world notes (waiting_as w) machine after result
           (slice_set state.machines.items w.device.0 after) (map waiting_as new) old inside
-          (point reading stands network state w there reached s notes old) first own has
+          (point reading stands network state w there reached old) first own has
           (is_set state.machines.items w.device.0 after many) (without w state.waiting.items new t apart state.time));
     }

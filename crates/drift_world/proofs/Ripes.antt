@@ -3,7 +3,7 @@ use Rattle.drift_world.proofs.Words.{◌≡◌, ◌≤ℤ◌, DeviceId, IfNone, 
 use Rattle.{drift_world.specs.Ripening.IsFirstRipe, net_plan.proofs.SameIds.same_device, std.proofs.Common.slice_get}
 use Rattle.{drift_world.specs.declared.state.State.State, world_law.proofs.giving.GivenParts.some_same, world_state.specs.Reaching.IsFirstReached}
 
-module _ {C M : Type 0} (reading : C → ℕ → ℕ) (state : State C M) (device : DeviceId) (now : ℕ) (clock : C)
+module _ {C M : Type 0} (reading : C → ℕ → ℕ) (state : State C M) (device : DeviceId) {now : ℕ} {clock : C}
     (own : slice_get state.clocks.items device.0 ≡ Some clock) (read : now ≡ reading clock state.time) where
   -- so it is of all that wait
   pub first_ripe : (result : Option Waits) → IsFirstReached state.waiting device now result

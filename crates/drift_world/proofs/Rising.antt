@@ -1,5 +1,5 @@
 -- What is settled is in the order of its places.
-use Rattle.drift_world.proofs.Words.{◌++◌, ◌∙◌, ◌∷◌, ◌≡◌, AreComing, DeviceId, Happening, InOrder, IsBefore, IsIn, List, Network, Node}
+use Rattle.drift_world.proofs.Words.{◌++◌, ◌∙◌, ◌∷◌, ◌≡◌, AreComing, Happening, InOrder, IsBefore, IsIn, List, Meaning}
 use Rattle.drift_world.proofs.Words.{Note, Scenario, Stands, World, [], ap, append_assoc, chain, in_right, inl}
 use Rattle.drift_world.proofs.Words.{never_self, parted, place_of, refl, sym, ℕ}
 
@@ -28,7 +28,7 @@ settled_rise {coming} are front (x ∷ xs) is = (
 )
 
 -- what is settled of a world that stands is in order
-pub settled_in_order : {C M : Type 0} {reading : C → ℕ → ℕ} {stands : M → Network → DeviceId → Node → Type 0}
+pub settled_in_order : {C M : Type 0} {reading : C → ℕ → ℕ} {stands : Meaning M}
     {s : Scenario} {world : World C M} {notes : List Note} → Stands reading stands s world notes
     → InOrder world.settled
 settled_in_order {world} old =

@@ -8,12 +8,12 @@ use Rattle.{drift_world.proofs.Words.{time_of, time_on_port, timed, way_as, way_
 use Rattle.{run_law.specs.declared.note.NoteBody.TheVariants.{Event}, world_state.specs.declared.contents.Signal.{Signal as SignalSent}}
 use Rattle.world_state.specs.declared.contents.Signal.TheVariants as signals
 
-pub link_within : (xs : List Link) (i : ℕ) (way : Way) (o : Option Link) (device : DeviceId) → slice_get xs i ≡ o → option_map (target_by way) o ≡ Some device
+pub link_within : (xs : List Link) (i : ℕ) (way : Way) (o : Option Link) {device : DeviceId} → slice_get xs i ≡ o → option_map (target_by way) o ≡ Some device
     → i < length xs
-link_within xs i way None device e is = absurd cc
-link_within xs i way (Some l) device e is = slice_get_within xs i l e
+link_within xs i way None e is = absurd cc
+link_within xs i way (Some l) e is = slice_get_within xs i l e
 
-module _ (s : Scenario) (now : ℕ) (ups downs : List WayState) (ways : AreWays s now (map way_as ups) (map way_as downs)) (x : Happening) (number : ℕ)
+module _ {s : Scenario} {now : ℕ} (ups downs : List WayState) (ways : AreWays s now (map way_as ups) (map way_as downs)) (x : Happening) (number : ℕ)
     (at : time_of x ≡ now) (old new : List (Entry Content)) where
   -- it puts nothing there
   none_put : ((device : DeviceId) (link : LinkId) (t : ℕ) (signal : Signal) → Arrives s x device link t signal → ⊥) → new ≡ old
@@ -55,13 +55,13 @@ module _ (s : Scenario) (now : ℕ) (ups downs : List WayState) (ways : AreWays 
       receives : receiver_of s.network link (way_from s.network device link) ≡ Some d
       arrives : t ≡ time_of x + time_on_port s.network link signal + delay_at s link (way_from s.network device link) (time_of x)
 
-    this : (d : DeviceId) (l : LinkId) (t : ℕ) (g : Signal) → Arrives s x d l t g → IsThis d l t g
-    this d l t g a =
+    this : {d : DeviceId} {l : LinkId} {t : ℕ} {g : Signal} → Arrives s x d l t g → IsThis d l t g
+    this {l} {g} a =
         let same : record { link = l; way = a.way; signal = g } ≡ record { link = link; way = way_from s.network device link; signal = signal } =
         same_Some _ _ (sym a.put ∙ put) in
-        let links : l ≡ link = ap (λ (k : Launch). k.link) same in
-        let on : a.way ≡ way_from s.network device link = ap (λ (k : Launch). k.way) same in
-        let sig : g ≡ signal = ap (λ (k : Launch). k.signal) same in
+        let links : l ≡ link = ap Launch.link same in
+        let on : a.way ≡ way_from s.network device link = ap Launch.way same in
+        let sig : g ≡ signal = ap Launch.signal same in
         record {
           same_link = links;
           same_signal = sig;
@@ -75,16 +75,16 @@ module _ (s : Scenario) (now : ℕ) (ups downs : List WayState) (ways : AreWays 
     time_so : link.0 < length s.network.link → now + time_on_port s.network link signal + delay_by s.network ups downs device link
         ≡ time_of x + time_on_port s.network link signal + delay_at s link (way_from s.network device link) (time_of x)
     time_so lt =
-        ap (λ d. now + time_on_port s.network link signal + d) (delay_is s now ups downs ways device link lt)
+        ap (λ d. now + time_on_port s.network link signal + d) (delay_is ups downs ways device link lt)
         ∙ ap (λ t. t + time_on_port s.network link signal + delay_at s link (way_from s.network device link) t) (sym at)
 
     pub sends : (o : Option DeviceId) → receiver_of s.network link (way_from s.network device link) ≡ o
         → IsPutOn (option_map (λ (p : DueAt). let e : Entry Content = record { place = p; content = Wire sent } in e) (option_map placed o)) old new
         → ArePut s x number (filter_map (on_wire s.network) old) (filter_map (on_wire s.network) new)
     sends None none is = none_put
-        (λ d l t g a. let no : None ≡ Some d = sym none ∙ (this d l t g a).receives in absurd cc) is
+        (λ d l t g a. let no : None ≡ Some d = sym none ∙ (this a).receives in absurd cc) is
     sends (Some receiver) found is =
-        let lt = link_within s.network.link link.0 (way_from s.network device link) (link_at s.network link) receiver refl found in
+        let lt = link_within s.network.link link.0 (way_from s.network device link) (link_at s.network link) refl found in
         let e : Entry Content = record { place = placed receiver; content = Wire sent } in
         let w = wired receiver in
         record {
@@ -104,7 +104,7 @@ module _ (s : Scenario) (now : ℕ) (ups downs : List WayState) (ways : AreWays 
               let of = given_of (on_wire s.network) old y there in
               is_given (on_wire s.network) new of.0 y (in_permuted (e ∷ old) new of.0 is (inr of.1)) of.2;
           all = λ d l t g a.
-              let it = this d l t g a in
+              let it = this a in
               let who : receiver ≡ d = same_Some _ _ (sym found ∙ it.receives) in (
                 w,
                 is_given (on_wire s.network) new e w (in_permuted (e ∷ old) new e is (inl refl)) refl,
@@ -115,34 +115,34 @@ module _ (s : Scenario) (now : ℕ) (ups downs : List WayState) (ways : AreWays 
         }
 
   -- what a record of each kind puts on a wire
-  left_put : (device : DeviceId) (link : LinkId) (cause clock : ℕ) (frame : Option Pcf) (octets : Option Timed)
+  left_put : {device : DeviceId} {link : LinkId} {cause clock : ℕ} (frame : Option Pcf) (octets : Option Timed)
       → x.note.body ≡ Left device link cause clock → x.frame ≡ frame
       → IsPutOn (wire_entry s.network ups downs (Left device link cause clock) frame octets now number) old new
       → ArePut s x number (filter_map (on_wire s.network) old) (filter_map (on_wire s.network) new)
-  left_put device link cause clock None octets is frame put = none_put
+  left_put {device} {link} None octets is frame put = none_put
       (none_launched (ap (launched s x (time_of x)) is
       ∙ ap (option_map (λ (f : Pcf). let l : Launch = record { link = link; way = way_from s.network device link; signal = control (Ok f) } in l)) frame)) put
-  left_put device link cause clock (Some f) octets is frame put = sends device link (control (Ok f)) (signals.Control f)
+  left_put {device} {link} (Some f) octets is frame put = sends device link (control (Ok f)) (signals.Control f)
       (ap (launched s x (time_of x)) is
       ∙ ap (option_map (λ (f : Pcf). let l : Launch = record { link = link; way = way_from s.network device link; signal = control (Ok f) } in l)) frame) refl
       (receiver_of s.network link (way_from s.network device link)) refl put
 
-  timed_put : (device : DeviceId) (link : LinkId) (cause : ℕ) (vl : Rattle.net_plan.specs.declared.ids.VlId.VlId) (cycle : ℕ) (frame : Option Pcf)
+  timed_put : {device : DeviceId} {link : LinkId} {cause : ℕ} {vl : Rattle.net_plan.specs.declared.ids.VlId.VlId} {cycle : ℕ} (frame : Option Pcf)
       (octets : Option Timed) → HasItsOctets (TtSent device link cause vl cycle) octets
       → x.note.body ≡ TtSent device link cause vl cycle → x.octets ≡ octets_in s.network octets
       → IsPutOn (wire_entry s.network ups downs (TtSent device link cause vl cycle) frame octets now number) old new
       → ArePut s x number (filter_map (on_wire s.network) old) (filter_map (on_wire s.network) new)
-  timed_put device link cause vl cycle frame None has is own put = absurd has
-  timed_put device link cause vl cycle frame (Some o) has is own put = sends device link (timed (octets_of s.network o)) (signals.Timed o)
+  timed_put frame None has is own put = absurd has
+  timed_put {device} {link} frame (Some o) has is own put = sends device link (timed (octets_of s.network o)) (signals.Timed o)
       (ap (launched s x (time_of x)) is
       ∙ ap (λ (l : List ℕ). let k : Launch = record { link = link; way = way_from s.network device link; signal = timed l } in Some k) own) refl
       (receiver_of s.network link (way_from s.network device link)) refl put
 
   -- what the record puts on a wire
-  pub puts : (body : NoteBody) (frame : Option Pcf) (octets : Option Timed) → x.note.body ≡ body → HasItsOctets body octets → x.frame ≡ frame
+  pub puts : (body : NoteBody) {frame : Option Pcf} (octets : Option Timed) → x.note.body ≡ body → HasItsOctets body octets → x.frame ≡ frame
       → x.octets ≡ octets_in s.network octets → IsPutOn (wire_entry s.network ups downs body frame octets now number) old new
       → ArePut s x number (filter_map (on_wire s.network) old) (filter_map (on_wire s.network) new)
-  puts (Left device link cause clock) frame octets is has framed own put = left_put device link cause clock frame octets is framed put
-  puts (TtSent device link cause vl cycle) frame octets is has framed own put = timed_put device link cause vl cycle frame octets has is own put
-  puts (Event line what) frame octets is has framed own put = absurd has
-  puts other frame octets is has framed own put = none_put (none_launched (ap (launched s x (time_of x)) is)) put
+  puts (Left device link cause clock) {frame} octets is has framed own put = left_put frame octets is framed put
+  puts (TtSent device link cause vl cycle) {frame} octets is has framed own put = timed_put frame octets has is own put
+  puts (Event line what) octets is has framed own put = absurd has
+  puts other octets is has framed own put = none_put (none_launched (ap (launched s x (time_of x)) is)) put

@@ -1,6 +1,6 @@
 -- What comes first of what a state has under way.
 use Rattle.{device_rules.specs.FirstKinds.kind_of, drift_world.proofs.Parts.{part_least, part_most, placed_by}}
-use Rattle.drift_world.proofs.Words.{◌+◌, ◌-◌, ◌<◌, ◌^◌, ◌∙◌, ◌∷◌, ◌≡◌, ◌≤ℤ◌, ◌≤◌, ◌⊎◌, AreFirsts, AreNotBefore, AreTimed, AreUnderWay, Bool, Content, DeviceId}
+use Rattle.drift_world.proofs.Words.{◌+◌, ◌-◌, ◌<◌, ◌^◌, ◌∙◌, ◌∷◌, ◌≡◌, ◌≤ℤ◌, ◌≤◌, ◌⊎◌, AreFirsts, AreNotBefore, AreTimed, AreUnderWay, Bool, Content, DeviceId, Meaning}
 use Rattle.drift_world.proofs.Words.{Down, SlotTimer, DueAt, Happening, HasNothingBefore, IfNone, IfSome, IsBefore, IsDue, IsFirst, IsFounded, IsIn, IsInRange}
 use Rattle.drift_world.proofs.Words.{IsLinkInRange, IsSized, List, Network, Node, None, Note, Option, Scenario, Some, Stands, Up, Waiting, Waits, Way, []}
 use Rattle.drift_world.proofs.Words.{◌*◌, amount, ap, arith, at_port, cases_eq, cases_lt, chain, given_of}
@@ -44,7 +44,7 @@ slot_most devices slot = elim (cases_lt slot devices) [
   | inr le ↦ let is = slot_high devices slot le in omega (arith, is)
 ]
 
-module _ {timers : List Timer} {due : SlotTimer} (slot : ℕ) (t : Timer) (first : IsFirstDue timers due) where
+module _ {timers : List Timer} {due : SlotTimer} (slot : ℕ) {t : Timer} (first : IsFirstDue timers due) where
   -- no timer is earlier than the first, and one of its rank and of a lower slot is later
   least_slot : slice_get timers slot ≡ Some t → due.time ≤ t.time
   least_slot at = elim (cases_lt t.time due.time) [
@@ -132,37 +132,37 @@ same_slot device other rest more le (inl lt) = absurd (omega (arith, lt))
 same_slot device other rest more le (inr (e, inl lt)) = absurd (omega (arith, le, lt))
 same_slot device other rest more le (inr (e, inr (same, b))) = same
 
-module _ {C M : Type 0} (last_step : C → ℕ) (reading : C → ℕ → ℕ) (stands : M → Network → DeviceId → Node → Type 0) (network : Network)
-    (state : State C M) (sized : IsSized last_step network state) (are : AreTimed reading stands network state) (p : List ℕ)
-    (in_time : IsBefore ((2 ^ 60 + 1) ∷ []) p → ⊥) where
+module _ {C M : Type 0} {last_step : C → ℕ} {reading : C → ℕ → ℕ} {stands : Meaning M} {network : Network}
+    {state : State C M} (sized : IsSized last_step network state) (are : AreTimed reading stands network state)
+    (p : List ℕ) (in_time : IsBefore ((2 ^ 60 + 1) ∷ []) p → ⊥) where
   -- what a frame that waits is for is of the lowest rank
-  ripe_rank : (due : SlotTimer) → IsFirstDue state.timers due → due.slot < length network.device → due.rank ≡ 3
-  ripe_rank due first low =
-      let timed = (are.each (record { 0 = due.slot }) low).ripe in ap (λ (t : Timer). t.rank) (some_same _ _ _ first.timer timed.of_ripe)
+  ripe_rank : {due : SlotTimer} → IsFirstDue state.timers due → due.slot < length network.device → due.rank ≡ 3
+  ripe_rank {due} first low =
+      let timed = (are.each (record { 0 = due.slot }) low).ripe in ap Timer.rank (some_same _ _ _ first.timer timed.of_ripe)
 
   -- a frame that waits, whose device's timer is at this time, is not before the place
   waits_by : (due : Option SlotTimer) → IfSome due (λ d. IsFirstDue state.timers d) → IfNone due (AreFrom never state.timers)
       → IfSome due (λ d. (IsBefore (due_place (length network.device) d) p → ⊥) ⊎ IsRipePlace reading network state d p)
-      → (w : Waits) (clock : C) → IsIn w state.waiting.items → slice_get state.clocks.items w.device.0 ≡ Some clock
+      → (w : Waits) {clock : C} → IsIn w state.waiting.items → slice_get state.clocks.items w.device.0 ≡ Some clock
       → w.device.0 < length network.device → (time : ℕ) → slice_get state.timers w.device.0 ≡ Some (record { time = time; rank = 3 }) → (t : ℕ) → time ≤ t
       → t ≤ 2 ^ 60 → w.point.0 ≤ℤ pos (reading clock t) → IsBefore (ripe_place t (waiting_as w)) p → ⊥
-  waits_by None first none not w clock there own of_it time at t le most reached b =
+  waits_by None first none not w there own of_it time at t le most reached b =
       let past : never ≤ time = in_all (λ (r : Timer). never ≤ r.time) state.timers w.device.0 (record { time = time; rank = 3 }) none at in
       absurd (omega (arith, past, le, most))
-  waits_by (Some d) first none (inl not) w clock there own of_it time at t le most reached b =
+  waits_by (Some d) first none (inl not) w there own of_it time at t le most reached b =
       not_sooner (time ∷ 3 ∷ w.device.0 ∷ []) (due_place (length network.device) d) p
       (ripe_slot (length network.device) w.device.0 time first at) not
       (chain (time ∷ 3 ∷ w.device.0 ∷ []) (ripe_place t (waiting_as w)) p (ripe_earlier t time w.device.0 (amount w.point) (parting w) le) b)
-  waits_by (Some d) first none (inr r) w clock there own of_it time at t le most reached b =
+  waits_by (Some d) first none (inr r) w {clock} there own of_it time at t le most reached b =
       let timer : Timer = record { time = time; rank = 3 } in
-      let least : d.time ≤ time = least_slot w.device.0 timer first at in
+      let least : d.time ≤ time = least_slot w.device.0 first at in
       let by = same_time t d.time (3 ∷ w.device.0 ∷ amount w.point ∷ parting w) (3 ∷ r.one.device.0 ∷ amount r.one.point ∷ parting r.one)
       (omega (arith, least, le)) (subst (λ q. IsBefore (ripe_place t (waiting_as w)) q) r.place b) in
       let now : t ≡ d.time = by.0 in
       let one = r.at in
       let low : r.one.device.0 ≤ w.device.0 = elim (cases_lt w.device.0 d.slot) [
         | inl lt ↦
-            let later : d.time < time = lower_slot w.device.0 timer first at (sym (ripe_rank d first r.there)) lt in absurd (omega (arith, later, le, now))
+            let later : d.time < time = lower_slot w.device.0 first at (sym (ripe_rank first r.there)) lt in absurd (omega (arith, later, le, now))
         | inr ge ↦ omega (arith, ge, one)
       ] in
       let same : w.device.0 ≡ d.slot = same_slot w.device.0 r.one.device.0 (amount w.point ∷ parting w) (amount r.one.point ∷ parting r.one) low by.1
@@ -185,27 +185,27 @@ module _ {C M : Type 0} (last_step : C → ℕ) (reading : C → ℕ → ℕ) (s
   -- nor is it before the place
   acts_by : (due : Option SlotTimer) → IfSome due (λ d. IsFirstDue state.timers d) → IfNone due (AreFrom never state.timers)
       → IfSome due (λ d. (IsBefore (due_place (length network.device) d) p → ⊥) ⊎ IsRipePlace reading network state d p)
-      → (device : DeviceId) (node : Node) (task : Task) (t : ℕ) → state.time ≤ t → t ≤ 2 ^ 60
+      → {device : DeviceId} (node : Node) (task : Task) (t : ℕ) → state.time ≤ t → t ≤ 2 ^ 60
       → (timed : IsActTimed reading stands network state.timers state device) → keeps stands timed.machine network device node
       → IsPending network device node task → reading_for network node task ≤ℤ pos (reading timed.clock t)
       → IsBefore (task_place network t device task) p → ⊥
-  acts_by None first none not device node task t from most timed kept pending reached b =
+  acts_by None first none not {device} node task t from most timed kept pending reached b =
       let le = timed.acts.none node task kept pending t from most reached in
       let past : never ≤ timed.act = in_all (λ (r : Timer). never ≤ r.time) state.timers (length network.device + device.0) _ none timed.of_act in
       absurd (omega (arith, past, le, most))
-  acts_by (Some d) first none (inl not) device node task t from most timed kept pending reached b =
+  acts_by (Some d) first none (inl not) {device} node task t from most timed kept pending reached b =
       let place : List ℕ = timed.act ∷ part_rank timed.part ∷ device.0 ∷ [] in
       let le = timed.acts.none node task kept pending t from most reached in
       not_sooner (task_place network t device task) place p
       (behind_timer device node task timed.clock t timed.act timed.part le most (λ lt. timed.acts.late lt node kept) pending reached)
       (not_sooner place (due_place (length network.device) d) p
-      (act_slot (length network.device) device.0 timed.act (part_rank timed.part) first (ripe_rank d first) (part_least timed.part) timed.of_act)
+      (act_slot (length network.device) device.0 timed.act (part_rank timed.part) first (ripe_rank first) (part_least timed.part) timed.of_act)
       not) b
-  acts_by (Some d) first none (inr r) device node task t from most timed kept pending reached b =
+  acts_by (Some d) first none (inr r) {device} node task t from most timed kept pending reached b =
       let q = placed_by network t device task in
       let rank = part_rank (part_of (kind_of task)) in
       let le = timed.acts.none node task kept pending t from most reached in
-      let least : d.time ≤ timed.act = least_slot (length network.device + device.0) (record { time = timed.act; rank = part_rank timed.part }) first timed.of_act in
+      let least : d.time ≤ timed.act = least_slot (length network.device + device.0) first timed.of_act in
       let by = same_time t d.time (rank ∷ device.0 ∷ q.0) (3 ∷ r.one.device.0 ∷ amount r.one.point ∷ parting r.one) (omega (arith, least, le))
       (subst (λ l. IsBefore l (ripe_place d.time (waiting_as r.one))) q.1
       (subst (λ l. IsBefore (task_place network t device task) l) r.place b)) in
@@ -217,9 +217,9 @@ module _ {C M : Type 0} (last_step : C → ℕ) (reading : C → ℕ → ℕ) (s
   under_way_by None first none not e there b = subst (λ es. IsIn e es) none there
   under_way_by (Some q) first none not e there b = not_sooner (numbers_of e.place) (numbers_of q) p (first.none e there) not b
 
-  all_by : (place : Option DueAt) (due : Option SlotTimer) → AreFirsts state place due → AreNotBefore reading network state place due p
+  all_by : {place : Option DueAt} {due : Option SlotTimer} → AreFirsts state place due → AreNotBefore reading network state place due p
       → HasNothingBefore reading stands network state p
-  all_by place due firsts not = record {
+  all_by {place} {due} firsts not = record {
     under_way = λ e there. under_way_by place firsts.some_place firsts.no_place not.under_way e there;
     waiting = λ w clock there own t from reached b.
         let few = slice_get_within state.clocks.items w.device.0 clock own in
@@ -229,7 +229,7 @@ module _ {C M : Type 0} (last_step : C → ℕ) (reading : C → ℕ → ℕ) (s
         let most = in_run t 3 _ p in_time b in
         let clock_is = some_same _ _ _ own timed.of_clock in
         let le = timed.ripens.none w there refl t from most (subst (λ (k : C). w.point.0 ≤ℤ pos (reading k t)) clock_is reached) in
-        waits_by due firsts.some_due firsts.no_due not.timers w clock there own of_it timed.ripe timed.of_ripe t le most reached b;
+        waits_by due firsts.some_due firsts.no_due not.timers w there own of_it timed.ripe timed.of_ripe t le most reached b;
     acting = λ device machine clock node task held own kept pending t from reached b.
         let few = slice_get_within state.clocks.items device.0 clock own in
         let sizes = sized.clocks in
@@ -239,7 +239,7 @@ module _ {C M : Type 0} (last_step : C → ℕ) (reading : C → ℕ → ℕ) (s
         let most = in_run t (part_rank (part_of (kind_of task))) (device.0 ∷ q.0) p in_time (subst (λ l. IsBefore l p) q.1 b) in
         let clock_is = some_same _ _ _ own timed.of_clock in
         let machine_is = some_same _ _ _ held timed.of_machine in
-        acts_by due firsts.some_due firsts.no_due not.timers device node task t from most timed
+        acts_by due firsts.some_due firsts.no_due not.timers node task t from most timed
         (subst (λ k. keeps stands k network device node) machine_is kept) pending
         (subst (λ (k : C). reading_for network node task ≤ℤ pos (reading k t)) clock_is reached) b;
     befell = not.befell;
@@ -248,15 +248,15 @@ module _ {C M : Type 0} (last_step : C → ℕ) (reading : C → ℕ → ℕ) (s
 
 -- where the first of each kind is not before the place, nothing is
 pub nothing_before : {C M : Type 0} {last_step : C → ℕ} {reading : C → ℕ → ℕ}
-    {stands : M → Network → DeviceId → Node → Type 0} {network : Network} {state : State C M} {place : Option DueAt}
+    {stands : Meaning M} {network : Network} {state : State C M} {place : Option DueAt}
     {due : Option SlotTimer} {p : List ℕ} → IsSized last_step network state → AreTimed reading stands network state
     → AreFirsts state place due → AreNotBefore reading network state place due p
     → HasNothingBefore reading stands network state p
 nothing_before {last_step} {reading} {stands} {network} {state} {place} {due} {p} sized are firsts not =
-    all_by last_step reading stands network state sized are p not.in_time place due firsts not
+    all_by sized are p not.in_time firsts not
 
 -- nothing is before what is not behind a place before which nothing is
-pub sooner_too : {C M : Type 0} {reading : C → ℕ → ℕ} {stands : M → Network → DeviceId → Node → Type 0}
+pub sooner_too : {C M : Type 0} {reading : C → ℕ → ℕ} {stands : Meaning M}
     {network : Network} {state : State C M} {w : List ℕ} (p : List ℕ)
     → HasNothingBefore reading stands network state w → (IsBefore w p → ⊥)
     → HasNothingBefore reading stands network state p
@@ -271,8 +271,8 @@ sooner_too {w} p has not = record {
 
 -- ---- what is due by the first timer
 
-module _ {C M : Type 0} (reading : C → ℕ → ℕ) (stands : M → Network → DeviceId → Node → Type 0) (network : Network) (state : State C M)
-    (due : SlotTimer) (are : AreTimed reading stands network state) (first : IsFirstDue state.timers due) where
+module _ {C M : Type 0} {reading : C → ℕ → ℕ} {stands : Meaning M} {network : Network} {state : State C M}
+    {due : SlotTimer} (are : AreTimed reading stands network state) (first : IsFirstDue state.timers due) where
   -- it is not past
   pub due_time : state.time ≤ due.time
   due_time = in_all (λ (t : Timer). state.time ≤ t.time) state.timers due.slot _ are.later first.timer
@@ -286,7 +286,7 @@ module _ {C M : Type 0} (reading : C → ℕ → ℕ) (stands : M → Network �
       let timed = (are.each device (omega (arith, inside, slots, high))).act in
       let slot : due.slot ≡ length network.device + device.0 = omega (arith, high) in (
         timed.part,
-        ap (λ (t : Timer). t.rank) (some_same _ _ _ first.timer (ap (λ (n : ℕ). slice_get state.timers n) slot ∙ timed.of_act)),
+        ap Timer.rank (some_same _ _ _ first.timer (ap (λ (n : ℕ). slice_get state.timers n) slot ∙ timed.of_act)),
         omega (arith, inside, slots),
       )
 
@@ -295,7 +295,7 @@ module _ {C M : Type 0} (reading : C → ℕ → ℕ) (stands : M → Network �
   due_ranks = elim (cases_lt due.slot (length network.device)) [
     | inl low ↦
         let timed = (are.each (record { 0 = due.slot }) low).ripe in
-        let three : due.rank ≡ 3 = ap (λ (t : Timer). t.rank) (some_same _ _ _ first.timer timed.of_ripe) in
+        let three : due.rank ≡ 3 = ap Timer.rank (some_same _ _ _ first.timer timed.of_ripe) in
         (omega (arith, three), omega (arith, three))
     | inr high ↦ let is = due_part high in by is.0 is.1
   ]
@@ -309,7 +309,7 @@ module _ {C M : Type 0} (reading : C → ℕ → ℕ) (stands : M → Network �
   due_ripe of_it soon =
       let device : DeviceId = record { 0 = due.slot } in
       let timed = (are.each device of_it).ripe in
-      let is : timed.ripe ≡ due.time = ap (λ (t : Timer). t.time) (some_same _ _ _ timed.of_ripe first.timer) in
+      let is : timed.ripe ≡ due.time = ap Timer.time (some_same _ _ _ timed.of_ripe first.timer) in
       let w = timed.ripens.one (omega (arith, is, soon)) in
       (timed.clock, timed.of_clock, (w.0, w.1, w.2, subst (λ (t : ℕ). w.0.point.0 ≤ℤ pos (reading timed.clock t)) is w.3))
 
@@ -324,8 +324,8 @@ module _ {C M : Type 0} (reading : C → ℕ → ℕ) (stands : M → Network �
     late = λ s machine node of there kept.
         let timed = (are.each device of_it).act in
         let timer = some_same _ _ _ first.timer (ap (λ (n : ℕ). slice_get state.timers n) slot ∙ timed.of_act) in
-        let time : due.time ≡ timed.act = ap (λ (t : Timer). t.time) timer in
-        let is : part_rank timed.part ≡ part_rank part = sym (ap (λ (t : Timer). t.rank) timer) ∙ rank in
+        let time : due.time ≡ timed.act = ap Timer.time timer in
+        let is : part_rank timed.part ≡ part_rank part = sym (ap Timer.rank timer) ∙ rank in
         let machine_is = some_same _ _ _ there timed.of_machine in
         let own = of.clocks device (subst (λ (k : Network). device.0 < length k.device) of.same of_it) in
         let clock_is = some_same _ _ _ own.1 timed.of_clock in
@@ -371,16 +371,16 @@ shown_earlier now shown device p le b =
       | inr ne ↦ chain (now ∷ 14 ∷ shown ∷ []) (now ∷ 14 ∷ device ∷ []) p (inr (refl, inr (refl, inl (omega (arith, le, ne))))) b
     ]
 
-module _ {C M : Type 0} (last_step : C → ℕ) (reading : C → ℕ → ℕ) (stands : M → Network → DeviceId → Node → Type 0) (s : Scenario) (network : Network)
-    (state : State C M) (notes : List Note) (old : Stands reading (keeps stands) s (world_of network state) notes)
+module _ {C M : Type 0} {last_step : C → ℕ} {reading : C → ℕ → ℕ} (stands : Meaning M) {s : Scenario} {network : Network}
+    {state : State C M} {notes : List Note} (old : Stands reading (keeps stands) s (world_of network state) notes)
     (sized : IsSized last_step network state) where
   few : (n : ℕ) → n < length network.device → n < length s.network.device
   few n lt = subst (λ (k : Network). n < length k.device) old.same lt
 
   -- then nothing of the world is before the place
-  pub of_world : (p : List ℕ) → AreUnderWay network state.under_way.entries → HasNothingBefore reading stands network state p
+  pub of_world : {p : List ℕ} → AreUnderWay network state.under_way.entries → HasNothingBefore reading stands network state p
       → NothingBefore (keeps stands) s (world_of network state) p
-  of_world p under_way has = record {
+  of_world {p} under_way has = record {
     wires = λ e i b.
         let g = given_of (on_wire network) state.under_way.entries e i in
         has.under_way g.0 g.1

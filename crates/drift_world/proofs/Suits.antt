@@ -3,7 +3,7 @@
 use Rattle.{net_plan.specs.declared.event.Event.Event, schedule_tables.proofs.Margins.master_ends}
 use Rattle.{drift_world.proofs.Offs.{begins_off, stays_off}, run_law.{proofs.scenario.Devices.broken_by, specs.scenario.Faults.{Breaks, IsBroken, TurnsOn}}}
 use Rattle.drift_world.proofs.Words.{◌<◌, ◌∙◌, ◌≡◌, AreWithinHypothesis, DeviceId, FitsWorld, IsOfNetwork, IsSomeAnd}
-use Rattle.drift_world.proofs.Words.{IsWithinHypothesis, Link, LinkId, List, Network, Node, None, Note, Off, Option, Some, Stands, What, World, amount, any_in}
+use Rattle.drift_world.proofs.Words.{IsWithinHypothesis, Link, LinkId, List, Meaning, Network, None, Note, Off, Option, Some, Stands, What, World, amount, any_in}
 use Rattle.drift_world.proofs.Words.{breaks_at, false, false_from_ne_true, happenings, in_filter, inl, inr, is_broken, length, link_at, nat_le, option_map_or}
 use Rattle.{drift_world.proofs.Words.{parted, refl, scenario, subst, sym, true, ℕ}, net_plan.specs.Places.{device_at, is_end_system, is_master}}
 use Rattle.{net_plan.specs.declared.tables.Device.Device, precision_law.proofs.Plain.{any_is, any_of_in}, run_law.specs.device.States.state_before}
@@ -47,8 +47,8 @@ sends_end network past event link octets within here what there = from (link_at 
 
 -- ---- a device that is turned on is off, and not broken
 
-module _ {C M : Type 0} (reading : C → ℕ → ℕ) (stands : M → Network → DeviceId → Node → Type 0) (network : Network) (f : DeviceId → ℕ → ℕ)
-    (past : List Event) (world : World C M) (notes : List Note) (old : Stands reading stands (scenario network f past) world notes)
+module _ {C M : Type 0} {reading : C → ℕ → ℕ} {stands : Meaning M} (network : Network) (f : DeviceId → ℕ → ℕ)
+    (past : List Event) {world : World C M} {notes : List Note} (old : Stands reading stands (scenario network f past) world notes)
     (event : Event) (within : IsWithinHypothesis network past event) where
   not_broken : (device : DeviceId) → event.what ≡ events.On device → is_broken (scenario network f past) device world.now ≡ true → ⊥
   not_broken device what broken =

@@ -1,14 +1,14 @@
 -- Timers that are right, and stay so.
 use Rattle.{drift_world.proofs.Fits.sized_so, std.proofs.Common.slice_get}
 use Rattle.world_state.specs.{declared.timers.Timer.Timer, timers.Times.AreFrom}
-use Rattle.drift_world.proofs.Words.{◌*◌, ◌+◌, ◌<◌, ◌^◌, ◌↔◌, ◌∙◌, ◌≡◌, ◌≤ℤ◌, ◌≤◌, ◌⊎◌, AreTimed, Bool, ChangesOnly, DeviceId, IsIn, IsInRange, IsRunning}
+use Rattle.drift_world.proofs.Words.{◌*◌, ◌+◌, ◌<◌, ◌^◌, ◌↔◌, ◌∙◌, ◌≡◌, ◌≤ℤ◌, ◌≤◌, ◌⊎◌, AreTimed, Bool, ChangesOnly, DeviceId, IsIn, IsInRange, IsRunning, Meaning}
 use Rattle.drift_world.proofs.Words.{IsSized, IsTimed, Kept, List, Network, Node, None, Option, Some, Units, Waits, ap, arith, cases_eq, cases_lt, inl, inr, ints, keeps}
 use Rattle.drift_world.{proofs.Words.{length, never, pos, refl, subst, sym, ℕ}, specs.Stepping.{ActsAt, IsRekeyed, IsRipeAt, MayRekey, SetsOnly}}
 use Rattle.drift_world.specs.{Parts.IsNoSooner, declared.part.Part.Part}
 use Rattle.{drift_world.specs.declared.state.State.State, run_law.specs.machines.{Calls.HasDue, Tasks.IsDueReading}, world_state.specs.Timing.{IsLeastPoint, IsTimeFor}}
 
 -- the network of a state that stands is in range
-pub in_range : {C M : Type 0} {reading : C → ℕ → ℕ} {stands : M → Network → DeviceId → Node → Type 0} {network : Network} {state : State C M}
+pub in_range : {C M : Type 0} {reading : C → ℕ → ℕ} {stands : Meaning M} {network : Network} {state : State C M}
     → IsRunning reading stands network state → IsInRange network
 in_range run = subst IsInRange (sym run.is.same) run.is.range
 
@@ -61,7 +61,7 @@ module _ {C : Type 0} (reading : C → ℕ → ℕ) (clock : C) where
     );
   }
 
-pub acts_timed : {C M : Type 0} (reading : C → ℕ → ℕ) (stands : M → Network → DeviceId → Node → Type 0) (network : Network) (clock : C) (machine : Kept M)
+pub acts_timed : {C M : Type 0} (reading : C → ℕ → ℕ) (stands : Meaning M) (network : Network) (clock : C) (machine : Kept M)
     (device : DeviceId) (now : ℕ) (due : Option Units) (time : ℕ) (part : Part)
     → IsLow reading clock now → ((node : Node) → keeps stands machine network device node → IsDueReading network device node due)
     → IsTimeFor reading clock now due time
@@ -87,7 +87,7 @@ acts_timed reading stands network clock machine device now (Some due) time part 
 -- ---- they stay so
 
 -- where the device is as it was, and time has not gone back
-pub still_timed : {C M : Type 0} {reading : C → ℕ → ℕ} {stands : M → Network → DeviceId → Node → Type 0}
+pub still_timed : {C M : Type 0} {reading : C → ℕ → ℕ} {stands : Meaning M}
     {network : Network} {old : State C M} (new : State C M) {device : DeviceId}
     → IsTimed reading stands network old.timers old device
     → slice_get new.clocks.items device.0 ≡ slice_get old.clocks.items device.0
@@ -123,14 +123,14 @@ still_timed new is clocks machines waiting later ripe act = record {
   };
 }
 
-module _ {C M : Type 0} (reading : C → ℕ → ℕ) (stands : M → Network → DeviceId → Node → Type 0) (network : Network) where
+module _ {C M : Type 0} {reading : C → ℕ → ℕ} {stands : Meaning M} {network : Network} where
   -- one device and its clock have changed, and its timers are set then
-  pub rekeyed_by : (device : DeviceId) (old mid new : State C M) → AreTimed reading stands network old → device.0 < length network.device
+  pub rekeyed_by : {device : DeviceId} {old mid new : State C M} → AreTimed reading stands network old → device.0 < length network.device
       → ((i : ℕ) → (i ≡ device.0 → ⊥) → slice_get mid.clocks.items i ≡ slice_get old.clocks.items i)
       → ((i : ℕ) → (i ≡ device.0 → ⊥) → slice_get mid.machines.items i ≡ slice_get old.machines.items i)
       → ((w : Waits) → (w.device.0 ≡ device.0 → ⊥) → w.device.0 < length network.device → IsIn w mid.waiting.items ↔ IsIn w old.waiting.items)
       → mid.time ≡ old.time → mid.timers ≡ old.timers → IsRekeyed reading stands network device mid new → AreTimed reading stands network new
-  rekeyed_by device old mid new are of_it clocks machines waiting time timers keyed = record {
+  rekeyed_by {device} {old} {mid} {new} are of_it clocks machines waiting time timers keyed = record {
     sized = keyed.sets.sized ∙ ap length timers ∙ are.sized;
     each = λ other there.
         elim (cases_eq other.0 device.0) [
@@ -144,7 +144,7 @@ module _ {C M : Type 0} (reading : C → ℕ → ℕ) (stands : M → Network �
               (ap (λ (s : State C M). slice_get s.machines.items other.0) same ∙ machines other.0 ne)
               (λ w at. subst (λ (s : State C M). IsIn w s.waiting.items ↔ IsIn w old.waiting.items) (sym same)
               (waiting w (λ e. ne (sym at ∙ e)) (omega (arith, at, there))))
-              (let now = ap (λ (s : State C M). s.time) same in omega (arith, now, time))
+              (let now = ap State.time same in omega (arith, now, time))
               (keyed.sets.others other.0 (apart other.0 ne (λ e. omega (arith, e, there))) ∙ ap (λ (l : List Timer). slice_get l other.0) timers)
               (keyed.sets.others (length network.device + other.0)
               (apart (length network.device + other.0) (λ e. omega (arith, e, of_it)) (λ e. ne (omega (arith, e))))
@@ -160,10 +160,10 @@ module _ {C M : Type 0} (reading : C → ℕ → ℕ) (stands : M → Network �
       apart slot one other = λ is. elim is [ inl e ↦ one e | inr e ↦ other e ]
 
   -- a step of one device, whose timers are set then
-  pub rekeyed : (device : DeviceId) (old mid new : State C M) → AreTimed reading stands network old → device.0 < length network.device
+  pub rekeyed : {device : DeviceId} {old mid new : State C M} → AreTimed reading stands network old → device.0 < length network.device
       → ChangesOnly device.0 old mid → mid.timers ≡ old.timers → IsRekeyed reading stands network device mid new → AreTimed reading stands network new
-  rekeyed device old mid new are of_it changes timers keyed =
-      rekeyed_by device old mid new are of_it (λ i ne. ap (λ (c : _). slice_get c.items i) changes.clocks) changes.machines
+  rekeyed {device} {old} {mid} {new} are of_it changes timers keyed =
+      rekeyed_by are of_it (λ i ne. ap (λ (c : _). slice_get c.items i) changes.clocks) changes.machines
       (λ w ne lt. changes.waiting w ne) changes.time timers keyed
 
   -- a step that leaves what timers are for as it was
@@ -182,9 +182,9 @@ module _ {C M : Type 0} (reading : C → ℕ → ℕ) (stands : M → Network �
   }
 
   -- a step of none of the devices
-  pub aside : (other : ℕ) (old new : State C M) → AreTimed reading stands network old → length network.device ≤ other → ChangesOnly other old new
+  pub aside : {other : ℕ} {old new : State C M} → AreTimed reading stands network old → length network.device ≤ other → ChangesOnly other old new
       → new.timers ≡ old.timers → AreTimed reading stands network new
-  aside other old new are none c timers = record {
+  aside {old} {new} are none c timers = record {
     sized = ap length timers ∙ are.sized;
     each = λ device there.
         let time = c.time in
@@ -199,12 +199,12 @@ module _ {C M : Type 0} (reading : C → ℕ → ℕ) (stands : M → Network �
 
   pub unchanged : (old new : State C M) → AreTimed reading stands network old → ((device : ℕ) → ChangesOnly device old new) → new.timers ≡ old.timers
       → AreTimed reading stands network new
-  unchanged old new are changes timers = aside (length network.device) old new are (omega arith) (changes (length network.device)) timers
+  unchanged old new are changes timers = aside are (omega arith) (changes (length network.device)) timers
 
   -- time passes, up to no timer's time
-  pub passed : (old : State C M) (t : ℕ) (early : Bool) → AreTimed reading stands network old → old.time ≤ t → AreFrom t old.timers
+  pub passed : {old : State C M} (t : ℕ) (early : Bool) → AreTimed reading stands network old → old.time ≤ t → AreFrom t old.timers
       → AreTimed reading stands network (record old { time = t; early = early })
-  passed old t early are later none = record {
+  passed {old} t early are later none = record {
     sized = are.sized;
     each = λ device there.
         still_timed (record old { time = t; early = early }) (are.each device there) refl refl
@@ -215,39 +215,39 @@ module _ {C M : Type 0} (reading : C → ℕ → ℕ) (stands : M → Network �
 -- ---- the timers of all devices are set, one after the other
 
 -- those of so many are right, none is past, and nothing else has changed
-pub record AreSetTo {C M : Type 0} (reading : C → ℕ → ℕ) (stands : M → Network → DeviceId → Node → Type 0) (network : Network) (count : ℕ)
+pub record AreSetTo {C M : Type 0} (reading : C → ℕ → ℕ) (stands : Meaning M) (network : Network) (count : ℕ)
     (old state : State C M) : Type 0 where
   pub same : state ≡ record old { timers = state.timers }
   pub sized : length state.timers ≡ 2 * length network.device
   pub later : AreFrom old.time state.timers
   pub each : (device : DeviceId) → device.0 < count → device.0 < length network.device → IsTimed reading stands network state.timers state device
 
-module _ {C M : Type 0} (last_step : C → ℕ) (reading : C → ℕ → ℕ) (stands : M → Network → DeviceId → Node → Type 0) (network : Network)
-    (old state : State C M) (same : state ≡ record old { timers = state.timers }) where
+module _ {C M : Type 0} (last_step : C → ℕ) (reading : C → ℕ → ℕ) (stands : Meaning M) {network : Network}
+    {old state : State C M} (same : state ≡ record old { timers = state.timers }) where
   -- what a state keeps does not depend on its timers
   pub sized_with : IsSized last_step network old → IsSized last_step network state
   sized_with is =
       subst (λ s. IsSized last_step network s) (sym same)
-      (sized_so last_step network old (record old { timers = state.timers }) is refl refl refl refl refl refl refl)
+      (sized_so (record old { timers = state.timers }) is refl refl refl refl refl refl refl)
 
   pub running_with : IsRunning reading stands network old → IsRunning reading stands network state
   running_with is = subst (λ s. IsRunning reading stands network s) (sym same) (record { s = is.s; notes = is.notes; is = is.is })
 
 -- so timers may be set when others have been
 pub may_still : {C M : Type 0} {last_step : C → ℕ} {reading : C → ℕ → ℕ}
-    {stands : M → Network → DeviceId → Node → Type 0} {network : Network} {device : DeviceId} (IsSet : ℕ → Type 0)
+    {stands : Meaning M} {network : Network} {device : DeviceId} (IsSet : ℕ → Type 0)
     {old new : State C M} → MayRekey last_step reading stands network old device → SetsOnly IsSet old new
     → MayRekey last_step reading stands network new device
 may_still IsSet may sets = grind arith
 
-module _ {C M : Type 0} (reading : C → ℕ → ℕ) (stands : M → Network → DeviceId → Node → Type 0) (network : Network) where
+module _ {C M : Type 0} {reading : C → ℕ → ℕ} {stands : Meaning M} {network : Network} where
   -- one device more
-  pub set_more : (device : DeviceId) (old mid new : State C M) → AreSetTo reading stands network device.0 old mid
+  pub set_more : {device : DeviceId} {old mid new : State C M} → AreSetTo reading stands network device.0 old mid
       → IsRekeyed reading stands network device mid new → device.0 < length network.device → AreSetTo reading stands network (device.0 + 1) old new
-  set_more device old mid new are keyed there =
+  set_more {device} {mid} {new} are keyed there =
       let same = keyed.sets.same in
-      let was = ap (λ (s : State C M). s.time) are.same in
-      let now = ap (λ (s : State C M). s.time) same in
+      let was = ap State.time are.same in
+      let now = ap State.time same in
       record {
         same = same ∙ ap (λ (s : State C M). let k : State C M = record s { timers = new.timers } in k) are.same;
         sized = keyed.sets.sized ∙ are.sized;

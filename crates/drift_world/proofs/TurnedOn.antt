@@ -1,7 +1,7 @@
 -- A device is turned on at the present instant where such an event befell and is pending.
 use Rattle.{drift_world.proofs.Rising.Rises, run_law.proofs.{law.FirstPlaces.in_at, records.Order.in_any}, world_law.proofs.giving.GivenParts.some_same}
-use Rattle.drift_world.proofs.Words.{◌&&◌, ◌++◌, ◌+◌, ◌==◌, ◌∙◌, ◌∷◌, ◌≡◌, ◌≤ℤ◌, DeviceId, Happening, IsBefore, IsCaused, IsDue, IsFounded, IsIn, List, Network}
-use Rattle.drift_world.proofs.Words.{Node, NoneBefore, Note, Scenario, Some, Stands, What, World, [], amount, and_parts, any_in, ap, append_assoc, arith}
+use Rattle.drift_world.proofs.Words.{◌&&◌, ◌++◌, ◌+◌, ◌==◌, ◌∙◌, ◌∷◌, ◌≡◌, ◌≤ℤ◌, DeviceId, Happening, IsBefore, IsCaused, IsDue, IsFounded, IsIn, List}
+use Rattle.drift_world.proofs.Words.{Meaning, NoneBefore, Note, Scenario, Some, Stands, What, World, [], amount, and_parts, any_in, ap, append_assoc, arith}
 use Rattle.drift_world.proofs.Words.{both_ways, chain, eq-eqb, eqb-true, false, happening, happenings, in_get, in_right, inl, inr, is_turned_on_at, length}
 use Rattle.drift_world.proofs.Words.{list_any, never_self, numbered_in, parted, place_of, pos, refl, subst, suc, sym, time_of, true, turns_on, ℕ}
 use Rattle.{net_plan.specs.declared.event.Event.Event, run_law.{proofs.runs.Places.before_or_not, specs.records.{Causes.IsOfThisTime, Order.AllBefore}}}
@@ -72,8 +72,8 @@ on_has_outcome : (device : DeviceId) (what : What) → turns_on device what ≡ 
 on_has_outcome device (events.On other) on = refl
 on_has_outcome device rest on = absurd (both_ways false refl on)
 
-module _ {C M : Type 0} (reading : C → ℕ → ℕ) (stands : M → Network → DeviceId → Node
-    → Type 0) (s : Scenario) (world : World C M) (notes : List Note) (old : Stands reading stands s world notes) (early : world.early ≡ true)
+module _ {C M : Type 0} (reading : C → ℕ → ℕ) (stands : Meaning M) (s : Scenario) (world : World C M)
+    (notes : List Note) (old : Stands reading stands s world notes) (early : world.early ≡ true)
     (begun : (e : Event) → IsIn e s.events → pos 0 ≤ℤ e.time.0) (device : DeviceId) where
   hs : List Happening
   hs = happenings s.network notes
@@ -94,9 +94,9 @@ module _ {C M : Type 0} (reading : C → ℕ → ℕ) (stands : M → Network �
       (and_from _ _ (ap (turns_on device) (sym r.same) ∙ found.2) (eq-eqb (amount r.event.time) world.now (ap amount (sym r.at) ∙ real.2.same_time)))
 
   -- the events of this instant are pending
-  unsettled : (number : ℕ) (h : Happening) → IsOfThisTime hs world.now number h → world.pending ≡ true
+  unsettled : {number : ℕ} {h : Happening} → IsOfThisTime hs world.now number h → world.pending ≡ true
   unfolding hs
-  unsettled number h it =
+  unsettled {number} {h} it =
       elim (cases_Bool world.pending) [
         | inl yes_pending ↦ yes_pending
         | inr closed ↦ let over = old.untold.done closed number h it in absurd (never_self (world.now ∷ 2 ∷ []) (old.early early (world.now ∷ 2 ∷ []) over))
@@ -145,7 +145,7 @@ module _ {C M : Type 0} (reading : C → ℕ → ℕ) (stands : M → Network �
               h = m;
               this = record { there = of.1; same_time = time_is };
               line = c.0;
-              body = c.2 ∙ ap (kinds.Event c.0) (r.same ∙ ap (λ (x : Event). x.what) own);
+              body = c.2 ∙ ap (kinds.Event c.0) (r.same ∙ ap Event.what own);
             }
       ]
 
@@ -158,7 +158,7 @@ module _ {C M : Type 0} (reading : C → ℕ → ℕ) (stands : M → Network �
       let at = in_get s.events e found.1 in
       let it = told at.0 e at.1 (eqb-true (amount e.time) world.now both.1) in
       in_any (λ (b : Befell). turns_on device b.what) world.befell (record { number = it.number; what = e.what })
-      (old.untold.all (unsettled it.number it.h it.this) it.number it.line e.what it.h it.this it.body (on_has_outcome device e.what both.0)) both.0
+      (old.untold.all (unsettled it.this) it.number it.line e.what it.h it.this it.body (on_has_outcome device e.what both.0)) both.0
 
   -- the device is turned on at this instant exactly where what befell turns it on
   pub turned_on_is : is_turned_on_at s device world.now ≡ list_any (λ b. turns_on device b.what) world.befell

@@ -4,11 +4,11 @@ use Rattle.drift_world.proofs.{Foremost.timers_later, Rising.settled_in_order, W
 use Rattle.drift_world.{proofs.{AtSource.{IsSourceRank, at_rank, is_late, rank_most, ranks}, Sources.{of_world, sooner_too}}, specs.{Stepping.IsRekeyed, declared.{source.Source.Source, state.State.State}}}
 use Rattle.drift_world.proofs.{Timings.{passed, rekeyed, unchanged}, Words.{numbers_of, option_map_or, own_place, place_of, rank, refl, settled_at, subst, sym, true, world_of, ℕ}}
 use Rattle.drift_world.proofs.Words.{◌++◌, ◌+◌, ◌<◌, ◌^◌, ◌∙◌, ◌∷◌, ◌≡◌, ◌≤◌, AreFirsts, AreComing, AreTimed, Bool, ChangesOnly, ComesFirst, DeviceId}
-use Rattle.drift_world.proofs.Words.{Content, Waits, at_port, false, on_wire, waiting_as}
+use Rattle.drift_world.proofs.Words.{Content, StandsOn, StandsWith, Waits, at_port, false, on_wire, waiting_as}
 use Rattle.world_law.specs.world.World.{is_at_source}
 use Rattle.{std.specs.List.filter_map, world_state.specs.declared.queue.Entry.Entry}
 use Rattle.drift_world.proofs.Words.{SlotTimer, DueAt, Err, Happening, HasItsOctets, HasNothingBefore, IsAt, IsBefore, IsIn, IsRunning, IsScenarioRun, IsSound}
-use Rattle.drift_world.proofs.Words.{IsWell, List, Network, NoSourceBefore, Node, Note, Ok, OnErr, OnOk, Option, Result, Scenario, Settled, SourceFirst}
+use Rattle.drift_world.proofs.Words.{IsWell, List, Meaning, Network, NoSourceBefore, Note, Ok, OnErr, OnOk, Option, Result, Scenario, Settled, SourceFirst}
 use Rattle.run_law.specs.records.Ranks.{key}
 use Rattle.drift_world.proofs.Words.{Stands, Turn, [], ap, append-nil, arith, cases_lt, chain, happenings, inl, inr, keeps, length, length-map, map, never_self}
 use Rattle.drift_world.specs.Turns.{HasRoom, IsAfter, IsForemost, IsKept, IsNow, IsPassed, IsStep, IsThere, MayGive, MayWork, PassSays, SettledFirst, TurnSays, given_in}
@@ -20,9 +20,9 @@ use Rattle.std.proofs.Common.{All, slice_get}
 -- ---- a source and what is settled
 
 -- the numbers of what is under way at this time and of this rank
-pub ranked_at : (now rank : ℕ) (place : DueAt) → place.at ≡ now → place.rank ≡ rank
+pub ranked_at : {now rank : ℕ} (place : DueAt) → place.at ≡ now → place.rank ≡ rank
     → now ∷ rank ∷ place.device ∷ place.link ∷ place.cause ∷ [] ≡ numbers_of place
-ranked_at now rank place at is =
+ranked_at {rank} place at is =
     ap (λ (t : ℕ). t ∷ rank ∷ place.device ∷ place.link ∷ place.cause ∷ []) (sym at)
     ∙ ap (λ (r : ℕ). place.at ∷ r ∷ place.device ∷ place.link ∷ place.cause ∷ []) (sym is)
 
@@ -31,10 +31,10 @@ pub record IsShaped (now : ℕ) (source : Source) : Type 0 where
   pub rest : List ℕ
   pub place : source_place now source ≡ now ∷ source_rank source ∷ rest
 
-pub shaped : {C M : Type 0} (reading : C → ℕ → ℕ) (stands : M → Network → DeviceId → Node → Type 0) (network : Network) (state : State C M)
+pub shaped : {C M : Type 0} (reading : C → ℕ → ℕ) (stands : Meaning M) (network : Network) (state : State C M)
     (source : Source) → IsThere reading stands network state source → IsNow source → IsShaped state.time source
-shaped reading stands network state (Arrival place) there now = record { rest = _; place = sym (ranked_at state.time 2 place there.now there.rank_is) }
-shaped reading stands network state (Departure place) there now = record { rest = _; place = sym (ranked_at state.time 8 place there.now there.rank_is) }
+shaped reading stands network state (Arrival place) there now = record { rest = _; place = sym (ranked_at place there.now there.rank_is) }
+shaped reading stands network state (Departure place) there now = record { rest = _; place = sym (ranked_at place there.now there.rank_is) }
 shaped reading stands network state (Later time) there now = absurd now
 shaped reading stands network state other there now = record { rest = _; place = refl }
 
@@ -52,14 +52,14 @@ not_ahead network {now} {source} first shape lt before =
     (subst (IsBefore (now ∷ own_place first)) shape.place before)
 
 -- what is of a lower rank than a source is before it
-pub ahead_before : {C M : Type 0} (reading : C → ℕ → ℕ) (stands : M → Network → DeviceId → Node → Type 0) (network : Network) (state : State C M)
+pub ahead_before : {C M : Type 0} (reading : C → ℕ → ℕ) (stands : Meaning M) (network : Network) (state : State C M)
     (source : Source) (first : Settled) → IsThere reading stands network state source → rank first.body < source_rank source
     → IsBefore (place_of (settled_at network state.time first)) (source_place state.time source)
 ahead_before reading stands network state (Later time) first there lt = inl there
 ahead_before reading stands network state (Arrival place) first there lt =
-    subst (IsBefore (place_of (settled_at network state.time first))) (ranked_at state.time 2 place there.now there.rank_is) (inr (refl, inl lt))
+    subst (IsBefore (place_of (settled_at network state.time first))) (ranked_at place there.now there.rank_is) (inr (refl, inl lt))
 ahead_before reading stands network state (Departure place) first there lt =
-    subst (IsBefore (place_of (settled_at network state.time first))) (ranked_at state.time 8 place there.now there.rank_is) (inr (refl, inl lt))
+    subst (IsBefore (place_of (settled_at network state.time first))) (ranked_at place there.now there.rank_is) (inr (refl, inl lt))
 ahead_before reading stands network state other first there lt = inr (refl, inl lt)
 
 -- where something is settled, a source that comes first of it is not later
@@ -81,19 +81,29 @@ none_sooner network now (x ∷ xs) w order not z (inr rest) before =
 pub after_then : {C M : Type 0} {old mid new : State C M} → IsAfter old mid → IsAfter mid new → IsAfter old new
 after_then first second = grind arith
 
-module _ {C M : Type 0} (last_step : C → ℕ) (reading : C → ℕ → ℕ) (stands : M → Network → DeviceId → Node → Type 0) (network : Network) where
-  pub passed_after : (old new : State C M) (until : ℕ) (turn : Turn) → IsPassed last_step reading stands network until old new turn → IsAfter old new
-  passed_after old new until turn passed = record {
-    clocks = ap (λ (t : State C M). t.clocks) passed.same;
-    ended = ap (λ (t : State C M). t.ended) passed.same;
+-- nothing that is under way is before a record of a lower rank than the first source
+nothing_ahead : {C M : Type 0} {reading : C → ℕ → ℕ} {stands : Meaning M} {network : Network}
+    {state : State C M} {source : Source} (z : Settled) → IsForemost reading stands network state source
+    → rank z.body < source_rank source → HasNothingBefore reading stands network state (place_of (settled_at network state.time z))
+nothing_ahead {reading} {stands} {network} {state} {source} z foremost ahead =
+    let w = source_place state.time source in
+    let p = place_of (settled_at network state.time z) in
+    let before = ahead_before reading stands network state source z foremost.there ahead in
+    sooner_too p foremost.nothing (λ b. never_self p (chain p w p before b))
+
+module _ {C M : Type 0} {last_step : C → ℕ} {reading : C → ℕ → ℕ} {stands : Meaning M} {network : Network} where
+  pub passed_after : {old new : State C M} {until : ℕ} {turn : Turn} → IsPassed last_step reading stands network until old new turn → IsAfter old new
+  passed_after passed = record {
+    clocks = ap State.clocks passed.same;
+    ended = ap State.ended passed.same;
     later = passed.later;
   }
 
   -- the source that comes first of what is under way comes first of all
-  pub comes_first : (state : State C M) (source : Source) (s : Scenario) (notes : List Note) → MayWork last_step reading stands network state source
+  pub comes_first : {state : State C M} {source : Source} {s : Scenario} {notes : List Note} → MayWork last_step reading stands network state source
       → IsNow source → (old : Stands reading (keeps stands) s (world_of network state) notes)
       → ComesFirst reading (keeps stands) s (world_of network state) notes old (source_place state.time source)
-  comes_first state source s notes may now old =
+  comes_first {state} {source} {s} {notes} may now old =
       let w = source_place state.time source in
       let shape = shaped reading stands network state source may.foremost.there now in
       let after = none_sooner network state.time state.settled.items w (settled_in_order old)
@@ -103,114 +113,102 @@ module _ {C M : Type 0} (last_step : C → ℕ) (reading : C → ℕ → ℕ) (s
       let many = length-map state.settled.items (settled_at network state.time) in
       record {
         none = nothing_comes_before reading (keeps stands) s (world_of network state) notes w old after
-            (of_world last_step reading stands s network state notes old may.well.sound.sized w may.well.sound.under_way may.foremost.nothing);
+            (of_world stands old may.well.sound.sized may.well.sound.under_way may.foremost.nothing);
         after = after;
         room = omega (arith, given, numbers, many);
       }
 
-  pub is_at : (state : State C M) (source : Source) → MayWork last_step reading stands network state source → IsNow source
+  pub is_at : {state : State C M} {source : Source} → MayWork last_step reading stands network state source → IsNow source
       → IsAt reading stands network state (source_place state.time source)
-  is_at state source may now =
+  is_at {state} {source} may now =
       let run = may.well.running in
       record {
         s = run.s;
         notes = run.notes;
         is = run.is;
-        first = comes_first state source run.s run.notes may now run.is;
+        first = comes_first may now run.is;
       }
 
-  -- nothing that is under way is before a record of a lower rank than the first source
-  pub nothing_ahead : (state : State C M) (source : Source) (z : Settled) → IsForemost reading stands network state source
-      → rank z.body < source_rank source → HasNothingBefore reading stands network state (place_of (settled_at network state.time z))
-  nothing_ahead state source z foremost ahead =
-      let w = source_place state.time source in
-      let p = place_of (settled_at network state.time z) in
-      let before = ahead_before reading stands network state source z foremost.there ahead in
-      sooner_too p foremost.nothing (λ b. never_self p (chain p w p before b))
-
   -- nothing that is settled stands where its source does
-  not_own : (state : State C M) (source : Source) (is : SettledFirst state.settled.items source)
+  not_own : {state : State C M} {source : Source} (is : SettledFirst state.settled.items source)
       → IsWell last_step reading stands network state → source_rank source ≡ rank is.first.body → ⊥
-  not_own state source is well same =
+  not_own {state} {source} is well same =
       let own : is_at_source is.first.body ≡ true = at_rank is.first.body (subst IsSourceRank same (ranks source)) in
-      let late = is_late reading stands network state is.first is.others is.whole well.running.is in
+      let late = is_late stands state is.whole well.running.is in
       let bad : false ≡ true = sym late ∙ own in cc
 
   -- where what is settled comes first, it may be given
-  pub may_give_first : (state : State C M) (source : Source) → IsWell last_step reading stands network state
+  pub may_give_first : {state : State C M} {source : Source} → IsWell last_step reading stands network state
       → IsForemost reading stands network state source → SettledFirst state.settled.items source
       → MayGive reading stands network state
-  may_give_first state source well foremost is = record {
+  may_give_first {state} {source} well foremost is = record {
     first = is.first;
     others = is.others;
     whole = is.whole;
     before = elim (cases_lt (rank is.first.body) (source_rank source)) [
-      | inl lt ↦ nothing_ahead state source is.first foremost lt
+      | inl lt ↦ nothing_ahead is.first foremost lt
       | inr le ↦
           let least = is.ahead in
-          absurd (not_own state source is well (omega (arith, le, least)))
+          absurd (not_own is well (omega (arith, le, least)))
     ];
   }
 
   -- nothing comes before the first that is settled, where nothing that is under way is before it
-  pub first_gives : (state : State C M) (z : Settled) (others : List Settled) (s : Scenario) (notes : List Note)
+  pub first_gives : {state : State C M} {z : Settled} {others : List Settled} (s : Scenario) {notes : List Note}
       → IsSound last_step network state → HasNothingBefore reading stands network state (place_of (settled_at network state.time z))
       → state.settled.items ≡ z ∷ others → (old : Stands reading (keeps stands) s (world_of network state) notes)
       → NoSourceBefore s (happenings s.network notes) old.frontier (place_of (settled_at network state.time z))
-  first_gives state z others s notes sound nothing whole old =
+  first_gives {state} {z} {others} s {notes} sound nothing whole old =
       let p = place_of (settled_at network state.time z) in
       let after = none_sooner network state.time state.settled.items p (settled_in_order old)
       (λ x rest is. λ b. never_self p (subst (λ y. IsBefore (place_of (settled_at network state.time y)) p) (first_is x rest is) b)) in
       nothing_comes_before reading (keeps stands) s (world_of network state) notes p old after
-      (of_world last_step reading stands s network state notes old sound.sized p sound.under_way nothing)
+      (of_world stands old sound.sized sound.under_way nothing)
     where
       first_is : (x : Settled) (rest : List Settled) → state.settled.items ≡ x ∷ rest → x ≡ z
       first_is x rest is = let e : x ∷ rest ≡ z ∷ others = sym is ∙ whole in cc
 
-  pub gives_first : (state : State C M) (may : MayGive reading stands network state) (s : Scenario) (notes : List Note) → IsSound last_step network state
+  pub gives_first : {state : State C M} (may : MayGive reading stands network state) (s : Scenario) {notes : List Note} → IsSound last_step network state
       → (old : Stands reading (keeps stands) s (world_of network state) notes)
       → NoSourceBefore s (happenings s.network notes) old.frontier (place_of (settled_at network state.time may.first))
-  gives_first state may s notes sound old = first_gives state may.first may.others s notes sound
+  gives_first {state} may s {notes} sound old = first_gives s sound
       may.before may.whole old
 
   -- where nothing is settled, and nothing under way before a later time, the records are the run up to it
-  pub whole_run : (state : State C M) (s : Scenario) (notes : List Note) (until : ℕ) → IsSound last_step network state
+  pub whole_run : {state : State C M} {s : Scenario} {notes : List Note} {until : ℕ} → IsSound last_step network state
       → HasNothingBefore reading stands network state (until ∷ []) → state.settled.items ≡ [] → state.time < until
       → (old : Stands reading (keeps stands) s (world_of network state) notes) → IsScenarioRun s (until ∷ []) notes
-  whole_run state s notes until sound none empty later old =
+  whole_run {state} {s} {notes} {until} sound none empty later old =
       let settled : (world_of network state).settled ≡ [] = ap (map (settled_at network state.time)) empty in
       nothing_settled_is_all s notes old.frontier state.time until old.run
       (subst (λ l. AreComing s (happenings s.network notes) l old.frontier state.time) settled old.are)
       (λ p before. before_later_time p (state.time + 1) until (omega (arith, later)) (old.not_later p before))
       (nothing_comes_before reading (keeps stands) s (world_of network state) notes (until ∷ []) old
       (λ z there. absurd (subst (λ l. IsIn z l) settled there))
-      (of_world last_step reading stands s network state notes old sound.sized (until ∷ []) sound.under_way none))
+      (of_world stands old sound.sized sound.under_way none))
 
   -- ---- what steps keep
 
-  pub runs_on : (old new : State C M) → IsWell last_step reading stands network old
-      → ((s : Scenario) (notes : List Note) → Stands reading (keeps stands) s (world_of network old) notes
-      → Stands reading (keeps stands) s (world_of network new) notes) → IsRunning reading stands network new
-  runs_on old new well still =
+  pub runs_on : {old : State C M} (new : State C M) → IsWell last_step reading stands network old
+      → StandsOn reading stands network old new → IsRunning reading stands network new
+  runs_on new well still =
       let run = well.running in
       record { s = run.s; notes = run.notes; is = still run.s run.notes run.is }
 
   -- where it stands on, the state stays well
-  well_on : (old new : State C M) → IsWell last_step reading stands network old
-      → ((s : Scenario) (notes : List Note) → Stands reading (keeps stands) s (world_of network old) notes
-      → Stands reading (keeps stands) s (world_of network new) notes) → IsSound last_step network new
+  well_on : {old new : State C M} → IsWell last_step reading stands network old
+      → StandsOn reading stands network old new → IsSound last_step network new
       → AreTimed reading stands network new → IsWell last_step reading stands network new
-  well_on old new well still sound timed =
-      record { sound = sound; running = runs_on old new well still; timed = timed }
+  well_on {old} {new} well still sound timed =
+      record { sound = sound; running = runs_on new well still; timed = timed }
 
   -- a step that changes no device
-  pub plain_step : (old new : State C M) → IsWell last_step reading stands network old → IsSound last_step network new
+  pub plain_step : {old new : State C M} → IsWell last_step reading stands network old → IsSound last_step network new
       → ((n : ℕ) → ChangesOnly n old new) → new.timers ≡ old.timers → new.given ≡ old.given
-      → ((s : Scenario) (notes : List Note) → Stands reading (keeps stands) s (world_of network old) notes
-      → Stands reading (keeps stands) s (world_of network new) notes)
+      → StandsOn reading stands network old new
       → IsStep last_step reading stands network old new
-  plain_step old new well sound changes timers given still = record {
-    well = well_on old new well still sound (unchanged reading stands network old new well.timed changes timers);
+  plain_step {old} {new} well sound changes timers given still = record {
+    well = well_on well still sound (unchanged old new well.timed changes timers);
     after = record { clocks = (changes 0).clocks; ended = (changes 0).ended; later = let same = (changes 0).time in omega (arith, same) };
     still = still;
     time = (changes 0).time;
@@ -218,35 +216,33 @@ module _ {C M : Type 0} (last_step : C → ℕ) (reading : C → ℕ → ℕ) (s
   }
 
   -- a step that changes one device, whose timers are set anew
-  pub rekeyed_step : (device : DeviceId) (old mid new : State C M) → IsWell last_step reading stands network old → IsSound last_step network mid
+  pub rekeyed_step : {device : DeviceId} {old mid new : State C M} → IsWell last_step reading stands network old → IsSound last_step network mid
       → device.0 < length network.device → ChangesOnly device.0 old mid → mid.timers ≡ old.timers → mid.given ≡ old.given
-      → ((s : Scenario) (notes : List Note) → Stands reading (keeps stands) s (world_of network old) notes
-      → Stands reading (keeps stands) s (world_of network mid) notes)
+      → StandsOn reading stands network old mid
       → IsRekeyed reading stands network device mid new → IsStep last_step reading stands network old new
-  rekeyed_step device old mid new well sound there changes timers given still keyed =
+  rekeyed_step {device} {old} {mid} {new} well sound there changes timers given still keyed =
       let same = keyed.sets.same in
-      let on : (s : Scenario) (notes : List Note) → Stands reading (keeps stands) s (world_of network old) notes
-      → Stands reading (keeps stands) s (world_of network new) notes = λ s notes is.
+      let on : StandsOn reading stands network old new = λ s notes is.
       subst (λ t. Stands reading (keeps stands) s (world_of network t) notes) (sym same) (still s notes is) in
-      let at : new.time ≡ old.time = ap (λ (t : State C M). t.time) same ∙ changes.time in
+      let at : new.time ≡ old.time = ap State.time same ∙ changes.time in
       record {
-        well = well_on old new well on (sound_timers last_step network mid new same sound)
-            (rekeyed reading stands network device old mid new well.timed there changes timers keyed);
+        well = well_on well on (sound_timers same sound)
+            (rekeyed well.timed there changes timers keyed);
         after = record {
-          clocks = ap (λ (t : State C M). t.clocks) same ∙ changes.clocks;
-          ended = ap (λ (t : State C M). t.ended) same ∙ changes.ended;
+          clocks = ap State.clocks same ∙ changes.clocks;
+          ended = ap State.ended same ∙ changes.ended;
           later = omega (arith, at);
         };
         still = on;
         time = at;
-        given = ap (λ (t : State C M). t.given) same ∙ given;
+        given = ap State.given same ∙ given;
       }
 
   -- ---- a turn keeps the state
 
   -- a step alone
-  pub step_kept : (old new : State C M) → IsStep last_step reading stands network old new → IsKept last_step reading stands network old new []
-  step_kept old new step = record {
+  pub step_kept : {old new : State C M} → IsStep last_step reading stands network old new → IsKept last_step reading stands network old new []
+  step_kept {new} step = record {
     well = step.well;
     after = step.after;
     stands_then = λ s notes is.
@@ -255,31 +251,28 @@ module _ {C M : Type 0} (last_step : C → ℕ) (reading : C → ℕ → ℕ) (s
   }
 
   -- a turn behind a step
-  pub kept_then : (old mid new : State C M) (more : List Note) → IsAfter old mid
-      → ((s : Scenario) (notes : List Note) → Stands reading (keeps stands) s (world_of network old) notes
-      → Stands reading (keeps stands) s (world_of network mid) notes)
+  pub kept_then : {old mid new : State C M} {more : List Note} → IsAfter old mid
+      → StandsOn reading stands network old mid
       → IsKept last_step reading stands network mid new more → IsKept last_step reading stands network old new more
-  kept_then old mid new more after still kept = record {
+  kept_then after still kept = record {
     well = kept.well;
     after = after_then after kept.after;
     stands_then = λ s notes is. kept.stands_then s notes (still s notes is);
   }
 
   -- records are given, and timers are set then
-  pub kept_timers : (old mid new : State C M) (more : List Note) → IsWell last_step reading stands network old
+  pub kept_timers : {old mid new : State C M} (more : List Note) → IsWell last_step reading stands network old
       → IsSound last_step network mid → IsAfter old mid
-      → ((s : Scenario) (notes : List Note) → Stands reading (keeps stands) s (world_of network old) notes
-      → Stands reading (keeps stands) s (world_of network mid) (notes ++ more))
+      → StandsWith reading stands network old mid more
       → new ≡ record mid { timers = new.timers } → AreTimed reading stands network new → IsKept last_step reading stands network old new more
-  kept_timers old mid new more well sound after stands_more same timed =
+  kept_timers {old} {mid} {new} more well sound after stands_more same timed =
       let run = well.running in
-      let on : (s : Scenario) (notes : List Note) → Stands reading (keeps stands) s (world_of network old) notes
-      → Stands reading (keeps stands) s (world_of network new) (notes ++ more) = λ s notes is.
+      let on : StandsWith reading stands network old new more = λ s notes is.
       subst (λ t. Stands reading (keeps stands) s (world_of network t) (notes ++ more)) (sym same)
       (stands_more s notes is) in
       record {
         well = record {
-          sound = sound_timers last_step network mid new same sound;
+          sound = sound_timers same sound;
           running = record { s = run.s; notes = run.notes ++ more; is = on run.s run.notes run.is };
           timed = timed;
         };
@@ -288,11 +281,11 @@ module _ {C M : Type 0} (last_step : C → ℕ) (reading : C → ℕ → ℕ) (s
       }
 
   -- where time passes, no record is given
-  pub passed_kept : (E : Type 0) (old new : State C M) (until : ℕ) (note : Note) (turn : Turn)
+  pub passed_kept : (E : Type 0) {old new : State C M} {until : ℕ} (note : Note) {turn : Turn}
       → IsPassed last_step reading stands network until old new turn → IsKept last_step reading stands network old new (given_in {E = E} (Ok turn) note)
-  passed_kept E old new until note turn passed = record {
+  passed_kept E {old} {new} {until} note {turn} passed = record {
     well = passed.well;
-    after = passed_after old new until turn passed;
+    after = passed_after passed;
     stands_then = λ s notes is.
         subst (λ (l : List Note). Stands reading (keeps stands) s (world_of network new) (notes ++ l))
         (sym (none_given turn passed.says))
@@ -306,27 +299,27 @@ module _ {C M : Type 0} (last_step : C → ℕ) (reading : C → ℕ → ℕ) (s
       none_given GoesOn says = refl
 
   -- room is taken
-  pub roomier : (old new : State C M) → IsWell last_step reading stands network old
+  pub roomier : {old : State C M} (new : State C M) → IsWell last_step reading stands network old
       → new ≡ record old { under_way = new.under_way; waiting = new.waiting; settled = new.settled }
       → new.under_way.entries ≡ old.under_way.entries → new.waiting.items ≡ old.waiting.items
       → new.settled.items ≡ old.settled.items → IsStep last_step reading stands network old new
-  roomier old new well same entries waiting items =
+  roomier {old} new well same entries waiting items =
       let mid : State C M = record old { under_way = new.under_way; waiting = new.waiting; settled = new.settled } in
-      plain_step old new well
+      plain_step well
       (subst (IsSound last_step network) (sym same)
-      (sound_same last_step network old mid well.sound refl refl refl refl refl refl refl refl entries waiting
+      (sound_same mid well.sound refl refl refl refl refl refl refl refl entries waiting
       (subst (All (λ (z : Settled). HasItsOctets z.body z.octets)) (sym items) well.sound.fit.octets)))
       (λ n. record {
-        clocks = ap (λ (t : State C M). t.clocks) same;
-        time = ap (λ (t : State C M). t.time) same;
-        ended = ap (λ (t : State C M). t.ended) same;
+        clocks = ap State.clocks same;
+        time = ap State.time same;
+        ended = ap State.ended same;
         machines = λ i other. ap (λ (t : State C M). slice_get t.machines.items i) same;
         waiting = λ w other. (
           λ there. subst (λ (l : List Waits). IsIn w l) waiting there,
           λ there. subst (λ (l : List Waits). IsIn w l) (sym waiting) there,
         );
       })
-      (ap (λ (t : State C M). t.timers) same) (ap (λ (t : State C M). t.given) same)
+      (ap State.timers same) (ap State.given same)
       (λ s notes is.
       subst (λ (t : State C M). Stands reading (keeps stands) s (world_of network t) notes) (sym same)
       (subst
@@ -346,10 +339,10 @@ module _ {C M : Type 0} (last_step : C → ℕ) (reading : C → ℕ → ℕ) (s
       (sym items) is))))
 
   -- where it is taken for a frame that waits, what comes first on a wire comes first still
-  pub arrival_stays : (old new : State C M) (place : DueAt) → new ≡ record old { waiting = new.waiting }
+  pub arrival_stays : {old new : State C M} {place : DueAt} → new ≡ record old { waiting = new.waiting }
       → new.waiting.items ≡ old.waiting.items → MayWork last_step reading stands network old (Arrival place)
       → MayWork last_step reading stands network new (Arrival place)
-  arrival_stays old new place same items may =
+  arrival_stays {old} {new} {place} same items may =
       let there = may.foremost.there in
       let nothing = may.foremost.nothing in
       let room = may.room in
@@ -357,7 +350,7 @@ module _ {C M : Type 0} (last_step : C → ℕ) (reading : C → ℕ → ℕ) (s
       subst (λ (t : State C M). MayWork last_step reading stands network t (Arrival place)) (sym same)
       (record {
         range = may.range;
-        well = (roomier old roomy may.well refl refl items refl).well;
+        well = (roomier roomy may.well refl refl items refl).well;
         room = record { places = room.places; numbers = room.numbers; launches = room.launches };
         foremost = record {
           there = record {
@@ -379,16 +372,15 @@ module _ {C M : Type 0} (last_step : C → ℕ) (reading : C → ℕ → ℕ) (s
       })
 
   -- time passes
-  pub passes : (old new : State C M) (time : ℕ) → IsWell last_step reading stands network old
+  pub passes : {old new : State C M} {time : ℕ} → IsWell last_step reading stands network old
       → HasNothingBefore reading stands network old (time ∷ []) → old.time < time → time ≤ 2 ^ 60
       → new ≡ record old { time = time; early = true } → IsSound last_step network new
-      → ((s : Scenario) (notes : List Note) → Stands reading (keeps stands) s (world_of network old) notes
-      → Stands reading (keeps stands) s (world_of network new) notes) → IsWell last_step reading stands network new
-  passes old new time well none later limit same sound still =
-      well_on old new well still sound
+      → StandsOn reading stands network old new → IsWell last_step reading stands network new
+  passes {old} {new} {time} well none later limit same sound still =
+      well_on well still sound
       (subst (AreTimed reading stands network) (sym same)
-      (passed reading stands network old time true well.timed (omega (arith, later))
-      (timers_later reading stands network old well.running time (omega (arith, limit)) well.timed none)))
+      (passed time true well.timed (omega (arith, later))
+      (timers_later well.running (omega (arith, limit)) well.timed none)))
 
 -- ---- results
 
@@ -413,15 +405,15 @@ err_open E old new (Ok t) until early same = tt
 err_open E old new (Err e) until early same = omega (arith, early, same)
 
 -- where time passes, what is first stays so, and the room is as it was
-pub firsts_passed : {C M : Type 0} {old : State C M} (new : State C M) {place : Option DueAt} {due : Option SlotTimer}
+pub firsts_passed : {C M : Type 0} {old : State C M} {new : State C M} {place : Option DueAt} {due : Option SlotTimer}
     → new ≡ record old { time = new.time; early = new.early } → AreFirsts old place due → AreFirsts new place due
-firsts_passed new {place} {due} same are =
+firsts_passed {place} {due} same are =
     subst (λ t. AreFirsts t place due) (sym same)
     (record { some_place = are.some_place; no_place = are.no_place; some_due = are.some_due; no_due = are.no_due })
 
-pub room_passed : {C M : Type 0} (network : Network) {old : State C M} (new : State C M)
+pub room_passed : {C M : Type 0} {network : Network} {old : State C M} {new : State C M}
     → new ≡ record old { time = new.time; early = new.early } → HasRoom network old → HasRoom network new
-room_passed network new same room =
+room_passed {network} same room =
     subst (λ t. HasRoom network t) (sym same)
     (record { places = room.places; numbers = room.numbers; launches = room.launches })
 
@@ -441,11 +433,10 @@ err_then E old mid new (Ok x) same err = tt
 err_then E old mid new (Err e) same err = err ∙ same
 
 -- some turns on from where the state was: nothing is given, and it is not yet the time
-pub record IsOnward {C M : Type 0} (last_step : C → ℕ) (reading : C → ℕ → ℕ) (stands : M → Network → DeviceId → Node → Type 0) (network : Network)
+pub record IsOnward {C M : Type 0} (last_step : C → ℕ) (reading : C → ℕ → ℕ) (stands : Meaning M) (network : Network)
     (old new : State C M) (until : ℕ) : Type 0 where
   pub well : IsWell last_step reading stands network new
   pub after : IsAfter old new
-  pub still : (s : Scenario) (notes : List Note) → Stands reading (keeps stands) s (world_of network old) notes
-      → Stands reading (keeps stands) s (world_of network new) notes
+  pub still : StandsOn reading stands network old new
   pub early : new.time < until
   pub given : new.given ≡ old.given

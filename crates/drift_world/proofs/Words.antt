@@ -42,7 +42,7 @@ pub use Rattle.world_state.specs.queue.Places.{IsFirst, numbers_of}
 pub use Rattle.world_state.specs.declared.queue.DueAt.{DueAt}
 pub use Rattle.run_law.proofs.records.Members.{in_map as is_mapped}
 pub use Rattle.world_state.proofs.Swaps.{is_set}
-pub use Rattle.world_state.specs.{Applying.clock_after, Giving.{ArrivedAt, HasItsOctets, IsPutOn, changed_device, delay_by, wire_entry}, Keeping.keeps}
+pub use Rattle.world_state.specs.{Applying.clock_after, Giving.{ArrivedAt, HasItsOctets, IsPutOn, changed_device, delay_by, wire_entry}, Keeping.{Meaning, keeps}}
 pub use Rattle.world_state.specs.{Places.{IsPutAt, IsSomePut, own_place}, Sound.{AreBelow, AreUnderWay, IsShort, rank_of}}
 pub use Rattle.world_state.specs.Storing.{IsStoredBy}
 pub use Rattle.world_state.specs.Views.{at_port, befell_as, octets_in, octets_of, on_wire, settled_at, signal_as, stored_as, waiting_as, way_as, wire_at}
@@ -54,6 +54,6 @@ pub use Rattle.world_state.specs.timers.Times.{never}
 pub use Rattle.world_state.specs.declared.timers.SlotTimer.{SlotTimer}
 pub use Rattle.drift_world.specs.{Giving.IsGivenOut, Locals.{IsComplete, IsLocalClockBefore, Shows, local_shown}}
 pub use Rattle.drift_world.specs.{Running.{ComesUpTo, StandsUnder, behind_events, given_by, reading_of}, Showing.IsOf, Sound.{AreApart, IsSized, IsSound}}
-pub use Rattle.drift_world.specs.{Sourcing.{AreFirsts, AreNotBefore, AreTimed, HasNothingBefore}, Stepping.{ChangesOnly, IsAt, IsRunning, IsTimed}}
-pub use Rattle.drift_world.specs.{Stepping.{InOrder, IsOwn, TurnsIn}, Turns.SourceFirst, Views.world_of, Wells.IsWell}
+pub use Rattle.drift_world.specs.{Sourcing.{AreFirsts, AreNotBefore, AreTimed, HasNothingBefore}, Stepping.{ChangesOnly, IsAt, IsRunning, IsTimed, StandsOn}}
+pub use Rattle.drift_world.specs.{Stepping.{InOrder, IsOwn, StandsWith, TurnsIn}, Turns.SourceFirst, Views.world_of, Wells.IsWell}
 pub use Rattle.drift_world.specs.declared.next.Turn.{Turn}

@@ -1,12 +1,12 @@
 -- How a world begins.
 use Rattle.std.specs.Prelude.{◌*◌, ◌≡◌, ◌≤◌, All, List, Some, [], false, length, map, replicate, slice_get, true, ℕ}
-use Rattle.{drift_world.specs.declared.state.State.State, run_law.specs.machines.Nodes.{Node, begun_node}}
+use Rattle.{drift_world.specs.declared.state.State.State, run_law.specs.machines.Nodes.begun_node}
 use Rattle.{net_plan.specs.declared.{ids.DeviceId.DeviceId, network.Network.Network}, tte_units.specs.Amount.amount}
 use Rattle.world_state.specs.{Beginning.first_way, Keeping.sound_one, timers.Times.unset}
+use Rattle.world_state.specs.Keeping.{Meaning}
 
 -- there is a machine for each device, which has just begun
-pub record AreFresh {M : Type 0} (stands : M → Network → DeviceId → Node
-    → Type 0) (network : Network) (machines : List M) : Type 0 where
+pub record AreFresh {M : Type 0} (stands : Meaning M) (network : Network) (machines : List M) : Type 0 where
   pub each : length machines ≡ length network.device
   pub begun : (device : DeviceId) (machine : M) → slice_get machines device.0 ≡ Some machine
       → stands machine network device (begun_node network device)

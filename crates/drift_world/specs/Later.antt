@@ -3,10 +3,11 @@ use Rattle.std.specs.Prelude.{if◌then◌else◌, ◌&&◌, ◌+◌, ◌<ℤ◌
 use Rattle.std.specs.Prelude.{ℕ, ℤ}
 use Rattle.drift_world.specs.Running.{HoldsATime, StandsUnder, reading_of}
 use Rattle.run_law.specs.scenario.Hypothesis.{IsWithinHypothesis}
-use Rattle.{net_plan.specs.Belonging.IsOfNetwork, run_law.specs.machines.Nodes.Node, world_law.specs.world.World.World}
-use Rattle.net_plan.specs.declared.{event.Event.Event, ids.DeviceId.DeviceId, network.Network.Network}
+use Rattle.{net_plan.specs.Belonging.IsOfNetwork, world_law.specs.world.World.World}
+use Rattle.net_plan.specs.declared.{event.Event.Event, network.Network.Network}
 use Rattle.{run_law.specs.{declared.note.Note.Note, runs.DueRecords.IsRunOf}, tte_units.specs.Amount.{amount, units_of}}
 use Rattle.{tte_units.specs.declared.units.Units.Units, world_state.specs.declared.kept.Kept.Kept}
+use Rattle.world_state.specs.Keeping.{Meaning}
 
 -- it may befall at its time: that is not past, where it is the present time nothing of it but events is worked off, and
 -- the end has not come
@@ -18,8 +19,8 @@ pub record IsOpenFrom {C M : Type 0} (world : World C (Kept M)) (event : Event) 
 -- these events and records leave the world where it stands; where the event is later than the present time, no record
 -- before it is left; and it is within the hypothesis after these events
 pub record ComesBehind {C M : Type 0} (fresh : ℕ → C) (after_step : C → ℕ → ℤ → C) (reading : C → ℕ → ℕ)
-    (stands : M → Network → DeviceId → Node → Type 0) (network : Network) (world : World C (Kept M))
-    (events : List Event) (notes : List Note) (event : Event) : Type 0 where
+    (stands : Meaning M) (network : Network) (world : World C (Kept M)) (events : List Event) (notes : List Note)
+    (event : Event) : Type 0 where
   pub is : StandsUnder fresh after_step reading stands network world events notes
   pub none_left : pos world.now <ℤ event.time.0
       → IsRunOf network (reading_of fresh after_step reading network events) events (amount event.time ∷ []) notes
@@ -28,8 +29,7 @@ pub record ComesBehind {C M : Type 0} (fresh : ℕ → C) (after_step : C → �
 -- the event of this line may be applied to the world: it is of the next line, it may befall at its time, a hold that it
 -- sets is a time, and it does so for some events and records, and is the network's
 pub record MayApply {C M : Type 0} (fresh : ℕ → C) (after_step : C → ℕ → ℤ → C) (reading : C → ℕ → ℕ)
-    (stands : M → Network → DeviceId → Node → Type 0) (world : World C (Kept M)) (line : ℕ)
-    (event : Event) : Type 0 where
+    (stands : Meaning M) (world : World C (Kept M)) (line : ℕ) (event : Event) : Type 0 where
   pub next : line ≡ world.lines + 1
   pub opens : IsOpenFrom world event
   pub hold : HoldsATime event.what

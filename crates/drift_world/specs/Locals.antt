@@ -7,7 +7,7 @@ use Rattle.net_plan.specs.declared.{event.Event.Event, ids.DeviceId.DeviceId, ne
 use Rattle.run_law.specs.{declared.note.Note.Note, machines.Nodes.Node, runs.DueRecords.IsRunOf}
 use Rattle.run_law.specs.{device.LocalClocks.{local, local_before}, records.Happenings.{Happening, happenings}}
 use Rattle.{run_law.specs.records.{Order.{IsBefore, IsIn}, Ranks.place_of}, tte_units.specs.declared.units.Units.Units}
-use Rattle.{run_law.specs.scenario.Scenarios.Scenario, world_state.specs.{Keeping.keeps, declared.kept.Kept.Kept}}
+use Rattle.{run_law.specs.scenario.Scenarios.Scenario, world_state.specs.{Keeping.{Meaning, keeps}, declared.kept.Kept.Kept}}
 use Rattle.sync_state.specs.declared.state.State.{State as DeviceState, TheVariants.Synchronised}
 use Rattle.{tte_units.specs.Amount.amount, world_law.specs.world.World.World}
 
@@ -25,9 +25,8 @@ pub record MayRead {C M : Type 0} (last_step : C → ℕ) (network : Network) (s
   pub limit : t.0 ≤ℤ pos (2 ^ 60)
 
 -- the state shows so much of the device's local clock at the time
-pub record Shows {C M : Type 0} (reading : C → ℕ → ℕ) (stands : M → Network → DeviceId → Node
-    → Type 0) (state : State C M)
-    (device : DeviceId) (t : ℕ) (shown : Option ℤ) : Type 0 where
+pub record Shows {C M : Type 0} (reading : C → ℕ → ℕ) (stands : Meaning M) (state : State C M) (device : DeviceId)
+    (t : ℕ) (shown : Option ℤ) : Type 0 where
   pub clock : C
   pub clock_is : slice_get state.clocks.items device.0 ≡ Some clock
   pub kept : Kept M
@@ -46,8 +45,8 @@ HasCome world hs t =
 -- the world stands for these events, of which none is later than the time, and for these records, which are all of the
 -- run up to the time
 pub record IsComplete {C M : Type 0} (fresh : ℕ → C) (after_step : C → ℕ → ℤ → C) (reading : C → ℕ → ℕ)
-    (stands : M → Network → DeviceId → Node → Type 0) (network : Network) (world : World C (Kept M)) (t : ℕ)
-    (events : List Event) (notes : List Note) : Type 0 where
+    (stands : Meaning M) (network : Network) (world : World C (Kept M)) (t : ℕ) (events : List Event)
+    (notes : List Note) : Type 0 where
   pub is : StandsUnder fresh after_step reading stands network world events notes
   pub past : (e : Event) → IsIn e events → amount e.time ≤ t
   pub all : IsRunOf network (reading_of fresh after_step reading network events) events ((t + 1) ∷ []) notes
@@ -55,7 +54,7 @@ pub record IsComplete {C M : Type 0} (fresh : ℕ → C) (after_step : C → ℕ
 
 -- it does for some events and records
 pub record MayShow {C M : Type 0} (fresh : ℕ → C) (after_step : C → ℕ → ℤ → C) (reading : C → ℕ → ℕ)
-    (stands : M → Network → DeviceId → Node → Type 0) (world : World C (Kept M)) (t : ℕ) : Type 0 where
+    (stands : Meaning M) (world : World C (Kept M)) (t : ℕ) : Type 0 where
   pub events : List Event
   pub notes : List Note
   pub is : IsComplete fresh after_step reading stands world.network world t events notes
@@ -67,7 +66,7 @@ IsLocalClock s hs device t shown =
 
 -- some events and records leave the world where it stands, and nothing of the present instant but events is worked off
 pub record MayShowBefore {C M : Type 0} (fresh : ℕ → C) (after_step : C → ℕ → ℤ → C) (reading : C → ℕ → ℕ)
-    (stands : M → Network → DeviceId → Node → Type 0) (world : World C (Kept M)) : Type 0 where
+    (stands : Meaning M) (world : World C (Kept M)) : Type 0 where
   pub events : List Event
   pub notes : List Note
   pub is : StandsUnder fresh after_step reading stands world.network world events notes
@@ -88,15 +87,14 @@ pub record IsRunTime (t : Units) : Type 0 where
 -- the clock of the device may be shown at the time: some events and records leave the world where it stands, and they
 -- are all of the run up to the time; or this is the present time, and nothing of it but events is worked off
 pub record MayShowAt {C M : Type 0} (fresh : ℕ → C) (after_step : C → ℕ → ℤ → C) (reading : C → ℕ → ℕ)
-    (stands : M → Network → DeviceId → Node → Type 0) (world : World C (Kept M)) (device : DeviceId)
-    (t : Units) : Type 0 where
+    (stands : Meaning M) (world : World C (Kept M)) (device : DeviceId) (t : Units) : Type 0 where
   pub there : device.0 < length world.network.device
   pub time : IsRunTime t
   pub may : MayShow fresh after_step reading stands world (amount t)
       ⊎ ((amount t ≡ world.now) × MayShowBefore fresh after_step reading stands world)
 
 -- the adjustments of such machines lie strictly between -2^61 and 2^61
-abbrev pub AreSmall : {M : Type 0} → (M → Network → DeviceId → Node → Type 0) → Type 0
+abbrev pub AreSmall : {M : Type 0} → Meaning M → Type 0
 AreSmall {M} stands =
     (machine : M) (network : Network) (device : DeviceId) (node : Node) → stands machine network device node
     → IsSmall node.standing.adjustment.0

@@ -6,18 +6,17 @@ use Rattle.{net_plan.specs.Belonging.IsOfNetwork, world_law.specs.source.Agreein
 use Rattle.{net_plan.specs.declared.event.Event.Event, run_law.specs.runs.DueRecords.IsRunOf}
 use Rattle.tte_units.specs.{Amount.units_of, declared.units.Units.Units}
 use Rattle.net_plan.specs.declared.{event.What.{TheVariants.Hold, What}, ids.DeviceId.DeviceId, network.Network.Network}
-use Rattle.run_law.specs.{declared.note.{Note.Note, NoteBody.TheVariants.{Event as Befalls}}, machines.Nodes.Node}
+use Rattle.run_law.specs.declared.note.{Note.Note, NoteBody.TheVariants.{Event as Befalls}}
 use Rattle.run_law.specs.{law.FirstLaws.IsEventInRange, scenario.Hypothesis.{AreWithinHypothesis, IsWithinHypothesis}}
-use Rattle.{world_law.specs.world.World.{Stands, World}, world_state.specs.{Keeping.keeps, declared.kept.Kept.Kept}}
+use Rattle.{world_law.specs.world.World.{Stands, World}, world_state.specs.{Keeping.{Meaning, keeps}, declared.kept.Kept.Kept}}
 pub use Rattle.precision_law.specs.traffic.safety.Under.{clock_of, last_time, reading_of}
 
 -- the events are the network's, their times are none below 0, and each is within the fault hypothesis; the records
 -- given are those of the run under them up to the frontier, and each part of the world is as these events and records
 -- leave it
 pub record StandsUnder {C M : Type 0} (fresh : ℕ → C) (after_step : C → ℕ → ℤ → C) (reading : C → ℕ → ℕ)
-    (stands : M → Network → DeviceId → Node
-    → Type 0) (network : Network) (world : World C (Kept M)) (events : List Event)
-    (notes : List Note) : Type 0 where
+    (stands : Meaning M) (network : Network) (world : World C (Kept M)) (events : List Event) (notes : List Note)
+    : Type 0 where
   pub is : Stands reading (keeps stands) (scenario network (reading_of fresh after_step reading network events) events)
       world notes
   pub clocks : (device : DeviceId) → device.0 < length network.device
@@ -40,8 +39,7 @@ HoldsATime other = Unit {0}
 -- the event of this line may befall the world: it is of the next line and of the present time, a hold that it sets is a
 -- time, and after some events, which with some records leave the world where it stands, it is within the hypothesis
 pub record MayBefall {C M : Type 0} (fresh : ℕ → C) (after_step : C → ℕ → ℤ → C) (reading : C → ℕ → ℕ)
-    (stands : M → Network → DeviceId → Node → Type 0) (world : World C (Kept M)) (line : ℕ)
-    (event : Event) : Type 0 where
+    (stands : Meaning M) (world : World C (Kept M)) (line : ℕ) (event : Event) : Type 0 where
   pub next : line ≡ world.lines + 1
   pub now : IsOpenTo world event
   pub hold : HoldsATime event.what
@@ -108,7 +106,7 @@ ComesUpTo old new until (Err e) = MayTryAgain old new until
 -- where a world stands, and nothing of the present instant but events is worked off, the records that it gave are the
 -- run behind these events
 abbrev pub RunsBehindEvents : {C M : Type 0} → (ℕ → C) → (C → ℕ → ℤ → C) → (C → ℕ → ℕ)
-    → (M → Network → DeviceId → Node → Type 0) → Type 0
+    → Meaning M → Type 0
 RunsBehindEvents {C} {M} fresh after_step reading stands =
     (network : Network) (world : World C (Kept M)) (events : List Event) (notes : List Note)
     → StandsUnder fresh after_step reading stands network world events notes → world.early ≡ true

@@ -5,15 +5,14 @@ use Rattle.net_plan.specs.declared.{ids.DeviceId.DeviceId, network.Network.Netwo
 use Rattle.run_law.specs.{machines.{Nodes.Node, Tasks.{IsPending, Task, reading_for}}, records.Order.{IsBefore, IsIn}}
 use Rattle.world_law.specs.{source.Sources.task_place, world.World.ripe_place}
 use Rattle.world_state.specs.{queue.Places.{IsFirst, numbers_of}, declared.queue.{Entry.Entry, DueAt.DueAt}}
-use Rattle.world_state.specs.{Keeping.keeps, Views.waiting_as, declared.contents.{Content.Content, Waits.Waits}}
+use Rattle.world_state.specs.{Keeping.{Meaning, keeps}, Views.waiting_as, declared.contents.{Content.Content, Waits.Waits}}
 use Rattle.world_state.specs.declared.kept.Kept.{Kept}
 use Rattle.world_state.specs.{timers.Times.{AreFrom, IsFirst as IsFirstDue, never}, declared.timers.SlotTimer.SlotTimer}
 use Rattle.drift_world.specs.{Stepping.IsTimed, declared.state.State.State}
 
 -- the timers of all devices are right, and none is past
-pub record AreTimed {C M : Type 0} (reading : C → ℕ → ℕ) (stands : M → Network → DeviceId → Node
-    → Type 0) (network : Network)
-    (state : State C M) : Type 0 where
+pub record AreTimed {C M : Type 0} (reading : C → ℕ → ℕ) (stands : Meaning M) (network : Network) (state : State C M)
+    : Type 0 where
   pub sized : length state.timers ≡ 2 * length network.device
   pub each : (device : DeviceId) → device.0 < length network.device
       → IsTimed reading stands network state.timers state device
@@ -58,8 +57,7 @@ pub record AreNotBefore {C M : Type 0} (reading : C → ℕ
       → IsBefore (state.time ∷ 14 ∷ state.shown ∷ []) p → ⊥
 
 -- nothing that the state has under way is before the place, by its own parts
-pub record HasNothingBefore {C M : Type 0} (reading : C → ℕ → ℕ) (stands : M → Network → DeviceId → Node
-    → Type 0) (network : Network)
+pub record HasNothingBefore {C M : Type 0} (reading : C → ℕ → ℕ) (stands : Meaning M) (network : Network)
     (state : State C M) (p : List ℕ) : Type 0 where
   pub under_way : (e : Entry Content) → IsIn e state.under_way.entries → IsBefore (numbers_of e.place) p → ⊥
   pub waiting : (w : Waits) (clock : C) → IsIn w state.waiting.items

@@ -1,8 +1,9 @@
 -- How a world goes on, one source after the other.
-use Rattle.std.specs.Prelude.{◌++◌, ◌+◌, ◌-◌, ◌<◌, ◌^◌, ◌∷◌, ◌≡◌, ◌≤ℤ◌, ◌≤◌, ◌⊎◌, Bool, Err, List, Ok, Result}
+use Rattle.std.specs.Prelude.{◌+◌, ◌-◌, ◌<◌, ◌^◌, ◌∷◌, ◌≡◌, ◌≤ℤ◌, ◌≤◌, ◌⊎◌, Bool, Err, List, Ok, Result}
 use Rattle.std.specs.{Prelude.{Some, [], false, length, pos, slice_get, true, ℕ}, VecDeque.{deque_capacity, deque_len}}
 use Rattle.{drift_world.specs.{Nearing.{IsLess, Nears}, Views.world_of}, tte_units.specs.Amount.units_of}
 use Rattle.drift_world.specs.{Sourcing.{HasNothingBefore, IsRipePlace, due_place}, declared.source.Source.Source}
+use Rattle.drift_world.specs.Stepping.{StandsOn, StandsWith}
 use Rattle.{drift_world.specs.{Wells.IsWell, declared.state.State.State}, world_state.specs.declared.queue.DueAt.DueAt}
 use Rattle.drift_world.specs.declared.{next.Turn.TheVariants.{Ends, Gives, GoesOn}, source.Source.TheVariants.Ripening}
 use Rattle.{drift_world.specs.declared.next.Turn.Turn, world_state.specs.declared.timers.SlotTimer.SlotTimer}
@@ -10,7 +11,7 @@ use Rattle.drift_world.specs.declared.source.Source.TheVariants.{Act, Arrival, C
 use Rattle.net_plan.specs.{Ranges.IsInRange, declared.{ids.DeviceId.DeviceId, network.Network.Network}}
 use Rattle.{drift_world.specs.Acting.IsFrom, run_law.specs.{declared.note.Note.Note, records.Ranks.{place_of, rank}}}
 use Rattle.drift_world.specs.{Parts.{part_place, part_rank}, declared.part.Part.Part}
-use Rattle.{run_law.specs.machines.Nodes.Node, world_state.specs.{Frames.first_of, Keeping.keeps, Views.{settled_at, waiting_as}}}
+use Rattle.world_state.specs.{Frames.first_of, Keeping.{Meaning, keeps}, Views.{settled_at, waiting_as}}
 use Rattle.run_law.specs.{records.Order.IsIn, runs.DueRecords.IsScenarioRun, scenario.Scenarios.Scenario}
 use Rattle.world_law.specs.world.World.{Stands, clock_place, ripe_place}
 use Rattle.world_state.specs.{declared.contents.{Settled.Settled, Waits.Waits}, queue.Places.{IsFirst, numbers_of}}
@@ -44,9 +45,8 @@ pub record IsRipe {C M : Type 0} (reading : C → ℕ
   pub reached : w.point.0 ≤ℤ pos (reading clock state.time)
 
 -- the timer of the device is due now for this part, and nothing that it has to do now is of an earlier one
-pub record IsActive {C M : Type 0} (reading : C → ℕ → ℕ) (stands : M → Network → DeviceId → Node
-    → Type 0) (network : Network) (state : State C M) (part : Part)
-    (device : DeviceId) : Type 0 where
+pub record IsActive {C M : Type 0} (reading : C → ℕ → ℕ) (stands : Meaning M) (network : Network) (state : State C M)
+    (part : Part) (device : DeviceId) : Type 0 where
   pub of : device.0 < length network.device
   pub due : slice_get state.timers (length network.device + device.0)
       ≡ Some (record { time = state.time; rank = part_rank part })
@@ -59,7 +59,7 @@ pub record IsToShow {C M : Type 0} (network : Network) (state : State C M) (devi
   pub more : device.0 < length network.device
 
 -- the source is there
-abbrev pub IsThere : {C M : Type 0} → (C → ℕ → ℕ) → (M → Network → DeviceId → Node → Type 0) → Network → State C M
+abbrev pub IsThere : {C M : Type 0} → (C → ℕ → ℕ) → Meaning M → Network → State C M
     → Source → Type 0
 IsThere reading stands network state Events = state.pending ≡ true
 IsThere reading stands network state (Arrival place) = IsDueEntry network state 2 place
@@ -108,8 +108,8 @@ SourceFirst settled source = (first : Settled) (others : List Settled) → settl
     → source_rank source < rank first.body
 
 -- something is settled: the first of it is before all that is to come
-pub record MayGive {C M : Type 0} (reading : C → ℕ → ℕ) (stands : M → Network → DeviceId → Node
-    → Type 0) (network : Network) (state : State C M) : Type 0 where
+pub record MayGive {C M : Type 0} (reading : C → ℕ → ℕ) (stands : Meaning M) (network : Network) (state : State C M)
+    : Type 0 where
   pub first : Settled
   pub others : List Settled
   pub whole : state.settled.items ≡ first ∷ others
@@ -129,15 +129,14 @@ pub record IsCalm {C M : Type 0} (state : State C M) : Type 0 where
   pub empty : state.settled.items ≡ []
 
 -- the source comes first of all that is under way
-pub record IsForemost {C M : Type 0} (reading : C → ℕ → ℕ) (stands : M → Network → DeviceId → Node
-    → Type 0) (network : Network) (state : State C M)
+pub record IsForemost {C M : Type 0} (reading : C → ℕ → ℕ) (stands : Meaning M) (network : Network) (state : State C M)
     (source : Source) : Type 0 where
   pub there : IsThere reading stands network state source
   pub nothing : HasNothingBefore reading stands network state (source_place state.time source)
 
 -- it may be worked off: it comes first of all, and there is room for what it comes to
-pub record MayWork {C M : Type 0} (last_step : C → ℕ) (reading : C → ℕ → ℕ) (stands : M → Network → DeviceId → Node
-    → Type 0) (network : Network) (state : State C M) (source : Source) : Type 0 where
+pub record MayWork {C M : Type 0} (last_step : C → ℕ) (reading : C → ℕ → ℕ) (stands : Meaning M) (network : Network)
+    (state : State C M) (source : Source) : Type 0 where
   pub range : IsInRange network
   pub well : IsWell last_step reading stands network state
   pub room : HasRoom network state
@@ -145,8 +144,8 @@ pub record MayWork {C M : Type 0} (last_step : C → ℕ) (reading : C → ℕ �
   pub first : SourceFirst state.settled.items source
 
 -- a turn may be made towards the time: it is not the time yet, nor behind the end
-pub record MayTurn {C M : Type 0} (last_step : C → ℕ) (reading : C → ℕ → ℕ) (stands : M → Network → DeviceId → Node
-    → Type 0) (network : Network) (until : ℕ) (state : State C M) : Type 0 where
+pub record MayTurn {C M : Type 0} (last_step : C → ℕ) (reading : C → ℕ → ℕ) (stands : Meaning M) (network : Network)
+    (until : ℕ) (state : State C M) : Type 0 where
   pub range : IsInRange network
   pub well : IsWell last_step reading stands network state
   pub limit : until ≤ 2 ^ 60 + 1
@@ -173,12 +172,11 @@ pub record IsAfter {C M : Type 0} (old new : State C M) : Type 0 where
   pub later : old.time ≤ new.time
 
 -- the state stays well, and stands with these records more
-pub record IsKept {C M : Type 0} (last_step : C → ℕ) (reading : C → ℕ → ℕ) (stands : M → Network → DeviceId → Node
-    → Type 0) (network : Network) (old new : State C M) (more : List Note) : Type 0 where
+pub record IsKept {C M : Type 0} (last_step : C → ℕ) (reading : C → ℕ → ℕ) (stands : Meaning M) (network : Network)
+    (old new : State C M) (more : List Note) : Type 0 where
   pub well : IsWell last_step reading stands network new
   pub after : IsAfter old new
-  pub stands_then : (s : Scenario) (notes : List Note) → Stands reading (keeps stands) s (world_of network old) notes
-      → Stands reading (keeps stands) s (world_of network new) (notes ++ more)
+  pub stands_then : StandsWith reading stands network old new more
 
 -- the state has come to the time, and nothing of it but events is worked off
 pub record HasCome {C M : Type 0} (new : State C M) (until : ℕ) : Type 0 where
@@ -205,8 +203,8 @@ IsWhole s notes until Ends = IsScenarioRun s (until ∷ []) notes
 IsWhole s notes until other = Unit {0}
 
 -- what it says of records, and how far it goes
-pub record TurnsTo {C M : Type 0} (reading : C → ℕ → ℕ) (stands : M → Network → DeviceId → Node → Type 0)
-    (network : Network) (until : ℕ) (old new : State C M) (note : Note) (turn : Turn) : Type 0 where
+pub record TurnsTo {C M : Type 0} (reading : C → ℕ → ℕ) (stands : Meaning M) (network : Network) (until : ℕ)
+    (old new : State C M) (note : Note) (turn : Turn) : Type 0 where
   pub whole : (s : Scenario) (notes : List Note) → Stands reading (keeps stands) s (world_of network old) notes
       → IsWhole s notes until turn
   pub says : TurnSays old new until note turn
@@ -219,22 +217,19 @@ PassSays old new until GoesOn = (new.time < until) × (new.given ≡ old.given)
 PassSays old new until Ends = old.ended ≡ false → until ≤ 2 ^ 60 → HasCome new until
 
 -- what it is to work a source off: nothing is given, and the present instant stays
-pub record IsStep {C M : Type 0} (last_step : C → ℕ) (reading : C → ℕ → ℕ) (stands : M → Network → DeviceId → Node
-    → Type 0) (network : Network)
+pub record IsStep {C M : Type 0} (last_step : C → ℕ) (reading : C → ℕ → ℕ) (stands : Meaning M) (network : Network)
     (old new : State C M) : Type 0 where
   pub well : IsWell last_step reading stands network new
   pub after : IsAfter old new
-  pub still : (s : Scenario) (notes : List Note) → Stands reading (keeps stands) s (world_of network old) notes
-      → Stands reading (keeps stands) s (world_of network new) notes
+  pub still : StandsOn reading stands network old new
   pub time : new.time ≡ old.time
   pub given : new.given ≡ old.given
 
 -- time passes, if it does, and nothing else changes
-pub record IsPassed {C M : Type 0} (last_step : C → ℕ) (reading : C → ℕ → ℕ) (stands : M → Network → DeviceId → Node
-    → Type 0) (network : Network) (until : ℕ) (old new : State C M) (turn : Turn) : Type 0 where
+pub record IsPassed {C M : Type 0} (last_step : C → ℕ) (reading : C → ℕ → ℕ) (stands : Meaning M) (network : Network)
+    (until : ℕ) (old new : State C M) (turn : Turn) : Type 0 where
   pub well : IsWell last_step reading stands network new
-  pub still : (s : Scenario) (notes : List Note) → Stands reading (keeps stands) s (world_of network old) notes
-      → Stands reading (keeps stands) s (world_of network new) notes
+  pub still : StandsOn reading stands network old new
   pub whole : (s : Scenario) (notes : List Note) → Stands reading (keeps stands) s (world_of network old) notes
       → IsWhole s notes until turn
   pub says : PassSays old new until turn

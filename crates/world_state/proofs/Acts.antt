@@ -22,12 +22,12 @@ module _ (network : Network) (device : DeviceId) (node : Node) where
   -- a device that acts is as sound as before
   pub still_sound : (moment : Moment) (act : Act) (new : Node) → IsActOf network device node moment act new
       → new.broken ≡ node.broken
-  still_sound moment (acts.Send frame) new (cycle, first, of_frame, is) = ap (λ (n : Node). n.broken) is
-  still_sound moment (acts.Dispatch row cycle) new (first, is) = ap (λ (n : Node). n.broken) is
+  still_sound moment (acts.Send frame) new (cycle, first, of_frame, is) = ap Node.broken is
+  still_sound moment (acts.Dispatch row cycle) new (first, is) = ap Node.broken is
   still_sound moment (acts.Emit sent heard) new (first, so, is) =
-      ap (λ (n : Node). n.broken) is ∙ of_emission network device node moment sent heard
+      ap Node.broken is ∙ of_emission network device node moment sent heard
   still_sound moment (acts.Correct cycle verdict) new (first, (heard, comes, is)) =
-      ap (λ (n : Node). n.broken) is ∙ of_correction node moment heard cycle verdict
+      ap Node.broken is ∙ of_correction node moment heard cycle verdict
 
   -- ---- what is due
 

@@ -38,15 +38,15 @@ same_at : {X : Type 0} (xs : List X) (i : ℕ) (a b : X) → i < length xs → a
 same_at xs i a b lt is also = is ∙ sym (also ∙ get_or_from_slice_get xs i (get_or xs i a) b (slice_get-get_or xs i a lt))
 
 -- the loop goes on
-pub loop_step : (network : Network) (broken : List Bool) (ups : List WayState) (time : ℕ) (xs ys : List Befallen) (i : ℕ) (b m : Befallen) (what : What)
-    (old mid new : List Settled) (before between after : List (Entry Content)) (one : Option Settled) (put : Option (Entry Content))
+pub loop_step : (network : Network) (broken : List Bool) (ups : List WayState) (time : ℕ) (xs ys : List Befallen) (i : ℕ) {b m : Befallen} {what : What}
+    (old mid new : List Settled) (before between after : List (Entry Content)) {one : Option Settled} {put : Option (Entry Content)}
     → length ys ≡ length xs → i < length xs → ((k : ℕ) (d : Befallen) → i ≤ k → get_or ys k d ≡ get_or xs k d) → b ≡ get_or ys i b → m ≡ get_or ys i m
     → what ≡ m.what → AreSettledBy network broken ups time (take i xs) old mid before between
     → one ≡ record_of network broken ups b.number what → IsSomePut one mid new → put ≡ entry_of network ups time b.number what → IsPutOn put between after
     → AreSettledBy network broken ups time (take (i + 1) xs) old new before after
-loop_step network broken ups time xs ys i b m what old mid new before between after one put long lt agree is also of are one_is settles put_is puts =
+loop_step network broken ups time xs ys i {b} {m} {what} old mid new before between after long lt agree is also of are one_is settles put_is puts =
     let same : m ≡ b = same_at ys i m b (omega (arith, long, lt)) also is in
-    let whats : what ≡ b.what = of ∙ ap (λ (x : Befallen). x.what) same in
+    let whats : what ≡ b.what = of ∙ ap Befallen.what same in
     let next : i + 1 ≡ suc i = omega arith in
     let at : get_or xs i b ≡ b = sym (agree i b (omega arith)) ∙ sym is in
     subst (λ l. AreSettledBy network broken ups time l old new before after)
@@ -78,7 +78,7 @@ record IsSendOf (network : Network) (number : ℕ) (e : Entry Content) : Type 0 
   cause : e.place.cause ≡ number
   none : at_port e ≡ None
 
-module _ (network : Network) (range : IsInRange network) (ups : List WayState) (time number : ℕ) where
+module _ {network : Network} (range : IsInRange network) (ups : List WayState) (time number : ℕ) where
   sent_is : (link : LinkId) (octets : List ℕ) (l : Link) (w : WayState) (cut : Bool) (e : Entry Content) → slice_get network.link link.0 ≡ Some l → w.cut ≡ cut
       → sent_up network time number link octets l w ≡ Some e → IsSendOf network number e
   sent_is link octets l w true e found is sent =
@@ -96,18 +96,18 @@ module _ (network : Network) (range : IsInRange network) (ups : List WayState) (
         none = refl;
       })
 
-  by_way : (link : LinkId) (octets : List ℕ) (l : Link) (o : Option WayState) (e : Entry Content) → slice_get network.link link.0 ≡ Some l
+  by_way : (link : LinkId) (octets : List ℕ) {l : Link} (o : Option WayState) {e : Entry Content} → slice_get network.link link.0 ≡ Some l
       → option_and_then (sent_up network time number link octets l) o ≡ Some e → IsSendOf network number e
-  by_way link octets l None e found sent = absurd cc
-  by_way link octets l (Some w) e found sent = sent_is link octets l w w.cut e found refl sent
+  by_way link octets None found sent = absurd cc
+  by_way link octets {l} (Some w) {e} found sent = sent_is link octets l w w.cut e found refl sent
 
-  by_link : (link : LinkId) (octets : List ℕ) (o : Option Link) (e : Entry Content) → link_at network link ≡ o
+  by_link : (link : LinkId) (octets : List ℕ) (o : Option Link) {e : Entry Content} → link_at network link ≡ o
       → option_and_then (λ l. option_and_then (sent_up network time number link octets l) (slice_get ups link.0)) o ≡ Some e → IsSendOf network number e
-  by_link link octets None e found sent = absurd cc
-  by_link link octets (Some l) e found sent = by_way link octets l (slice_get ups link.0) e found sent
+  by_link link octets None found sent = absurd cc
+  by_link link octets (Some l) {e} found sent = by_way link octets (slice_get ups link.0) found sent
 
   send_of : (what : What) (e : Entry Content) → entry_of network ups time number what ≡ Some e → IsSendOf network number e
-  send_of (events.Send link octets) e sent = by_link link octets (link_at network link) e refl sent
+  send_of (events.Send link octets) e sent = by_link link octets (link_at network link) refl sent
   send_of other e sent = absurd cc
 
   if_send : (o : Option (Entry Content)) → ((e : Entry Content) → o ≡ Some e → IsSendOf network number e) → IfSome o (λ one. at_port one ≡ None)
@@ -149,7 +149,7 @@ module _ (network : Network) (range : IsInRange network) (broken : List Bool) (u
       → AreUnderWay network after × AreBelow given after
   sound_settled [] old new before after so are below order lt fresh = (subst (AreUnderWay network) (sym so.1) are, subst (AreBelow given) (sym so.1) below)
   sound_settled (b ∷ befell) old new before after (mid, between, one, put, rest) are below order lt fresh =
-      let of = send_of network range ups time b.number b.what in
+      let of = send_of range ups time b.number b.what in
       let step = put_sound b.number _ before between of put are below (lt b (inl refl)) (fresh b (inl refl)) in
       sound_settled befell mid new between after rest step.0 step.1 order.1 (λ c i. lt c (inr i))
       (λ c i. put_fresh b.number c.number _ before between of put (order.0 (befell_as c) (is_mapped befell_as befell c i)) (fresh c (inr i)))
@@ -164,7 +164,7 @@ module _ (network : Network) (range : IsInRange network) (broken : List Bool) (u
   ports_settled (b ∷ befell) old new before after (mid, between, one, put, rest) y =
       let more = ports_settled befell mid new between after rest y in
       let here = ports_kept (entry_of network ups time b.number b.what) before between
-      (if_send network range ups time b.number _ (send_of network range ups time b.number b.what)) put y in
+      (if_send range ups time b.number _ (send_of range ups time b.number b.what)) put y in
       (λ there. here.0 (more.0 there), λ there. more.1 (here.1 there))
 
 -- the same of lists that are the same

@@ -48,17 +48,17 @@ kept_beyond at d (q ∷ queues) queued out =
     ∙ ap (λ (l : List Waits). frames_of q ++ l)
     (kept_beyond (at + 1) d queues (rest_of at q queues queued) (elim out [ inl lt ↦ inl (omega (arith, lt)) | inr le ↦ inr (omega (arith, le)) ]))
 
-pub emptied : (at k : ℕ) (queues : List (Queue Waits)) (was is : Queue Waits) → QueuedFrom at queues → slice_get queues k ≡ Some was → is.entries ≡ []
+pub emptied : (at k : ℕ) (queues : List (Queue Waits)) {was : Queue Waits} (is : Queue Waits) → QueuedFrom at queues → slice_get queues k ≡ Some was → is.entries ≡ []
     → frames_in (slice_set queues k is) ≡ filter (keeps_it (at + k)) (frames_in queues)
-emptied at k [] was is queued there empty = absurd cc
-emptied at zero (q ∷ queues) was is queued there empty =
+emptied at k [] is queued there empty = absurd cc
+emptied at zero (q ∷ queues) is queued there empty =
     ap (λ (l : List (Entry Waits)). map content_of l ++ frames_in queues) empty
     ∙ sym (filter-append (keeps_it (at + 0)) (frames_of q) (frames_in queues)
     ∙ ap (λ (l : List Waits). l ++ filter (keeps_it (at + 0)) (frames_in queues))
     (kept_none (at + 0) (frames_of q) (λ w here. let own = own_of at q queues queued w here in omega (arith, own)))
     ∙ kept_beyond (at + 1) (at + 0) queues (rest_of at q queues queued) (inl (omega arith)))
-emptied at (suc k) (q ∷ queues) was is queued there empty =
-    ap (λ (l : List Waits). frames_of q ++ l) (emptied (at + 1) k queues was is (rest_of at q queues queued) there empty
+emptied at (suc k) (q ∷ queues) {was} is queued there empty =
+    ap (λ (l : List Waits). frames_of q ++ l) (emptied (at + 1) k queues is (rest_of at q queues queued) there empty
     ∙ ap (λ n. filter (keeps_it n) (frames_in queues)) (omega arith))
     ∙ ap (λ (l : List Waits). l ++ filter (keeps_it (at + suc k)) (frames_in queues))
     (sym (kept_all (at + suc k) (frames_of q) (λ w here same. let own = own_of at q queues queued w here in omega (arith, own, same))))

@@ -10,8 +10,8 @@ pub one_first : {T : Type 0} {entries : List (Entry T)} {p q : DueAt} → IsFirs
 one_first a b = grind (arith, either_way, by_numbers)
 
 -- what is at a place, in other words
-pub in_words : {T : Type 0} (old new : List (Entry T)) (e : Entry T) (p : DueAt) (k : T) → e.place ≡ p → e.content ≡ k → IsPermutation old (e ∷ new)
+pub in_words : {T : Type 0} (old new : List (Entry T)) (e : Entry T) {p : DueAt} {k : T} → e.place ≡ p → e.content ≡ k → IsPermutation old (e ∷ new)
     → IsPermutation old (record { place = p; content = k } ∷ new)
-in_words {T} old new e p k place content same =
+in_words {T} old new e {k} place content same =
     subst (λ (q : DueAt). IsPermutation old (record { place = q; content = k } ∷ new)) place
     (subst (λ (c : T). IsPermutation old (record { place = e.place; content = c } ∷ new)) content same)

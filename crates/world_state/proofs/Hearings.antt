@@ -1,12 +1,13 @@
 -- What a device hears, as its machine asks for it.
 use Rattle.{net_plan.specs.Ranges.IsInRange, pcf_codec.specs.Decoding.decoded, run_law.specs.machines.Nodes.Node, world_state.specs.Views.octets_of}
-use Rattle.{net_plan.specs.declared.ids.DeviceId.DeviceId, run_law.specs.machines.Calls.{MayHear, StandsFor}, tte_units.specs.declared.frames.pcf.Pcf.Pcf}
+use Rattle.{run_law.specs.machines.Calls.{MayHear, StandsFor}, tte_units.specs.declared.frames.pcf.Pcf.Pcf}
 use Rattle.{net_plan.specs.declared.ids.{LinkId.LinkId, VlId.VlId}, run_law.specs.declared.steps.Moment.Moment, world_state.proofs.Made.{made_signal, made_size}}
 use Rattle.{net_plan.specs.declared.network.Network.Network, world_state.specs.{Hearing.{AreOctetsOf, MayCome}, declared.contents.Timed.TheVariants.Made}}
 use Rattle.{device_rules.specs.Reading.MayHearSome, pcf_codec.specs.Spelling.Spells, std.specs.Prelude.Ok}
 use Rattle.{run_law.specs.control.Wires.{Signal, control, signal_of, timed}, std.proofs.Common.{◌∙◌, ◌≡◌, ◌≤◌, List, ap, arith, eq-eqb, length, refl, subst, sym, ℕ}}
 use Rattle.run_law.specs.{declared.steps.Arrival.Arrival, machines.{Answers.{after_arrival, called}, Nodes.arriving}}
 use Rattle.run_law.specs.declared.steps.Arrival.TheVariants as arrivals
+use Rattle.world_state.specs.Keeping.{Meaning}
 
 -- the octets of a control frame
 pub control_octets : {octets : List ℕ} {frame : Pcf} → Spells octets frame → decoded octets ≡ Ok frame
@@ -14,14 +15,14 @@ pub control_octets : {octets : List ℕ} {frame : Pcf} → Spells octets frame �
 control_octets spells back = grind (arith, eq-eqb)
 
 -- so they may be heard
-pub may_hear : {M : Type 0} (stands : M → Network → DeviceId → Node → Type 0) (machine : M) {signal : Signal}
+pub may_hear : {M : Type 0} (stands : Meaning M) (machine : M) {signal : Signal}
     (moment : Moment) (link : LinkId) {octets : List ℕ} → StandsFor stands machine (MayCome signal moment link)
     → AreOctetsOf signal octets → StandsFor stands machine
     (λ network device node. MayHear network device node moment link octets)
 may_hear stands machine moment link may are = grind arith
 
 -- so such octets may be heard, whatever they are
-pub may_hear_some : {M : Type 0} (stands : M → Network → DeviceId → Node → Type 0) (machine : M) {signal : Signal}
+pub may_hear_some : {M : Type 0} (stands : Meaning M) (machine : M) {signal : Signal}
     (moment : Moment) (link : LinkId) {octets : List ℕ} (Are : List ℕ → Type 0)
     → StandsFor stands machine (MayCome signal moment link) → AreOctetsOf signal octets → Are octets
     → MayHearSome stands machine moment link Are
@@ -40,20 +41,16 @@ made_are {network} vl cycle {octets} range is =
     }
 
 -- octets that were sent as a frame of the schedule
-pub sent_octets : (given octets : List ℕ) → signal_of given ≡ timed given → octets ≡ given → 60 ≤ length octets → length octets ≤ 1514
+pub sent_octets : {given octets : List ℕ} → signal_of given ≡ timed given → octets ≡ given → 60 ≤ length octets → length octets ≤ 1514
     → AreOctetsOf (timed given) octets
-sent_octets given octets plain is least most = record { is = ap signal_of is ∙ plain; least = least; most = most }
+sent_octets plain is least most = record { is = ap signal_of is ∙ plain; least = least; most = most }
 
 -- octets as a broken master sent them
-pub given_octets : (given octets : List ℕ) → octets ≡ given → 60 ≤ length octets → length octets ≤ 1514 → AreOctetsOf (signal_of given) octets
-given_octets given octets is least most = record { is = ap signal_of is; least = least; most = most }
+pub given_octets : {given octets : List ℕ} → octets ≡ given → 60 ≤ length octets → length octets ≤ 1514 → AreOctetsOf (signal_of given) octets
+given_octets is least most = record { is = ap signal_of is; least = least; most = most }
 
 -- what a device hears does not break it
 pub heard_sound : (node : Node) (moment : Moment) (arrival : Arrival)
     → (called moment arriving (after_arrival node moment arrival)).broken ≡ node.broken
 heard_sound node moment (arrivals.Dropped reason) = refl
-heard_sound node moment (arrivals.Waits frame point) = refl
-heard_sound node moment (arrivals.Passes frame way) = refl
-heard_sound node moment (arrivals.PassesAndWaits frame way point) = refl
-heard_sound node moment (arrivals.Accepted vl cycle) = refl
-heard_sound node moment (arrivals.Delivered vl cycle) = refl
+heard_sound node moment other = refl

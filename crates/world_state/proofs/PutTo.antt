@@ -14,9 +14,9 @@ pub nothing_put : (n : ℕ) (network : Network) (ups downs : List WayState) (bod
 nothing_put n network ups downs body giving old none = grind arith
 
 -- which links it is given to, the link's two devices tell
-pub given_by_ends : (network : Network) (ends : Directions) (device : DeviceId) (i : ℕ) (link : Link) → i < length network.link → link ≡ get_or network.link i link
+pub given_by_ends : (network : Network) (ends : Directions) (device : DeviceId) (i : ℕ) {link : Link} → i < length network.link → link ≡ get_or network.link i link
     → IsGivenBy network ends device (record { 0 = i }) ↔ (((ends.up ≡ true) × (link.child ≡ device)) ⊎ ((ends.down ≡ true) × (link.parent ≡ device)))
-given_by_ends network ends device i link there is =
+given_by_ends network ends device i {link} there is =
     let Goes = λ (found : Option Link). (((ends.up ≡ true) × IsSomeAnd found (λ l. l.child ≡ device))
     ⊎ ((ends.down ≡ true) × IsSomeAnd found (λ l. l.parent ≡ device)))
     ↔ (((ends.up ≡ true) × (link.child ≡ device)) ⊎ ((ends.down ≡ true) × (link.parent ≡ device))) in
@@ -28,7 +28,7 @@ pub no_link : (network : Network) (ends : Directions) (device : DeviceId) (link 
 no_link network ends device link up down (inl own) = both_ways ends.up up own.0
 no_link network ends device link up down (inr own) = both_ways ends.down down own.0
 
-module _ (network : Network) (ups downs : List WayState) (body : NoteBody) (giving : Giving) (i : ℕ) (old mid : List (Entry Content))
+module _ {network : Network} {ups downs : List WayState} {body : NoteBody} {giving : Giving} {i : ℕ} {old mid : List (Entry Content)}
     (are : ArePutTo i network ups downs body giving old mid) where
   -- it is given to the link
   pub more_put : (new : List (Entry Content)) → Gives network body giving.device (record { 0 = i })

@@ -3,10 +3,11 @@ use Rattle.{net_plan.specs.declared.ids.DeviceId.DeviceId, world_state.specs.{Ri
 use Rattle.{run_law.proofs.records.Members.{from_map, in_map as is_mapped}, world_state.specs.queue.Places.{IsFirst, first_entry, numbers_of}}
 use Rattle.{run_law.proofs.runs.Places.{in_left, in_parts, in_right}, std.specs.{List.Sorted.IsPermutation, Prelude.{IfSome, MatchOption, if◌then◌else◌}}}
 use Rattle.{run_law.specs.records.Order.{IsBefore, IsIn}, std.proofs.lemmas.{Bool.{both_ways, cases_lt}, Int.ints, Option.slice_get_within}}
-use Rattle.std.proofs.Common.{◌++◌, ◌<◌, ◌∙◌, ◌∷◌, ◌≡◌, ◌≤ℤ◌, ◌⊎◌, Bool, List, None, Option, Some, [], ap, arith, false, inl, inr, is_some, length, map, not}
+use Rattle.std.proofs.Common.{◌++◌, ◌<◌, ◌∙◌, ◌∷◌, ◌≡◌, ◌≤ℤ◌, Bool, List, None, Option, Some, [], ap, arith, false, inl, inr, is_some, length, map, not}
 use Rattle.std.{proofs.Common.{pos, refl, slice_get, slice_set, subst, suc, sym, true, zero, ℕ}, specs.Option.{option_and_then, option_map, option_map_or}}
 use Rattle.std.proofs.lemmas.List.Sorted.{IsPermutation-append_left, IsPermutation-append_right, IsPermutation-middle, IsPermutation-sym, IsPermutation-trans}
 use Rattle.{world_law.proofs.giving.GivenParts.some_same, world_state.specs.{Timing.IsLeastPoint, queue.Queues.Queue}}
+use Rattle.world_state.proofs.Swaps.{push_cases, set_cases}
 use Rattle.world_state.specs.{Frames.{AreQueued, IsFirstAt, IsQueued, NoneAt, first_frame, frames_in, frames_of, queue_place}, declared.contents.Waits.Waits}
 
 abbrev pub content_of : Entry Waits → Waits
@@ -63,11 +64,11 @@ in_queue (q ∷ queues) w there =
       | inr rest ↦ let o = in_queue queues w rest in (suc o.0, o.1, o.2, o.3, o.4, o.5)
     ]
 
-pub of_queue : (queues : List (Queue Waits)) (k : ℕ) (q : Queue Waits) (e : Entry Waits) → slice_get queues k ≡ Some q → IsIn e q.entries
+pub of_queue : (queues : List (Queue Waits)) (k : ℕ) {q : Queue Waits} (e : Entry Waits) → slice_get queues k ≡ Some q → IsIn e q.entries
     → IsIn e.content (frames_in queues)
-of_queue [] k q e at there = absurd cc
-of_queue (r ∷ queues) zero q e at there = grind (arith, in_left, is_mapped)
-of_queue (r ∷ queues) (suc k) q e at there = in_right e.content (frames_of r) (frames_in queues) (of_queue queues k q e at there)
+of_queue [] k e at there = absurd cc
+of_queue (r ∷ queues) zero e at there = grind (arith, in_left, is_mapped)
+of_queue (r ∷ queues) (suc k) {q} e at there = in_right e.content (frames_of r) (frames_in queues) (of_queue queues k e at there)
 
 -- ---- the first
 
@@ -78,9 +79,9 @@ earlier v w same (inl lt) = absurd (omega (arith, lt, same))
 earlier v w same (inr (e, inl lt)) = inl lt
 earlier v w same (inr (e, inr (f, rest))) = inr (f, inr (refl, rest))
 
-first_in : (entries : List (Entry Waits)) (e : Entry Waits) → first_entry entries ≡ Some e → IsIn e entries
-first_in [] e is = absurd cc
-first_in (x ∷ entries) e is = let same : x ≡ e = cc in inl (sym same)
+first_in : (entries : List (Entry Waits)) {e : Entry Waits} → first_entry entries ≡ Some e → IsIn e entries
+first_in [] is = absurd cc
+first_in (x ∷ entries) {e} is = let same : x ≡ e = cc in inl (sym same)
 
 module _ (queues : List (Queue Waits)) (queued : AreQueued queues) (k : ℕ) where
   first_at : (q : Queue Waits) (o : Option (Entry Waits)) → slice_get queues k ≡ Some q → first_entry q.entries ≡ o → IfSome o (λ e. IsFirst q.entries e.place)
@@ -96,10 +97,10 @@ module _ (queues : List (Queue Waits)) (queued : AreQueued queues) (k : ℕ) whe
       no_first [] e is there = there
       no_first (x ∷ entries) e is there = absurd cc
   first_at q (Some e) at is first =
-      let there = first_in q.entries e is in
+      let there = first_in q.entries is in
       let its = queued k q e at there in
       record {
-        there = of_queue queues k q e at there;
+        there = of_queue queues k e at there;
         own = its.own;
         begun = λ v inside own.
             let from = in_queue queues v inside in
@@ -116,9 +117,9 @@ module _ (queues : List (Queue Waits)) (queued : AreQueued queues) (k : ℕ) whe
             (earlier v e.content (own ∙ sym its.own) before)));
       }
 
-  pub first_of_queue : (q : Queue Waits) → slice_get queues k ≡ Some q → IfSome (first_entry q.entries) (λ e. IsFirst q.entries e.place)
+  pub first_of_queue : {q : Queue Waits} → slice_get queues k ≡ Some q → IfSome (first_entry q.entries) (λ e. IsFirst q.entries e.place)
       → MatchOption (first_frame q) (NoneAt (frames_in queues) k) (IsFirstAt (frames_in queues) k)
-  first_of_queue q at first = first_at q (first_entry q.entries) at refl first
+  first_of_queue {q} at first = first_at q (first_entry q.entries) at refl first
 
   -- a device without a queue has none
   pub no_queue : slice_get queues k ≡ None → NoneAt (frames_in queues) k
@@ -133,35 +134,20 @@ module _ (queues : List (Queue Waits)) (queued : AreQueued queues) (k : ℕ) whe
 
 -- ---- what is in each queue
 
-pub set_queued : (queues : List (Queue Waits)) (k : ℕ) (was is : Queue Waits) → AreQueued queues → slice_get queues k ≡ Some was
+pub set_queued : (queues : List (Queue Waits)) (k : ℕ) (is : Queue Waits) → AreQueued queues
     → ((e : Entry Waits) → IsIn e is.entries → IsQueued k e) → AreQueued (slice_set queues k is)
-set_queued queues k was is queued at all i q e there inside =
-    elim (set_cases queues i k is was q at there) [
+set_queued queues k is queued all i q e there inside =
+    elim (set_cases queues i k is q there) [
       | inl same ↦ subst (λ n. IsQueued n e) (sym same.0) (all e (subst (λ (x : Queue Waits). IsIn e x.entries) same.1 inside))
       | inr other ↦ queued i q e other inside
     ]
-  where
-    set_cases : (queues : List (Queue Waits)) (i k : ℕ) (is was q : Queue Waits) → slice_get queues k ≡ Some was → slice_get (slice_set queues k is) i ≡ Some q
-        → ((i ≡ k) × (q ≡ is)) ⊎ (slice_get queues i ≡ Some q)
-    set_cases [] i k is was q at there = absurd cc
-    set_cases (r ∷ queues) zero zero is was q at there = inl (refl, cc)
-    set_cases (r ∷ queues) (suc i) zero is was q at there = inr there
-    set_cases (r ∷ queues) zero (suc k) is was q at there = inr there
-    set_cases (r ∷ queues) (suc i) (suc k) is was q at there =
-        elim (set_cases queues i k is was q at there) [ inl s ↦ inl (ap (λ n. suc n) s.0, s.1) | inr o ↦ inr o ]
 
 pub push_queued : (queues : List (Queue Waits)) (q : Queue Waits) → AreQueued queues → q.entries ≡ [] → AreQueued (queues ++ q ∷ [])
 push_queued queues q queued empty i r e there inside =
-    elim (push_cases queues i q r there) [
+    elim (push_cases queues i q there) [
       | inl old ↦ queued i r e old inside
-      | inr same ↦ absurd (subst (IsIn e) (ap (λ (x : Queue Waits). x.entries) same ∙ empty) inside)
+      | inr same ↦ absurd (subst (IsIn e) (ap Queue.entries same ∙ empty) inside)
     ]
-  where
-    push_cases : (queues : List (Queue Waits)) (i : ℕ) (q r : Queue Waits) → slice_get (queues ++ q ∷ []) i ≡ Some r → (slice_get queues i ≡ Some r) ⊎ (r ≡ q)
-    push_cases [] zero q r there = inr cc
-    push_cases [] (suc i) q r there = absurd cc
-    push_cases (x ∷ queues) zero q r there = inl there
-    push_cases (x ∷ queues) (suc i) q r there = push_cases queues i q r there
 
 -- ---- which device has a queue
 
@@ -178,9 +164,9 @@ has_room queues k (Some q) is room = slice_get_within queues k q is
 -- ---- which are reached, and the least point
 
 -- where the first is not reached, none is
-pub none_reached : (items : List Waits) (device : DeviceId) (reading : ℕ) (w : Waits) → IsFirstAt items device.0 w → (IsReached device reading w → ⊥)
+pub none_reached : {items : List Waits} (device : DeviceId) (reading : ℕ) {w : Waits} → IsFirstAt items device.0 w → (IsReached device reading w → ⊥)
     → (v : Waits) → IsIn v items → IsReached device reading v → ⊥
-none_reached items device reading w first not v there at = grind (arith, cases_lt, not, ints)
+none_reached device reading first not v there at = grind (arith, cases_lt, not, ints)
 
 -- the first has the least point
 pub least_is : {items : List Waits} {device : ℕ} {w : Waits} → IsFirstAt items device w
@@ -189,7 +175,7 @@ least_is first = grind (arith, cases_lt, ints)
 
 -- ---- one more queue
 
-pub grown : (queues after : List (Queue Waits)) (q : Queue Waits) (b : Bool) → after ≡ (if b then queues ++ q ∷ [] else queues) → q.entries ≡ []
+pub grown : (queues : List (Queue Waits)) {after : List (Queue Waits)} (q : Queue Waits) (b : Bool) → after ≡ (if b then queues ++ q ∷ [] else queues) → q.entries ≡ []
     → AreQueued queues → AreQueued after × (frames_in after ≡ frames_in queues)
-grown queues after q true is empty queued = (subst AreQueued (sym is) (push_queued queues q queued empty), ap frames_in is ∙ none_behind queues q empty)
-grown queues after q false is empty queued = (subst AreQueued (sym is) queued, ap frames_in is)
+grown queues q true is empty queued = (subst AreQueued (sym is) (push_queued queues q queued empty), ap frames_in is ∙ none_behind queues q empty)
+grown queues q false is empty queued = (subst AreQueued (sym is) queued, ap frames_in is)

@@ -19,18 +19,18 @@ pub least_time : (keys : List ℕ) (key : ℕ) → All (λ k. key ≤ k) keys �
 least_time keys key least slot d lt =
     let few : slot < length keys = omega (arith, lt, length-map keys timer_of) in
     let le = least_at keys key slot least few in
-    let time = ap (λ (t : Timer). t.time) (get_or-map timer_of keys slot 0 d few) in
+    let time = ap Timer.time (get_or-map timer_of keys slot 0 d few) in
     omega (arith, le, time)
 
 -- no slot is before that of the least key
-not_before : (key other slot below : ℕ) → key ≤ other → key % 2 ^ 56 ≡ slot → (key / 2 ^ 64 ≡ never → ⊥)
+not_before : (key other : ℕ) {slot : ℕ} (below : ℕ) → key ≤ other → key % 2 ^ 56 ≡ slot → (key / 2 ^ 64 ≡ never → ⊥)
     → (other ≡ no_key) ⊎ (other % 2 ^ 56 ≡ below)
     → IsBefore (other / 2 ^ 64 ∷ other % 2 ^ 64 / 2 ^ 56 ∷ below ∷ []) (key / 2 ^ 64 ∷ key % 2 ^ 64 / 2 ^ 56 ∷ slot ∷ []) → ⊥
-not_before key other slot below le here some either (inl lt) = omega (arith, le, lt)
-not_before key other slot below le here some either (inr (e, inl lt)) = omega (arith, le, e, lt)
-not_before key other slot below le here some (inl none) (inr (e, inr (f, inl lt))) = some (omega (arith, none, e))
-not_before key other slot below le here some (inr own) (inr (e, inr (f, inl lt))) = omega (arith, le, here, e, f, lt, own)
-not_before key other slot below le here some either (inr (e, inr (f, inr (g, b)))) = b
+not_before key other below le here some either (inl lt) = omega (arith, le, lt)
+not_before key other below le here some either (inr (e, inl lt)) = omega (arith, le, e, lt)
+not_before key other below le here some (inl none) (inr (e, inr (f, inl lt))) = some (omega (arith, none, e))
+not_before key other below le here some (inr own) (inr (e, inr (f, inl lt))) = omega (arith, le, here, e, f, lt, own)
+not_before key other below le here some either (inr (e, inr (f, inr (g, b)))) = b
 
 pub first_slot : (keys : List ℕ) (key : ℕ) → AreKeys keys → All (λ k. key ≤ k) keys → (key ≡ no_key) ⊎ Contains keys key → (key / 2 ^ 64 ≡ never → ⊥)
     → IsFirst (map timer_of keys) (record { time = key / 2 ^ 64; rank = key % 2 ^ 64 / 2 ^ 56; slot = key % 2 ^ 64 % 2 ^ 56 })
@@ -50,7 +50,7 @@ first_slot keys key are least (inr (slot, lt, at)) some =
       least = λ below t at_below b.
           let few : below < length keys = omega (arith, (slice_get_within (map timer_of keys) below t at_below), long) in
           let of_key : timer_of (get_or keys below 0) ≡ t = same_Some _ _ (sym (timer_at keys below few) ∙ at_below) in
-          not_before key (get_or keys below 0) slot below (least_at keys key below least few) low some (are below few)
+          not_before key (get_or keys below 0) below (least_at keys key below least few) low some (are below few)
           (subst (λ (n : ℕ). IsBefore (get_or keys below 0 / 2 ^ 64 ∷ get_or keys below 0 % 2 ^ 64 / 2 ^ 56 ∷ below ∷ [])
           (key / 2 ^ 64 ∷ key % 2 ^ 64 / 2 ^ 56 ∷ n ∷ [])) own
           (subst (λ (r : Timer). IsBefore (r.time ∷ r.rank ∷ below ∷ []) (key / 2 ^ 64 ∷ key % 2 ^ 64 / 2 ^ 56 ∷ key % 2 ^ 64 % 2 ^ 56 ∷ [])) (sym of_key) b));

@@ -11,6 +11,7 @@ use Rattle.world_state.specs.{Views.octets_of, declared.{contents.Timed.Timed, q
 use Rattle.world_state.specs.declared.contents.{Settled.Settled, Signal.{Signal as SignalSent}, Timed.TheVariants.Sent}
 use Rattle.run_law.specs.declared.steps.Arrival.TheVariants as arrivals
 use Rattle.world_state.specs.declared.contents.Signal.TheVariants as signals
+use Rattle.world_state.specs.Keeping.{Meaning}
 
 -- a frame of these octets is on a wire as this
 pub record AreOctetsOf (signal : Signal) (octets : List ℕ) : Type 0 where
@@ -32,7 +33,7 @@ pub record MayCome (signal : Signal) (moment : Moment) (link : LinkId) (network 
       → MayArrive network device link octets
 
 -- this tells what the device of the machine had to do: what it has to do now, or when it acted next by itself
-abbrev pub TellsBefore : {M : Type 0} → (M → Network → DeviceId → Node → Type 0) → M → M → Before → Type 0
+abbrev pub TellsBefore : {M : Type 0} → Meaning M → M → M → Before → Type 0
 TellsBefore stands old new Same = StandsAsBefore stands old new
 TellsBefore stands old new (Due due) =
     (network : Network) (device : DeviceId) (node : Node) → stands old network device node

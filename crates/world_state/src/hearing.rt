@@ -79,23 +79,17 @@ fn hear_timed<M: TellsKind + Drop>(
 /// An address has six octets.
 fn is_address(address: Mac)
     ensures { address < 2 ^ 48 }
-{
-    let _number = address.number();
-}
+{}
 
 /// A number of 32 bits.
 fn is_short(number: u32)
     ensures { number < 2 ^ 32 }
-{
-    let _number = number;
-}
+{}
 
 /// A number of 64 bits.
 fn is_long(number: u64)
     ensures { number < 2 ^ 64 }
-{
-    let _number = number;
-}
+{}
 
 /// A control frame has octets that spell it.
 fn has_octets(frame: &Pcf)

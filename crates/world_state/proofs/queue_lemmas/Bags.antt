@@ -4,14 +4,14 @@ use Rattle.std.proofs.Common.{◌<◌, ◌==◌, ◌∙◌, ◌∷◌, ◌≡◌
 use Rattle.std.{proofs.lemmas.Bool.{both_ways, eqb-false, ne_eqb}, specs.List.{AllByRecursion, Sorted.IsPermutation, cons_option, filter_map}}
 use Rattle.std.proofs.lemmas.List.Sorted.{Contains-permutation, IsPermutation-map, IsPermutation-refl, IsPermutation-sym, length_permutation}
 
-pub in_contained : {X : Type 0} (xs : List X) (k : ℕ) (x : X) → k < length xs → get_or xs k x ≡ x → IsIn x xs
-in_contained [] k x lt e = absurd (omega (arith, lt))
-in_contained (y ∷ xs) zero x lt e = inl (sym e)
-in_contained (y ∷ xs) (suc k) x lt e = inr (in_contained xs k x (omega (arith, lt)) e)
+pub in_contained : {X : Type 0} (xs : List X) (k : ℕ) {x : X} → k < length xs → get_or xs k x ≡ x → IsIn x xs
+in_contained [] k lt e = absurd (omega (arith, lt))
+in_contained (y ∷ xs) zero lt e = inl (sym e)
+in_contained (y ∷ xs) (suc k) {x} lt e = inr (in_contained xs k (omega (arith, lt)) e)
 
 -- what is in a list is in one with the same elements
 pub in_permuted : {X : Type 0} (xs ys : List X) (x : X) → IsPermutation xs ys → IsIn x xs → IsIn x ys
-in_permuted xs ys x same there = let c = Contains-permutation xs ys x same (contains xs x there) in in_contained ys c.0 x c.1 c.2
+in_permuted xs ys x same there = let c = Contains-permutation xs ys x same (contains xs x there) in in_contained ys c.0 c.1 c.2
 
 pub all_in : {X : Type 0} (P : X → Type 0) (xs : List X) → AllByRecursion P xs → (x : X) → IsIn x xs → P x
 all_in P [] all x there = absurd there

@@ -8,7 +8,7 @@ use Rattle.world_state.specs.queue.{Finding.{HoldsAt, HoldsNoneAt, IsPlaceFor, I
 
 -- each of them is one of them
 pub is_one : (places : List (Reverse Slotted)) (i : ℕ) (d : Reverse Slotted) → i < length places → IsIn (get_or places i d) places
-is_one places i d lt = in_contained places i (get_or places i d) lt (get_or_default places i (get_or places i d) d lt)
+is_one places i d lt = in_contained places i lt (get_or_default places i (get_or places i d) d lt)
 
 -- one more place that is not meant
 pub none_more : (places : List (Reverse Slotted)) (i : ℕ) (d : Reverse Slotted) (rank cause : ℕ) → i < length places
@@ -24,16 +24,16 @@ none_more places i d rank cause lt other none =
     ])
 
 module _ {T : Type 0} where
-  content_is : (place : DueAt) (o : Option T) (e : Entry T) → option_map (entry_at place) o ≡ Some e → (o ≡ Some e.content) × (place ≡ e.place)
-  content_is place None e is = absurd cc
-  content_is place (Some content) e is =
+  content_is : (place : DueAt) (o : Option T) {e : Entry T} → option_map (entry_at place) o ≡ Some e → (o ≡ Some e.content) × (place ≡ e.place)
+  content_is place None is = absurd cc
+  content_is place (Some content) {e} is =
       let same : entry_at place content ≡ e = cc in
-      (ap (λ (f : Entry T). Some f.content) same, ap (λ (f : Entry T). f.place) same)
+      (ap (λ (f : Entry T). Some f.content) same, ap Entry.place same)
 
   -- what a slot of the place has is due there
-  pub holds_at : (s : Slab T) (items : List (Reverse Slotted)) (rank cause slot : ℕ) (content : T) → IsSlotFor items rank cause slot
+  pub holds_at : (s : Slab T) {items : List (Reverse Slotted)} {rank cause slot : ℕ} {content : T} → IsSlotFor items rank cause slot
       → get s slot ≡ Some content → HoldsAt (entries_in s items) rank cause content
-  holds_at s items rank cause slot content found is =
+  holds_at s {items} {content} found is =
       let place = found.slotted.0.place in
       record {
         entry = entry_at place content;
@@ -47,11 +47,11 @@ module _ {T : Type 0} where
   pub holds_none : (s : Slab T) (items : List (Reverse Slotted)) (rank cause : ℕ) → NoSlotFor items rank cause → HoldsNoneAt (entries_in s items) rank cause
   holds_none s items rank cause none e there fits =
       let of = given_of (entry_of s) items e there in
-      let place = (content_is of.0.0.place (get s of.0.0.slot) e of.2).1 in
+      let place = (content_is of.0.0.place (get s of.0.0.slot) of.2).1 in
       none of.0 of.1 (subst (IsPlaceFor rank cause) (sym place) fits)
 
   -- what a slab gives of the slot is due there
-  pub found_in : (s : Slab T) (items : List (Reverse Slotted)) (rank cause slot : ℕ) → IsSlotFor items rank cause slot → (o : Option (Bor T))
+  pub found_in : (s : Slab T) {items : List (Reverse Slotted)} {rank cause slot : ℕ} → IsSlotFor items rank cause slot → (o : Option (Bor T))
       → option_copied o ≡ get s slot → IfSome o (λ content. HoldsAt (entries_in s items) rank cause content.now)
-  found_in s items rank cause slot found None is = tt
-  found_in s items rank cause slot found (Some content) is = holds_at s items rank cause slot content.now found (sym is)
+  found_in s found None is = tt
+  found_in s {items} {rank} {cause} {slot} found (Some content) is = holds_at s found (sym is)

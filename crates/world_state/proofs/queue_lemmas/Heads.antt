@@ -10,15 +10,15 @@ module _ {T : Type 0} where
   head_of (Some e) l some = refl
 
   -- the first of what is due is what is due at the top
-  pub head_is : (s : Slab T) (items : List (Reverse Slotted)) (top : Reverse Slotted) → IsSound s items → 0 < length items → top ≡ get_or items 0 top
+  pub head_is : {s : Slab T} (items : List (Reverse Slotted)) {top : Reverse Slotted} → IsSound s items → 0 < length items → top ≡ get_or items 0 top
       → first_entry (entries_in s items) ≡ entry_of s top
-  head_is s [] top sound lt is = absurd (omega (arith, lt))
-  head_is s (x ∷ items) top sound lt is = head_of (entry_of s x) (entries_in s items) (some_entry s x (sound.filled x (inl refl))) ∙ ap (entry_of s) (sym is)
+  head_is [] sound lt is = absurd (omega (arith, lt))
+  head_is {s} (x ∷ items) sound lt is = head_of (entry_of s x) (entries_in s items) (some_entry s x (sound.filled x (inl refl))) ∙ ap (entry_of s) (sym is)
 
-  if_head : (entries : List (Entry T)) (o : Option (Entry T)) (place : DueAt) → first_entry entries ≡ o → IsFirst entries place
+  if_head : {entries : List (Entry T)} (o : Option (Entry T)) {place : DueAt} → first_entry entries ≡ o → IsFirst entries place
       → option_map (λ (e : Entry T). e.place) o ≡ Some place → IfSome (first_entry entries) (λ e. IsFirst entries e.place)
-  if_head entries None place is first same = absurd cc
-  if_head entries (Some e) place is first same =
+  if_head None is first same = absurd cc
+  if_head {entries} (Some e) {place} is first same =
       let at : place ≡ e.place = cc in
       subst (λ (o : Option (Entry T)). IfSome o (λ e. IsFirst entries e.place)) (sym is) (subst (IsFirst entries) at first)
 
@@ -26,8 +26,8 @@ module _ {T : Type 0} where
   place_mapped place None some = absurd (both_ways _ refl some)
   place_mapped place (Some content) some = refl
 
-  pub head_first : (s : Slab T) (items : List (Reverse Slotted)) (top : Reverse Slotted) → IsSound s items → is_some (get s top.0.slot) ≡ true
+  pub head_first : {s : Slab T} {items : List (Reverse Slotted)} (top : Reverse Slotted) → IsSound s items → is_some (get s top.0.slot) ≡ true
       → first_entry (entries_in s items) ≡ entry_of s top → IsFirst (entries_in s items) top.0.place
       → IfSome (first_entry (entries_in s items)) (λ e. IsFirst (entries_in s items) e.place)
-  head_first s items top sound some is first = if_head (entries_in s items) (entry_of s top) top.0.place is first
+  head_first {s} {items} top sound some is first = if_head (entry_of s top) is first
       (place_mapped top.0.place (get s top.0.slot) some)

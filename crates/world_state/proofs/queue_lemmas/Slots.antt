@@ -29,35 +29,35 @@ module _ {T : Type 0} where
   place_mapped place (Some content) = refl
 
   -- the place of an entry is that of its slot
-  place_of_entry : (s : Slab T) (r : Reverse Slotted) (e : Entry T) → entry_of s r ≡ Some e → e.place ≡ r.0.place
+  place_of_entry : (s : Slab T) (r : Reverse Slotted) {e : Entry T} → entry_of s r ≡ Some e → e.place ≡ r.0.place
   unfolding place_or
-  place_of_entry s r e is = ap (λ (o : Option (Entry T)). place_or o r.0.place) (sym is) ∙ place_mapped r.0.place (get s r.0.slot)
+  place_of_entry s r is = ap (λ (o : Option (Entry T)). place_or o r.0.place) (sym is) ∙ place_mapped r.0.place (get s r.0.slot)
 
-  pub length_entries : (s : Slab T) (items : List (Reverse Slotted)) → IsSound s items → length (entries_in s items) ≡ length items
-  length_entries s items sound = length_map (entry_of s) items (λ r there. some_entry s r (sound.filled r there))
+  pub length_entries : {s : Slab T} {items : List (Reverse Slotted)} → IsSound s items → length (entries_in s items) ≡ length items
+  length_entries {s} {items} sound = length_map (entry_of s) items (λ r there. some_entry s r (sound.filled r there))
 
   some_is : (o : Option (Entry T)) → is_some o ≡ true → (e : Entry T) × (o ≡ Some e)
   some_is None some = absurd (both_ways false refl some)
   some_is (Some e) some = (e, refl)
 
   -- the top is the first
-  pub top_is_first : (s : Slab T) (items : List (Reverse Slotted)) (top : Reverse Slotted) → IsSound s items → IsIn top items
+  pub top_is_first : {s : Slab T} {items : List (Reverse Slotted)} (top : Reverse Slotted) → IsSound s items → IsIn top items
       → IsUpperBound reversed top items → IsFirst (entries_in s items) top.0.place
-  top_is_first s items top sound there bound =
+  top_is_first {s} {items} top sound there bound =
       let at_top = some_is (entry_of s top) (some_entry s top (sound.filled top there)) in
       record {
         entry = at_top.0;
         there = is_given (entry_of s) items top at_top.0 there at_top.1;
-        at = place_of_entry s top at_top.0 at_top.1;
+        at = place_of_entry s top at_top.1;
         none = λ other inside before.
             let of = given_of (entry_of s) items other inside in
             not_before top of.0 (all_in (λ y. is_lt (reversed top y) ≡ false) items bound of.0 of.1)
-            (subst (λ p. IsBefore (numbers_of p) (numbers_of top.0.place)) (place_of_entry s of.0 other of.2) before);
+            (subst (λ p. IsBefore (numbers_of p) (numbers_of top.0.place)) (place_of_entry s of.0 of.2) before);
       }
 
   -- ---- one is put in
 
-  module _ (old new : Slab T) (items after : List (Reverse Slotted)) (place : DueAt) (slot : ℕ) (content : T) (sound : IsSound old items)
+  module _ {old : Slab T} (new : Slab T) {items : List (Reverse Slotted)} (after : List (Reverse Slotted)) (place : DueAt) (slot : ℕ) (content : T) (sound : IsSound old items)
       (vacant : get old slot ≡ None) (updates : Updates old new slot (Some content))
       (same : IsPermutation (record { 0 = record { place = place; slot = slot } } ∷ items) after) where
     no_other : (r : Reverse Slotted) → IsIn r items → r.0.slot ≢ slot
@@ -86,7 +86,7 @@ module _ {T : Type 0} where
 
   -- ---- the first is taken out
 
-  module _ (old new : Slab T) (items after : List (Reverse Slotted)) (top : Reverse Slotted) (content : T) (sound : IsSound old items)
+  module _ {old : Slab T} (new : Slab T) {items : List (Reverse Slotted)} (after : List (Reverse Slotted)) (top : Reverse Slotted) {content : T} (sound : IsSound old items)
       (held : get old top.0.slot ≡ Some content) (updates : Updates old new top.0.slot None) (same : IsPermutation items (top ∷ after)) where
     distinct : IsDistinct nat_eq (map slot_of (top ∷ after))
     distinct = IsDistinct-IsPermutation nat_eq flips _ _ (IsPermutation-map slot_of _ _ same) sound.apart

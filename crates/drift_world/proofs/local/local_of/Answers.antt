@@ -5,20 +5,20 @@ use Rattle.{std.{proofs.lemmas.Bool.false≢true, specs.{Int.{w128, w64}, List.s
 use Rattle.sync_state.specs.declared.state.State.{State as DeviceState, TheVariants.{Integrating, Joining, Off, Synchronised}}
 use Rattle.drift_world.proofs.local.local_of.Goals as goal
 
-read_at : {X : Type 0} (xs : List X) (i : ℕ) (x : X) → i < length xs → x ≡ get_or xs i x → slice_get xs i ≡ Some x
-read_at xs i x lt is = slice_get-get_or xs i x lt ∙ ap Some (sym is)
+read_at : {X : Type 0} (xs : List X) (i : ℕ) {x : X} → i < length xs → x ≡ get_or xs i x → slice_get xs i ≡ Some x
+read_at xs i {x} lt is = slice_get-get_or xs i x lt ∙ ap Some (sym is)
 
 -- two numbers of 64 bits are added in 128
-summed : (x y r a : ℤ) → x ≡ r → y ≡ a → FitsSigned w64 r → FitsSigned w64 a
+summed : {x y r a : ℤ} → x ≡ r → y ≡ a → FitsSigned w64 r → FitsSigned w64 a
     → to_z w128 (of_z w128 (to_z w128 (of_z w128 x) +ℤ to_z w128 (of_z w128 y))) ≡ r +ℤ a
-summed x y r a same0 same1 fits0 fits1 = omega (arith, ints, same0, same1, fits0, fits1)
+summed same0 same1 fits0 fits1 = omega (arith, ints, same0, same1, fits0, fits1)
 
 wide : (v r a : ℤ) → v ≡ r +ℤ a → FitsSigned w64 r → FitsSigned w64 a → IsWide v
 wide v r a is fits0 fits1 = record { low = omega (arith, ints, is, fits0, fits1); high = omega (arith, ints, is, fits0, fits1) }
 
-sound_shown : (broken : Bool) (state : DeviceState) (reading : ℕ) (adjustment : Units) (r a : ℤ) → broken ≡ false → Synchronised ≡ state → r ≡ pos reading
+sound_shown : {broken : Bool} {state : DeviceState} (reading : ℕ) (adjustment : Units) {r a : ℤ} → broken ≡ false → Synchronised ≡ state → r ≡ pos reading
     → a ≡ adjustment.0 → Some (r +ℤ a) ≡ local_shown broken state reading adjustment
-sound_shown broken state reading adjustment r a sound in_step reads adjusts =
+sound_shown {broken} reading adjustment {a} sound in_step reads adjusts =
     ap (λ v. Some (v +ℤ a)) reads ∙ ap (λ v. Some (pos reading +ℤ v)) adjusts
     ∙ ap (λ b. local_shown b Synchronised reading adjustment) (sym sound) ∙ ap (λ s. local_shown broken s reading adjustment) in_step
 
@@ -42,11 +42,11 @@ returns-then-index-clause-shows g c =
     let broken = z.broken in
     record {
       clock = c.index-clock.result.now;
-      clock_is = read_at w.clocks.items i c.index-clock.result.now (omega (arith, there, clocks)) c.index-clock.ensures;
+      clock_is = read_at w.clocks.items i (omega (arith, there, clocks)) c.index-clock.ensures;
       kept = c.index-kept.result.now;
-      kept_is = read_at w.machines.items i c.index-kept.result.now (omega (arith, there, machines)) c.index-kept.ensures;
+      kept_is = read_at w.machines.items i (omega (arith, there, machines)) c.index-kept.ensures;
       broken = c.index.result.now;
-      broken_is = read_at w.broken.items i c.index.result.now (omega (arith, there, broken)) c.index.ensures;
+      broken_is = read_at w.broken.items i (omega (arith, there, broken)) c.index.ensures;
       is = λ network node k. elim c.then-index.branch [
         | then-index-via-then-index v ↦ ap (λ b. local_shown b node.standing.state reading node.standing.adjustment) (sym v.if-index.true)
         | then-index-via-else-index+then-ne v ↦ none_shown c.index.result.now node.standing.state reading node.standing.adjustment
@@ -68,17 +68,17 @@ returns g c =
     let a = c.adjustment.result.0 in
     let fits0 : FitsSigned w64 r = search rules in
     let fits1 : FitsSigned w64 a = search rules in
-    let sum = summed c.from.result c.from-2.result r a (c.from.ensures ∙ to_z-of_z w64 r fits0) (c.from-2.ensures ∙ to_z-of_z w64 a fits1) fits0 fits1 in
+    let sum = summed (c.from.ensures ∙ to_z-of_z w64 r fits0) (c.from-2.ensures ∙ to_z-of_z w64 a fits1) fits0 fits1 in
     let in_step : c.state.result ≡ Synchronised = search (rules, tests) in
     record {
       shows = record {
         clock = c.index-clock.result.now;
-        clock_is = read_at w.clocks.items i c.index-clock.result.now (omega (arith, there, clocks)) c.index-clock.ensures;
+        clock_is = read_at w.clocks.items i (omega (arith, there, clocks)) c.index-clock.ensures;
         kept = c.index-kept.result.now;
-        kept_is = read_at w.machines.items i c.index-kept.result.now (omega (arith, there, machines)) c.index-kept.ensures;
+        kept_is = read_at w.machines.items i (omega (arith, there, machines)) c.index-kept.ensures;
         broken = c.index.result.now;
-        broken_is = read_at w.broken.items i c.index.result.now (omega (arith, there, broken)) c.index.ensures;
-        is = λ network node k. ap Some sum ∙ sound_shown c.index.result.now node.standing.state reading node.standing.adjustment r a c.if-index.false
+        broken_is = read_at w.broken.items i (omega (arith, there, broken)) c.index.ensures;
+        is = λ network node k. ap Some sum ∙ sound_shown reading node.standing.adjustment c.if-index.false
             (sym in_step ∙ c.state.ensures network c.args.device node k) c.read-reading.ensures
             (ap (λ (u : Units). u.0) (c.adjustment.ensures network c.args.device node k));
       };

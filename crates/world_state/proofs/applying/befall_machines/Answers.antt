@@ -10,7 +10,7 @@ returns-in-On-clause-each g c = λ network device machine turned found broke.
     let stands = g.M.Machine.stands in
     one_befalls (keeps stands) c.args.what.now at c.args.machines.now.items c.turn_on.new.self (c.requires.turned_on at is)
     (subst (λ w. (turned : Bool) (d : DeviceId) (node : Node) → d.0 ≢ at.0 → befallen_node turned w d node ≡ node) (sym is) (on_other at))
-    network device machine turned found
+    network device turned found
     (λ same node k off.
     let own = c.index_mut.ensures.value ∙ get_or_from_slice_get _ at.0 machine _
     (subst (λ (d : DeviceId). slice_get c.args.machines.now.items d.0 ≡ Some machine) same found) in
@@ -24,7 +24,7 @@ returns-in-Break-clause-each g c = λ network device machine turned found broke.
     let stands = g.M.Machine.stands in
     one_befalls (keeps stands) c.args.what.now at c.args.machines.now.items c.break_down.new.self (c.requires.broken at is)
     (subst (λ w. (turned : Bool) (d : DeviceId) (node : Node) → d.0 ≢ at.0 → befallen_node turned w d node ≡ node) (sym is) (break_other at))
-    network device machine turned found
+    network device turned found
     (λ same node k off.
     let own = c.index_mut-in-Break.ensures.value
     ∙ get_or_from_slice_get _ at.0 machine _ (subst (λ (d : DeviceId). slice_get c.args.machines.now.items d.0 ≡ Some machine) same found) in

@@ -20,5 +20,5 @@ returns-in-Some-clause-each c = λ link was found.
           subst (λ (n : ℕ). slice_get (set items l c.way_after.result) n ≡ Some (way_after (record { 0 = n }) c.args.way c.args.what.now was)) (sym same)
           (set_same items l c.way_after.result (c.in-Some.ensures.there (length items) c.requires)
           ∙ ap Some (c.way_after.ensures ∙ ap (λ (w : WayState). way_after (record { 0 = l }) c.args.way c.args.what.now w) own))
-      | inr apart ↦ set_there items l link.0 c.way_after.result was apart found ∙ ap Some (sym (c.in-Some.ensures.others link c.args.way was apart))
+      | inr apart ↦ set_there items l link.0 c.way_after.result apart found ∙ ap Some (sym (c.in-Some.ensures.others link c.args.way was apart))
     ]

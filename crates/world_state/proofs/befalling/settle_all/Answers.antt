@@ -17,9 +17,9 @@ loop-index-preserved c =
     let put_capacity = c.put_some.ensures.capacity in (
       length-set ys i _ ∙ inv.0,
       λ k d le. get_or-set_other ys i k _ d (λ e. omega (arith, e, le)) ∙ inv.1 k d (omega (arith, le)),
-      loop_step c.args.network.now c.args.broken.now c.args.ups.now c.args.time xs ys i c.index.result.now c.index_mut.result.now c.replace-what.result
+      loop_step c.args.network.now c.args.broken.now c.args.ups.now c.args.time xs ys i
           c.args.settled.now.items c.loop-index.settled.items c.put_some.new.settled.items c.args.under_way.now.entries c.loop-index.under_way.entries
-          c.put_on.new.under_way.entries c.record_of.result c.entry_of.result inv.0 (omega (arith, more, len, own)) inv.1 c.index.ensures
+          c.put_on.new.under_way.entries inv.0 (omega (arith, more, len, own)) inv.1 c.index.ensures
           c.index_mut.ensures.value c.replace-what.ensures.value inv.2 c.record_of.ensures c.put_some.ensures.is c.entry_of.ensures c.put_on.ensures.put,
       omega (arith, wide, put_room),
       omega (arith, long, put_len, put_capacity),

@@ -6,11 +6,11 @@ pub loop-link-preserved : goal.loop-link-preserved
 loop-link-preserved c =
     let way : WayState = record { delay = c.amount.result; hold = 0; cut = false } in
     let grown : c.push.new.self.items ≡ c.loop-link.ways.items ++ way ∷ [] = search rules in
-    grown ∙ mapped_push first_way c.args.network.now.link c.as_slice-link-items.result.now c.loop-link.link-index c.link-item.result c.loop-link.ways.items way
+    grown ∙ mapped_push first_way c.loop-link.link-index
     c.as_slice-link-items.ensures c.loop-link-test.true c.link-item.is c.loop-link.invariant
     (ap (λ (n : ℕ). record { delay = n; hold = 0; cut = false }) c.amount.ensures.value)
 
 pub returns : goal.returns
 returns c =
-    mapped_all first_way c.args.network.now.link c.as_slice-link-items.result.now c.loop-link.link-index c.loop-link.ways.items c.as_slice-link-items.ensures
+    mapped_all first_way c.loop-link.link-index c.as_slice-link-items.ensures
     c.loop-link-test.false c.loop-link.invariant

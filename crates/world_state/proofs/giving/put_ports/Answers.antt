@@ -16,7 +16,7 @@ loop-index-preserved c =
     let links = c.as_slice-links.ensures in
     let within = c.loop-index-test.true in
     let many : length c.as_slice-links.result.now ≡ length a.network.now.link = ap (λ (l : List Link). length l) links in
-    let here = given_by_ends a.network.now c.ends_of-ends.result a.giving.now.device i link (omega (arith, within, many))
+    let here = given_by_ends a.network.now c.ends_of-ends.result a.giving.now.device i (omega (arith, within, many))
     (subst (λ (l : List Link). link ≡ get_or l i link) links c.index-links-index.is) in
     elim c.if-is_given.branch [
       | then-is_given w ↦
@@ -25,19 +25,19 @@ loop-index-preserved c =
           let then_room = ap (λ q. q.room) w.under_way-is in (
             omega (arith, room, more, then_room),
             subst (λ q. ArePutTo (i + 1) a.network.now a.ups.now a.downs.now a.body.now a.giving.now old q.entries) (sym w.under_way-is)
-                (more_put a.network.now a.ups.now a.downs.now a.body.now a.giving.now i old mid are new
+                (more_put are new
                 ((c.ends_of-ends.ensures (record { 0 = i })).1 (here.1 (c.is_given.ensures.0 w.if-is_given.true))) w.put_port.ensures.entries),
             λ below was.
                 subst (λ q. AreUnderWay a.network.now q.entries) (sym w.under_way-is)
                 (sound_with a.network.now mid new (entry_at_port a.network.now a.ups.now a.downs.now a.giving.now (record { 0 = i }))
                 (sound below was) w.put_port.ensures.entries refl c.requires.device (search rules)
-                (apart_from a.network.now a.ups.now a.downs.now a.body.now a.giving.now i old mid are below)),
+                (apart_from are below)),
           )
       | else-is_given w ↦
           let then_room = ap (λ q. q.room) w.under_way-is in (
             omega (arith, room, then_room),
             subst (λ q. ArePutTo (i + 1) a.network.now a.ups.now a.downs.now a.body.now a.giving.now old q.entries) (sym w.under_way-is)
-                (none_put a.network.now a.ups.now a.downs.now a.body.now a.giving.now i old mid are
+                (none_put are
                 (λ given. both_ways _ w.if-is_given.false (c.is_given.ensures.1 (here.0 ((c.ends_of-ends.ensures (record { 0 = i })).0 given))))),
             λ below was. subst (λ q. AreUnderWay a.network.now q.entries) (sym w.under_way-is) (sound below was),
           )

@@ -37,4 +37,4 @@ hear-arrival-requires g c =
     may_hear (keeps g.M.Machine.stands) c.args.kept.now c.args.moment c.args.link
     (subst (λ x. StandsFor (keeps g.M.Machine.stands) c.args.kept.now (MayCome (signal_as network x) c.args.moment c.args.link))
     c.in-Octets.is c.requires.may)
-    (given_octets given c.as_slice.result.now c.as_slice.ensures.value c.as_slice.ensures.least c.as_slice.ensures.most)
+    (given_octets c.as_slice.ensures.value c.as_slice.ensures.least c.as_slice.ensures.most)

@@ -50,7 +50,7 @@ hear-requires-in-Sent g c =
     may_hear (keeps g.M.Machine.stands) c.args.kept.now c.args.moment c.args.link
     (subst (λ x. StandsFor (keeps g.M.Machine.stands) c.args.kept.now (MayCome (timed (octets_of network x)) c.args.moment c.args.link))
     c.in-Sent.is c.requires.may)
-    (sent_octets given c.as_slice-in-Sent.result.now
+    (sent_octets
     (subst (λ x. signal_of (octets_of network x) ≡ timed (octets_of network x)) c.in-Sent.is c.requires.as_sent) c.as_slice-in-Sent.ensures.value
     c.as_slice-in-Sent.ensures.least c.as_slice-in-Sent.ensures.most)
 

@@ -7,8 +7,8 @@ port_of-requires c =
     let first = c.in-Some.first in
     let there = in_permuted _ _ first (IsPermutation-sym _ _ c.in-Some.ensures.entries) (inl refl) in
     let same = one_first c.in-Some.ensures.first c.requires.first in
-    sym (c.requires.sound.1.kinds first there) ∙ ap (λ (p : DueAt). p.rank) same ∙ c.requires.port
+    sym (c.requires.sound.1.kinds first there) ∙ ap DueAt.rank same ∙ c.requires.port
 
 pub returns-clause-taken : goal.returns-clause-taken
-returns-clause-taken c = in_words _ _ c.in-Some.first c.args.place _ (one_first c.in-Some.ensures.first c.requires.first)
+returns-clause-taken c = in_words _ _ c.in-Some.first (one_first c.in-Some.ensures.first c.requires.first)
     c.port_of.ensures c.in-Some.ensures.entries

@@ -6,7 +6,7 @@ pub returns-else-is_reached : goal.returns-else-is_reached
 returns-else-is_reached c =
     let items = c.args.waiting.now.items in
     let d = c.args.device in
-    none_reached items d c.args.reading c.in-Some.first.now
+    none_reached d c.args.reading
     (subst (λ (o : Option Waits). MatchOption o (NoneAt items d.0) (IsFirstAt items d.0)) (sym c.in-Some.ensures.is) c.in-Some.ensures.first)
     (λ at. both_ways _ c.if-is_reached.false (c.is_reached.ensures.1 at))
 

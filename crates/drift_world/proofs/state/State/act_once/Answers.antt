@@ -28,7 +28,7 @@ act-requires g c =
     let many = c.requires.sound.sized.machines in
     let read = slice_get_read c.args.self.now.machines.items (length c.args.self.now.machines.items) c.args.device.0 c.index_mut.result.now refl
     (omega (arith, lt, many)) c.index_mut.ensures.value in
-    asked_to_act g.C.Clock.reading g.M.Machine.stands c.args.network.now c.args.self.now c.args.part c.args.device c.index_mut.result.now c.requires.there read
+    asked_to_act g.C.Clock.reading g.M.Machine.stands c.args.network.now c.args.self.now c.args.part c.args.device c.requires.there read
     c.requires.due c.requires.above c.requires.comes c.args.moment c.requires.moment
 
 pub returns-in_default : goal.returns-in_default
@@ -37,7 +37,7 @@ returns-in_default g c =
     let many = c.requires.sound.sized.machines in
     let read = slice_get_read c.args.self.now.machines.items (length c.args.self.now.machines.items) c.args.device.0 c.index_mut.result.now refl
     (omega (arith, lt, many)) c.index_mut.ensures.value in
-    absurd (never_broken g.C.Clock.reading g.M.Machine.stands c.args.network.now c.args.self.now c.args.part c.args.device c.index_mut.result.now c.requires.there read
+    absurd (never_broken g.C.Clock.reading g.M.Machine.stands c.args.network.now c.args.self.now c.args.part c.args.device c.requires.there read
     c.requires.due c.requires.above c.requires.comes
     c.in_default.ensures.none)
 
@@ -48,7 +48,7 @@ acted_at : (g : given.Over) (c : After-outcomes_of-outcomes g) (s : Scenario) (n
     c.act.new.self
 acted_at g c s notes old =
     subst (λ m. HasActed (keeps g.M.Machine.stands) s.network c.args.device m c.in-Some.act c.index_mut.result.now c.act.new.self)
-    (c.requires.moment s (shows_of c.args.network.now c.args.self.now old))
+    (c.requires.moment s (shows_of c.args.self.now old))
     (c.in-Some.ensures.acted s.network c.args.device)
 
 pub outcomes_of-outcomes-requires-clause-row : goal.outcomes_of-outcomes-requires-clause-row
@@ -58,10 +58,10 @@ outcomes_of-outcomes-requires-clause-row g c =
     let read = slice_get_read c.args.self.now.machines.items (length c.args.self.now.machines.items) c.args.device.0 c.index_mut.result.now refl
     (omega (arith, lt, many)) c.index_mut.ensures.value in
     let at = c.requires.comes in
-    row_within g.C.Clock.reading g.M.Machine.stands c.args.network.now c.args.self.now c.args.part c.args.device c.index_mut.result.now c.requires.there read c.requires.due
+    row_within g.C.Clock.reading g.M.Machine.stands c.args.network.now c.args.self.now c.args.part c.args.device c.requires.there read c.requires.due
     c.requires.above at c.in-Some.act c.act.new.self
     (subst (λ m. HasActed (keeps g.M.Machine.stands) at.s.network c.args.device m c.in-Some.act c.index_mut.result.now c.act.new.self)
-    (c.requires.moment at.s (shows_of c.args.network.now c.args.self.now at.is))
+    (c.requires.moment at.s (shows_of c.args.self.now at.is))
     (c.in-Some.ensures.acted at.s.network c.args.device))
 
 -- its records are those of the law
@@ -70,15 +70,15 @@ own : (g : given.Over) (c : After-outcomes_of-outcomes g) → let at = c.require
     c.outcomes_of-outcomes.result
 own g c =
     let at = c.requires.comes in
-    let of = shows_of c.args.network.now c.args.self.now at.is in
-    proper_at g.C.Clock.reading g.M.Machine.stands c.args.network.now c.args.self.now c.args.part c.args.device c.index_mut.result.now c.requires.there (held g c)
+    let of = shows_of c.args.self.now at.is in
+    proper_at g.C.Clock.reading g.M.Machine.stands c.args.network.now c.args.self.now c.args.part c.args.device c.requires.there (held g c)
     c.requires.due c.requires.above at.s at.notes at.is at.first c.in-Some.act
     c.act.new.self c.shown-was.result.state c.shown-is.result.adjustment c.outcomes_of-outcomes.result (acted_at g c at.s at.notes at.is)
     (c.outcomes_of-outcomes.ensures at.s (record { same = of.same; clocks = of.clocks; broken = of.broken; ways = of.ways }))
 
 -- the act is worked off, and these are its records
-turned : (g : given.Over) (c : After-outcomes_of-outcomes g) (s : Scenario) (notes : List Note)
-    → (old : Stands g.C.Clock.reading (keeps g.M.Machine.stands) s (world_of c.args.network.now c.args.self.now) notes)
+turned : (g : given.Over) (c : After-outcomes_of-outcomes g) {s : Scenario} {notes : List Note}
+    → {old : Stands g.C.Clock.reading (keeps g.M.Machine.stands) s (world_of c.args.network.now c.args.self.now) notes}
     → ComesFirst g.C.Clock.reading (keeps g.M.Machine.stands) s (world_of c.args.network.now c.args.self.now) notes old
     (part_place c.args.part c.args.self.now.time c.args.device)
     → TurnsIn g.C.Clock.reading g.M.Machine.stands c.args.network.now s notes
@@ -88,7 +88,7 @@ turned : (g : given.Over) (c : After-outcomes_of-outcomes g) (s : Scenario) (not
     })
     (task_place s.network c.args.self.now.time c.args.device (task_of c.in-Some.act))
     c.outcomes_of-outcomes.result.first c.outcomes_of-outcomes.result.second
-turned g c s notes old first =
+turned g c {s} {notes} {old} first =
     let w = c.args.self.now in
     let lt = c.requires.there in
     let many = c.requires.sound.sized.machines in
@@ -101,14 +101,14 @@ turned g c s notes old first =
     let was = slice_get_read w.machines.items (length w.machines.items) device.0 c.index.result.now refl
     (omega (arith, lt, many)) c.index.ensures in
     let set = is_set w.machines.items device.0 after (omega (arith, lt, many)) in
-    let of = shows_of network w old in
+    let of = shows_of w old in
     let same : c.index.result.now ≡ machine = some_same _ _ _ was (held g c) in
     let longer = length-set w.machines.items device.0 after in
     let now_is : c.index-2.result.now ≡ after = some_same _ _ _
     (slice_get_read (slice_set w.machines.items device.0 after) (length (slice_set w.machines.items device.0 after))
     device.0
     c.index-2.result.now refl (omega (arith, lt, many, longer)) c.index-2.ensures) set.there in
-    acted_turns K.reading stands network w c.args.part device machine lt (held g c) c.requires.due c.requires.above after
+    acted_turns K.reading stands network w c.args.part device lt (held g c) c.requires.due c.requires.above
     c.shown-was.result.state
     c.shown-is.result.state c.shown-was.result.adjustment c.shown-is.result.adjustment c.in-Some.act
     c.outcomes_of-outcomes.result _ set s notes old first
@@ -137,15 +137,14 @@ returns-then-not-is_at_source-clause-sound g c =
     let put = c.put_both.ensures in
     let here = (goal.at.returns-then-not-is_at_source-clause-sound g c).After-outcomes_of-outcomes in
     record {
-      sized = sized_so g.C.Clock.last_step c.args.network.now c.args.self.now _ c.requires.sound.sized refl
+      sized = sized_so _ c.requires.sound.sized refl
           (length-set c.args.self.now.machines.items c.args.device.0 c.act.new.self) refl refl refl refl refl;
       under_way = c.requires.sound.under_way;
       fit = record {
         ups = fit.ups;
         downs = fit.downs;
-        octets = octets_then g.C.Clock.reading g.M.Machine.stands c.args.network.now c.args.self.now c.args.part c.args.device c.index_mut.result.now c.requires.there
-            (held g here) c.requires.due c.requires.above c.requires.comes.s _
-            c.shown-was.result.state c.shown-is.result.adjustment c.in-Some.act c.outcomes_of-outcomes.result put.0 c.put_both.new.settled.items
+        octets = octets_then g.C.Clock.reading g.M.Machine.stands c.args.network.now c.args.self.now c.args.part c.args.device c.requires.there
+            (held g here) c.requires.due c.requires.above put.0 c.put_both.new.settled.items
             (own g here) put.1 put.2 fit.octets;
         below = fit.below;
         waits_below = fit.waits_below;
@@ -166,7 +165,6 @@ returns-then-not-is_at_source-clause-goes_on g c = λ no.
     let device = c.args.device in
     let K = g.C.Clock in
     let stands = g.M.Machine.stands in
-    let machine = c.index_mut.result.now in
     let after = c.act.new.self in
     let here = (goal.at.returns-then-not-is_at_source-clause-goes_on g c).After-outcomes_of-outcomes in
     let put = c.put_both.ensures in
@@ -174,14 +172,13 @@ returns-then-not-is_at_source-clause-goes_on g c = λ no.
     let set = is_set w.machines.items device.0 after (omega (arith, lt, many)) in
     record {
       same = refl;
-      above = above_then K.reading stands network w c.args.part device machine lt (held g here) c.requires.due
-          c.requires.above c.requires.comes.s _
-          c.shown-was.result.state c.shown-is.result.adjustment c.in-Some.act c.outcomes_of-outcomes.result put.0
+      above = above_then K.reading stands network w c.args.part device lt (held g here) c.requires.due
+          c.requires.above put.0
           c.put_both.new.settled.items
           (own g here) late put.1 put.2;
       then_stands = λ s notes was first.
-          let of = shows_of network w was in
-          let proper = proper_at K.reading stands network w c.args.part device machine lt (held g here) c.requires.due
+          let of = shows_of w was in
+          let proper = proper_at K.reading stands network w c.args.part device lt (held g here) c.requires.due
           c.requires.above s notes was
           first c.in-Some.act after c.shown-was.result.state c.shown-is.result.adjustment c.outcomes_of-outcomes.result
           (acted_at g here s notes was)
@@ -191,23 +188,21 @@ returns-then-not-is_at_source-clause-goes_on g c = λ no.
             early = false;
             machines = slice_set w.machines.items c.args.device.0 c.act.new.self;
           } in
-          let at = all_put_in K.reading stands network s notes world _ w.settled.items refl
-          c.outcomes_of-outcomes.result.first c.outcomes_of-outcomes.result.second put.0 c.put_both.new.settled.items
-          (turned g here s notes was first) put.1 put.2
-          (acts_late K.reading stands network w c.args.part device machine lt (held g here) c.requires.due
-          c.requires.above s _ c.shown-was.result.state c.shown-is.result.adjustment c.in-Some.act
-          c.outcomes_of-outcomes.result proper late) in (
+          let at = all_put_in w.settled.items refl put.0 c.put_both.new.settled.items
+          (turned g here first) put.1 put.2
+          (acts_late K.reading stands network w c.args.part device lt (held g here) c.requires.due
+          c.requires.above s _ proper late) in (
             at.0,
-            behind_part K.reading stands network w c.args.part device machine lt (held g here) c.requires.due
-                c.requires.above s notes was c.in-Some.act after (acted_at g here s notes was) at.0.frontier at.1,
+            behind_part K.reading stands network w c.args.part device lt (held g here) c.requires.due
+                c.requires.above s notes was c.in-Some.act after (acted_at g here s notes was) at.1,
           );
       later = λ left is_left.
-          later_then K.reading stands network w c.args.part device machine lt (held g here) c.requires.due
+          later_then K.reading stands network w c.args.part device lt (held g here) c.requires.due
           c.requires.above c.requires.comes
           c.in-Some.act after left (acted_at g here)
           (λ s notes old.
-          let of = shows_of network w old in
-          left_in {reading = K.reading} stands {network = network} device left is_left {s = s} after
+          let of = shows_of w old in
+          left_in {reading = K.reading} stands {network = network} device left is_left {s = s}
           (record { same = of.same; clocks = of.clocks; broken = of.broken; ways = of.ways }) set.there);
       acted = λ s notes kept old there. (
         c.in-Some.act,
@@ -229,10 +224,10 @@ low_of : {o : Option Settled} {z : Settled} → o ≡ Some z → IsSomeAnd o (λ
 low_of is low = subst (λ o. IsSomeAnd o (λ x. rank x.body ≤ 6)) is low
 
 -- it has its octets, and stands where its source does
-fine_of : (g : given.Over) (c : After-outcomes_of-outcomes g) (one : Settled)
+fine_of : (g : given.Over) (c : After-outcomes_of-outcomes g) {one : Settled}
     → c.outcomes_of-outcomes.result.first ≡ Some one
     → HasItsOctets one.body one.octets × (4 ≤ rank one.body)
-fine_of g c one is = subst (IsFine 4) is (own g c).first_fine
+fine_of g c is = subst (IsFine 4) is (own g c).first_fine
 
 source_of : (one : Settled) → 4 ≤ rank one.body → rank one.body ≤ 6 → is_at_source one.body ≡ true
 source_of one least most =
@@ -245,9 +240,9 @@ source_of one least most =
     })
 
 -- so it is worked off, where this is its first record
-turned_first : (g : given.Over) (c : After-outcomes_of-outcomes g) (one : Settled)
-    → c.outcomes_of-outcomes.result.first ≡ Some one → (s : Scenario) (notes : List Note)
-    → (old : Stands g.C.Clock.reading (keeps g.M.Machine.stands) s (world_of c.args.network.now c.args.self.now) notes)
+turned_first : (g : given.Over) (c : After-outcomes_of-outcomes g) {one : Settled}
+    → c.outcomes_of-outcomes.result.first ≡ Some one → {s : Scenario} {notes : List Note}
+    → {old : Stands g.C.Clock.reading (keeps g.M.Machine.stands) s (world_of c.args.network.now c.args.self.now) notes}
     → ComesFirst g.C.Clock.reading (keeps g.M.Machine.stands) s (world_of c.args.network.now c.args.self.now) notes old
     (part_place c.args.part c.args.self.now.time c.args.device)
     → TurnsIn g.C.Clock.reading g.M.Machine.stands c.args.network.now s notes
@@ -257,7 +252,7 @@ turned_first : (g : given.Over) (c : After-outcomes_of-outcomes g) (one : Settle
     })
     (task_place s.network c.args.self.now.time c.args.device (task_of c.in-Some.act)) (Some one)
     c.outcomes_of-outcomes.result.second
-turned_first g c one is s notes old first =
+turned_first g c is {s} {notes} {old} first =
     subst (λ o. TurnsIn g.C.Clock.reading g.M.Machine.stands c.args.network.now s notes
     (record (world_of c.args.network.now c.args.self.now) {
       early = false;
@@ -265,7 +260,7 @@ turned_first g c one is s notes old first =
     })
     (task_place s.network c.args.self.now.time c.args.device (task_of c.in-Some.act)) o
     c.outcomes_of-outcomes.result.second) is
-    (turned g c s notes old first)
+    (turned g c first)
 
 pub unwrap-own-requires : goal.unwrap-own-requires
 unwrap-own-requires g c = some_of c.outcomes_of-outcomes.result.first
@@ -276,7 +271,7 @@ give_first-requires-clause-sound g c =
     let fit = c.requires.sound.fit in
     let proper = own g (goal.at.give_first-requires-clause-sound g c).After-outcomes_of-outcomes in
     record {
-      sized = sized_so g.C.Clock.last_step c.args.network.now c.args.self.now _ c.requires.sound.sized refl
+      sized = sized_so _ c.requires.sound.sized refl
           (length-set c.args.self.now.machines.items c.args.device.0 c.act.new.self) refl refl refl refl refl;
       under_way = c.requires.sound.under_way;
       fit = record {
@@ -297,8 +292,8 @@ give_first-requires-clause-next g c =
     let w = c.args.self.now in
     let here = (goal.at.give_first-requires-clause-next g c).After-outcomes_of-outcomes in
     let one = c.unwrap-own.result in
-    let turn = turned_first g here one c.unwrap-own.ensures at.s at.notes at.is at.first in
-    let least = (fine_of g here one c.unwrap-own.ensures).1 in
+    let turn = turned_first g here c.unwrap-own.ensures at.first in
+    let least = (fine_of g here c.unwrap-own.ensures).1 in
     let most = low_of c.unwrap-own.ensures (c.is_at_source.ensures.yes c.if-not-is_at_source.false) in
     let world : World _ _ = record (world_of c.args.network.now w) {
       early = false;
@@ -307,21 +302,20 @@ give_first-requires-clause-next g c =
     record {
       s = at.s;
       notes = at.notes;
-      next = next_first g.C.Clock.reading g.M.Machine.stands c.args.network.now at.s at.notes world _ w.settled.items refl
-          one c.outcomes_of-outcomes.result.second turn c.put_change.new.settled.items
+      next = next_first w.settled.items refl turn c.put_change.new.settled.items
           c.put_change.ensures.is (source_of one least most);
       own = turn.first_is;
     }
 
 pub give_first-requires-clause-octets : goal.give_first-requires-clause-octets
 give_first-requires-clause-octets g c =
-    (fine_of g (goal.at.give_first-requires-clause-octets g c).After-outcomes_of-outcomes c.unwrap-own.result
+    (fine_of g (goal.at.give_first-requires-clause-octets g c).After-outcomes_of-outcomes
     c.unwrap-own.ensures).0
 
 pub give_first-requires-clause-capacity : goal.give_first-requires-clause-capacity
 give_first-requires-clause-capacity g c =
     let least =
-    (fine_of g (goal.at.give_first-requires-clause-capacity g c).After-outcomes_of-outcomes c.unwrap-own.result
+    (fine_of g (goal.at.give_first-requires-clause-capacity g c).After-outcomes_of-outcomes
     c.unwrap-own.ensures).1 in
     no_waiter c.unwrap-own.result.body c.args.self.now.waiting (λ two. omega (arith, two, least))
 
@@ -343,7 +337,7 @@ returns-clause-gives g c = λ yes.
     let rest = c.put_change.new.settled.items in
     let give = c.give_first.ensures in
     let new = c.give_first.new.self in
-    let least = (fine_of g here one c.unwrap-own.ensures).1 in
+    let least = (fine_of g here c.unwrap-own.ensures).1 in
     let most = low_of c.unwrap-own.ensures (c.is_at_source.ensures.yes c.if-not-is_at_source.false) in
     let far = no_change one.body (λ two. omega (arith, two, least)) in
     let rebuilt : State _ _ → State _ _ = λ q. record w {
@@ -359,16 +353,15 @@ returns-clause-gives g c = λ yes.
     record {
       same = give.same ∙ sym (ap rebuilt give.same);
       waiting = λ x lt. give.others.waiting x (λ e. omega (arith, e, far, lt));
-      time = ap (λ (n : Note). n.time) give.note;
+      time = ap Note.time give.note;
       then_stands = λ s notes was first.
           let world : World _ _ = record (world_of c.args.network.now w) {
             early = false;
             machines = slice_set w.machines.items c.args.device.0 c.act.new.self;
           } in
-          let turn = turned_first g here one c.unwrap-own.ensures s notes was first in
-          (first_given g.C.Clock.reading g.M.Machine.stands c.args.network.now s notes world _ w.settled.items refl
-          one c.outcomes_of-outcomes.result.second turn rest c.put_change.ensures.is (source_of one least most)
-          (world_of c.args.network.now new) c.give_first.new.note give.note
+          let turn = turned_first g here c.unwrap-own.ensures first in
+          (first_given w.settled.items refl turn rest c.put_change.ensures.is (source_of one least most)
+          (world_of c.args.network.now new) give.note
           (ap (λ (t : State _ _). world_of c.args.network.now t) give.same)
           (give.launched s notes)).0;
     }

@@ -1,7 +1,7 @@
 use Rattle.drift_world.proofs.{ActEnds.{gave_kept, gave_may_set, gave_says, less_then, may_set, stepped}, AtSource.all_above, Turning.{is_at, step_kept}}
 use Rattle.drift_world.proofs.ActTurns.{IsTurn, comes_at, left_later, same_then, turn_begun, turn_on, turn_with}
 use Rattle.drift_world.proofs.Words.{◌+◌, ◌<◌, ◌∙◌, ◌≡◌, IsOf, Scenario, ap, arith, length, moment_of, numbers_end, subst, sym}
-use Rattle.drift_world.specs.{Acting.{IsDueAt, IsLeft}, Parts.part_rank, declared.{source.Source.TheVariants.Act, state.State.State}}
+use Rattle.drift_world.specs.{Acting.{IsDueAt, IsLeft}, Parts.part_rank, declared.state.State.State}
 use Rattle.drift_world.proofs.state.State.acting_turn.Goals.{After-reserve_two, In-Ok}
 use Rattle.drift_world.proofs.state.State.acting_turn.Given as given
 use Rattle.drift_world.proofs.state.State.acting_turn.Goals as goal
@@ -12,10 +12,9 @@ acts-init g c =
     turn_begun g.C.Clock.last_step g.C.Clock.reading g.M.Machine.stands c.args.network.now c.args.part c.args.device
     c.args.self.now c.left_to_do-left.result
     may.well.sound c.left_to_do-left.ensures may.foremost.there.late
-    (all_above g.M.Machine.stands c.args.network.now c.args.self.now
+    (all_above g.M.Machine.stands c.args.self.now
     (part_rank c.args.part) may.well.running.is may.first)
-    (is_at g.C.Clock.last_step g.C.Clock.reading g.M.Machine.stands c.args.network.now c.args.self.now
-    (Act c.args.part c.args.device) may tt)
+    (is_at may tt)
     may.foremost.there.of
 
 -- there is room for more
@@ -24,14 +23,13 @@ turn : (g : given.Over) (c : After-reserve_two g) → IsTurn g.C.Clock.last_step
     c.args.self.now c.reserve_two.new.self c.acts.left c.acts.acts
 turn g c =
     turn_with g.C.Clock.last_step g.C.Clock.reading g.M.Machine.stands c.args.network.now c.args.part c.args.device
-    c.args.self.now c.acts.self
-    c.reserve_two.new.self c.acts.left c.acts.acts c.reserve_two.ensures.same c.reserve_two.ensures.items
+    c.args.self.now c.acts.self c.acts.left c.acts.acts c.reserve_two.ensures.same c.reserve_two.ensures.items
     c.acts.invariant
 
 numbered : (g : given.Over) (c : In-Ok g) → c.reserve_two.new.self.given + length c.reserve_two.new.self.settled.items
     + 2 < numbers_end
 numbered g c =
-    let given_is = ap (λ (x : State _ _). x.given) c.reserve_two.ensures.same in
+    let given_is = ap State.given c.reserve_two.ensures.same in
     let long = ap length c.reserve_two.ensures.items in
     let numbers = c.in-Ok.ensures.numbers in
     omega (arith, given_is, long, numbers)
@@ -46,7 +44,7 @@ due g c =
     (turn g c).is_left
 
 -- a state that shows the same clocks, ways and broken devices has the same moment
-same_moment : (g : given.Over) (c : After-reserve_two g) (now : State _ _)
+same_moment : (g : given.Over) (c : After-reserve_two g) {now : State _ _}
     → now ≡ record c.args.self.now {
       machines = now.machines;
       early = now.early;
@@ -55,20 +53,18 @@ same_moment : (g : given.Over) (c : After-reserve_two g) (now : State _ _)
           now.spare;
     } → (s : Scenario)
     → IsOf g.C.Clock.reading s c.args.network.now now → c.moment_at-moment.result ≡ moment_of s c.args.device now.time
-same_moment g c now same s of =
+same_moment g c {now} same s of =
     let was : IsOf g.C.Clock.reading s c.args.network.now
     (record c.args.self.now { machines = now.machines; early = now.early; settled = now.settled; spare = now.spare }) =
     subst (IsOf g.C.Clock.reading s c.args.network.now) same of in
     c.moment_at-moment.ensures s (record { same = was.same; clocks = was.clocks; broken = was.broken; ways = was.ways })
-    ∙ ap (moment_of s c.args.device) (sym (ap (λ (x : State _ _). x.time) same))
+    ∙ ap (moment_of s c.args.device) (sym (ap State.time same))
 
 -- ---- what is left is put off
 
 pub put_off-requires : goal.put_off-requires
 put_off-requires g c = record {
-  may = may_set g.C.Clock.last_step g.C.Clock.reading g.M.Machine.stands c.args.network.now c.args.part c.args.device
-      c.args.self.now c.acts.self
-      c.acts.left c.acts.acts c.requires.may c.acts.invariant;
+  may = may_set c.requires.may c.acts.invariant;
   left = c.acts.invariant.is_left;
 }
 
@@ -76,18 +72,13 @@ pub returns-then-not-is_due : goal.returns-then-not-is_due
 returns-then-not-is_due g c =
     let off = c.put_off.ensures in
     let new = c.put_off.new.self in
-    let step = stepped g.C.Clock.last_step g.C.Clock.reading g.M.Machine.stands c.args.network.now c.args.part
-    c.args.device c.args.self.now c.acts.self
-    c.acts.left c.acts.acts c.requires.may c.acts.invariant new off.timed off.sets in
+    let step = stepped c.requires.may c.acts.invariant off.timed off.sets in
     record {
-      kept = step_kept g.C.Clock.last_step g.C.Clock.reading g.M.Machine.stands c.args.network.now
-          c.args.self.now new step;
+      kept = step_kept step;
       says = (
         step.time,
         step.given,
-        less_then g.C.Clock.last_step g.C.Clock.reading g.M.Machine.stands c.args.network.now c.args.part c.args.device
-            c.args.self.now c.acts.self
-            c.acts.left c.acts.acts c.requires.may c.acts.invariant new off.sets step.well c.acts.left
+        less_then c.requires.may c.acts.invariant new off.sets step.well c.acts.left
             c.acts.invariant.is_left
             (left_later c.args.part c.acts.left (c.is_due.ensures.no c.if-not-is_due.true) c.acts.invariant.later)
             off.put,
@@ -99,23 +90,17 @@ returns-then-not-is_due g c =
 
 pub rekey_act-requires : goal.rekey_act-requires
 rekey_act-requires g c = record {
-  may = may_set g.C.Clock.last_step g.C.Clock.reading g.M.Machine.stands c.args.network.now c.args.part c.args.device
-      c.args.self.now
-      c.reserve_two.new.self c.acts.left c.acts.acts c.requires.may
+  may = may_set c.requires.may
       (turn g (goal.at.rekey_act-requires g c).After-reserve_two);
 }
 
 pub returns-in-Err : goal.returns-in-Err
 returns-in-Err g c =
     let key = c.rekey_act.ensures in
-    let new = c.rekey_act.new.self in
-    let step = stepped g.C.Clock.last_step g.C.Clock.reading g.M.Machine.stands c.args.network.now c.args.part
-    c.args.device c.args.self.now
-    c.reserve_two.new.self c.acts.left c.acts.acts c.requires.may
-    (turn g (goal.at.returns-in-Err g c).After-reserve_two) new key.timed key.sets in
+    let step = stepped c.requires.may
+    (turn g (goal.at.returns-in-Err g c).After-reserve_two) key.timed key.sets in
     record {
-      kept = step_kept g.C.Clock.last_step g.C.Clock.reading g.M.Machine.stands c.args.network.now
-          c.args.self.now new step;
+      kept = step_kept step;
       says = tt;
       err = step.time;
     }
@@ -128,7 +113,7 @@ act_once-requires-clause-sound g c = (turn g (goal.at.act_once-requires-clause-s
 pub act_once-requires-clause-moment : goal.act_once-requires-clause-moment
 act_once-requires-clause-moment g c =
     let here = (goal.at.act_once-requires-clause-moment g c).After-reserve_two in
-    same_moment g here c.reserve_two.new.self (turn g here).same
+    same_moment g here (turn g here).same
 
 pub act_once-requires-clause-launches : goal.act_once-requires-clause-launches
 act_once-requires-clause-launches g c =
@@ -151,8 +136,7 @@ act_once-requires-clause-comes g c =
     c.args.self.now c.reserve_two.new.self
     c.acts.left c.acts.acts (turn g (goal.at.act_once-requires-clause-comes g c).After-reserve_two)
     (numbered g (goal.at.act_once-requires-clause-comes g c).In-Ok)
-    (is_at g.C.Clock.last_step g.C.Clock.reading g.M.Machine.stands c.args.network.now c.args.self.now
-    (Act c.args.part c.args.device) c.requires.may tt)
+    (is_at c.requires.may tt)
 
 pub act_once-requires-clause-there : goal.act_once-requires-clause-there
 act_once-requires-clause-there g c = c.requires.may.foremost.there.of
@@ -164,11 +148,8 @@ act_once-requires-clause-range g c = c.requires.may.range
 
 pub rekey_act-requires-then-act_once : goal.rekey_act-requires-then-act_once
 rekey_act-requires-then-act_once g c = record {
-  may = gave_may_set g.C.Clock.last_step g.C.Clock.reading g.M.Machine.stands c.args.network.now c.args.part
-      c.args.device c.args.self.now
-      c.reserve_two.new.self c.acts.left c.acts.acts c.requires.may
-      (turn g (goal.at.rekey_act-requires-then-act_once g c).After-reserve_two)
-      c.act_once.new.self c.act_once.new.note c.act_once.ensures.sound c.act_once.ensures.machines
+  may = gave_may_set c.requires.may
+      (turn g (goal.at.rekey_act-requires-then-act_once g c).After-reserve_two) c.act_once.ensures.sound c.act_once.ensures.machines
       (c.act_once.ensures.gives c.if-act_once.true)
       (numbered g (goal.at.rekey_act-requires-then-act_once g c).In-Ok);
 }
@@ -179,18 +160,13 @@ returns-then-act_once g c =
     let numbers = numbered g (goal.at.returns-then-act_once g c).In-Ok in
     let once = c.act_once.ensures in
     let key = c.rekey_act-then-act_once.ensures in
-    let new = c.rekey_act-then-act_once.new.self in
     record {
-      kept = gave_kept g.C.Clock.last_step g.C.Clock.reading g.M.Machine.stands c.args.network.now c.args.part
-          c.args.device c.args.self.now
-          c.reserve_two.new.self c.acts.left c.acts.acts c.requires.may here c.act_once.new.self c.act_once.new.note
+      kept = gave_kept c.requires.may here
           once.sound once.machines
-          (once.gives c.if-act_once.true) numbers new key.timed key.sets;
-      says = gave_says g.C.Clock.last_step g.C.Clock.reading g.M.Machine.stands c.args.network.now c.args.part
-          c.args.device c.args.self.now
-          c.reserve_two.new.self c.acts.left c.acts.acts c.requires.may here c.act_once.new.self c.act_once.new.note
+          (once.gives c.if-act_once.true) numbers key.timed key.sets;
+      says = gave_says c.requires.may here
           once.sound once.machines
-          (once.gives c.if-act_once.true) numbers new key.sets;
+          (once.gives c.if-act_once.true) numbers key.sets;
       err = tt;
     }
 
@@ -217,19 +193,17 @@ left_to_do-left-requires-in-acts g c =
     record {
       sized = c.act_once.ensures.sound.sized;
       there = c.requires.may.foremost.there.of;
-      moment = same_moment g here c.act_once.new.self
-          (same_then c.args.self.now c.reserve_two.new.self c.act_once.new.self (turn g here).same on.same);
+      moment = same_moment g here
+          (same_then c.args.self.now (turn g here).same on.same);
     }
 
 pub acts-preserved : goal.acts-preserved
 acts-preserved g c =
     let once = c.act_once.ensures in
     turn_on g.C.Clock.last_step g.C.Clock.reading g.M.Machine.stands c.args.network.now c.args.part c.args.device
-    c.args.self.now c.reserve_two.new.self
-    c.act_once.new.self c.acts.left c.left_to_do-left-in-acts.result c.acts.acts
+    c.args.self.now c.acts.left c.left_to_do-left-in-acts.result c.acts.acts
     (turn g (goal.at.acts-preserved g c).After-reserve_two)
     (due g (goal.at.acts-preserved g c).After-reserve_two) (numbered g (goal.at.acts-preserved g c).In-Ok)
     (once.goes_on c.if-act_once.false) once.sound once.machines c.left_to_do-left-in-acts.ensures
     c.requires.may.foremost.there.of
-    (is_at g.C.Clock.last_step g.C.Clock.reading g.M.Machine.stands c.args.network.now c.args.self.now
-    (Act c.args.part c.args.device) c.requires.may tt)
+    (is_at c.requires.may tt)

@@ -67,11 +67,11 @@ returns-clause-stands g c = λ f h past notes old follows may.
           ∙ ap (list_any (λ b. turns_on device b.what)) (sym c.as_slice.ensures.value) ∙ sym (c.breaks_on-on.ensures device broke));
     })
     (λ device lt. c.set_broken.ensures.each device _ (old.broken device lt) ∙ ap Some (sym (broken_more network f h past event w.time device at)))
-    (ways_more network f h past event w.time at w.ups.items w.downs.items c.set_way.new.ways.items c.set_way-2.new.ways.items z.ups z.downs old.ways
+    (ways_more network f h past event at w.ups.items w.downs.items c.set_way.new.ways.items c.set_way-2.new.ways.items z.ups z.downs old.ways
     c.set_way.ensures.each c.set_way-2.ensures.each)
     (λ e. subst (λ (l : List Waits). IsIn e (map waiting_as l) ↔
     (IsIn e world.waiting × (is_broken (scenario network h (past ++ event ∷ [])) e.device w.time ≡ false))) (sym c.drop_waiting.ensures)
-    (waits_more network f h past event w.time at w.waiting.items old.waiting.sound e)) in
+    (waits_more network f h past event at w.waiting.items old.waiting.sound e)) in
     let after : List Befell → Bool → World _ _ = λ befell over. record world {
       clocks = c.set_rate.new.clocks.items;
       machines = c.befall_machines.new.machines.items;
@@ -109,7 +109,7 @@ returns-clause-others g c = λ device there away.
       clock_elsewhere g.C.Clock.after_step c.args.self.now.clocks.items c.set_rate.new.clocks.items device c.args.event.now.time c.args.event.now.what
           (omega (arith, there, many)) away c.set_rate.ensures.each,
       c.befall_machines.ensures.others device away,
-      waits_elsewhere c.args.self.now.waiting.items c.drop_waiting.new.waiting.items device c.args.event.now.what c.drop_waiting.ensures away,
+      waits_elsewhere c.args.self.now.waiting.items device c.args.event.now.what c.drop_waiting.ensures away,
     )
 
 pub befall_machines-requires : goal.befall_machines-requires

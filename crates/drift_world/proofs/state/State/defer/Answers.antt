@@ -41,7 +41,7 @@ returns-clause-timed g c =
     let first : (node : _) → keeps S has.0 network device node → IsFirstPart network device node (pos (K.reading own.0 w.time)) c.args.part = λ node kept.
     subst (λ n. IsFirstPart network device node (pos n) c.args.part) (own.2 w.time (omega arith))
     (subst (λ k. IsFirstPart k device node (pos (s.reading device w.time)) c.args.part) (sym old.same)
-    (c.requires.first s has.0 node (shows_of network w old) has.1
+    (c.requires.first s has.0 node (shows_of w old) has.1
     (subst (λ k. keeps S has.0 k device node) old.same kept))) in
     record {
       clock = own.0;
@@ -54,7 +54,7 @@ returns-clause-timed g c =
       acts = record {
         none = λ node task kept pending u from most reached. from;
         one = λ lt node kept. let is = (first node kept).is in (is.task, is.pending, is.due);
-        late = λ lt node kept. none_sooner network device node (pos (K.reading own.0 w.time)) c.args.part (first node kept);
+        late = λ lt node kept. none_sooner (first node kept);
       };
     }
 

@@ -27,7 +27,6 @@ returns-clause-none g c =
 pub returns-clause-is : goal.returns-clause-is
 returns-clause-is g c = λ s of.
     let w = c.args.self.now in
-    let network = c.args.network.now in
     let device : DeviceId = record { 0 = c.args.place.device } in
     let link : LinkId = record { 0 = c.args.place.link } in
     let there : device.0 < length s.network.device = subst (λ (n : Network). device.0 < length n.device) of.same c.requires.device in
@@ -43,7 +42,6 @@ returns-clause-is g c = λ s of.
     let read = own.2 ∙ ap (λ k. g.C.Clock.reading k w.time) (some_same _ _ _ own.1 clock.1) ∙ sym (clock.2 w.time (omega arith)) in
     let way = subst (λ n. slice_get (if is_parent_of n device link then w.downs.items else w.ups.items) link.0 ≡ Some c.way_from-way.result)
     of.same c.way_from-way.ensures in
-    let cut = ap (λ (k : WayNow). k.cut) (way_by s w.time w.ups.items w.downs.items link c.way_from-way.result (is_parent_of s.network device link) of.ways
+    let cut = ap WayNow.cut (way_by s w.time w.ups.items w.downs.items link (is_parent_of s.network device link) of.ways
     here way) in
-    ap Some c.departed.ensures ∙ departure_is s w.time (port_entry c.args.place c.args.frame c.args.given) network c.reading_of-reading.result
-    c.way_from-way.result.cut of.same sound read cut
+    ap Some c.departed.ensures ∙ departure_is s w.time (port_entry c.args.place c.args.frame c.args.given) of.same sound read cut

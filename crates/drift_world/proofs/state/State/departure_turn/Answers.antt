@@ -9,37 +9,32 @@ use Rattle.drift_world.proofs.state.State.departure_turn.Given as given
 use Rattle.drift_world.proofs.state.State.departure_turn.Goals as goal
 
 -- what leaves is worked off, and this is its record, if there is one
-turned : (g : given.Over) (c : After-leave_port g) (one : Option Settled) → c.leave_port.result ≡ one → (s : Scenario)
-    (notes : List Note)
+turned : (g : given.Over) (c : After-leave_port g) {one : Option Settled} → c.leave_port.result ≡ one → {s : Scenario}
+    {notes : List Note}
     → Stands g.C.Clock.reading (keeps g.M.Machine.stands) s (world_of c.args.network.now c.args.self.now) notes
     → TurnsIn g.C.Clock.reading g.M.Machine.stands c.args.network.now s notes
     (world_of c.args.network.now c.leave_port.new.self) (numbers_of c.args.place) one None
-turned g c one same s notes is =
+turned g c same {s} {notes} is =
     subst (λ o. TurnsIn g.C.Clock.reading g.M.Machine.stands c.args.network.now s notes
     (world_of c.args.network.now c.leave_port.new.self) (numbers_of c.args.place) o None) same
-    (turns_of g.C.Clock.last_step g.C.Clock.reading g.M.Machine.stands c.args.network.now c.args.self.now c.leave_port.new.self
-    (Departure c.args.place) c.leave_port.result None c.requires.may tt c.leave_port.ensures.turns s notes is)
+    (turns_of c.leave_port.new.self c.leave_port.result None c.requires.may tt c.leave_port.ensures.turns is)
 
 pub returns-in_default-clause-kept : goal.returns-in_default-clause-kept
 returns-in_default-clause-kept g c =
-    let K = g.C.Clock in
-    let S = g.M.Machine.stands in
-    let network = c.args.network.now in
     let mid = c.leave_port.new.self in
     let left = c.in_default.ensures in
     let here = (goal.at.returns-in_default-clause-kept g c).After-leave_port in
-    step_kept K.last_step K.reading S network c.args.self.now mid
-    (plain_step K.last_step K.reading S network c.args.self.now mid c.requires.may.well left.sound left.others
-    (ap (λ (t : State _ _). t.timers) left.same)
-    (ap (λ (t : State _ _). t.given) left.same)
+    step_kept (plain_step c.requires.may.well left.sound left.others
+    (ap State.timers left.same)
+    (ap State.given left.same)
     (λ s notes is.
-    (all_put_in K.reading S network s notes (world_of network mid) _ mid.settled.items refl None None
-    mid.settled.items mid.settled.items (turned g here None c.in_default.is s notes is) refl refl refl).0))
+    (all_put_in mid.settled.items refl
+    mid.settled.items mid.settled.items (turned g here c.in_default.is is) refl refl refl).0))
 
 pub give_first-requires-clause-number : goal.give_first-requires-clause-number
 give_first-requires-clause-number g c =
     let numbers = c.requires.may.room.numbers in
-    let given = ap (λ (t : State _ _). t.given) c.in-Some.ensures.same in
+    let given = ap State.given c.in-Some.ensures.same in
     omega (arith, numbers, given)
 
 pub give_first-requires-clause-room : goal.give_first-requires-clause-room
@@ -65,20 +60,17 @@ give_first-requires-clause-place g c =
 
 pub give_first-requires-clause-next : goal.give_first-requires-clause-next
 give_first-requires-clause-next g c =
-    let K = g.C.Clock in
-    let S = g.M.Machine.stands in
-    let network = c.args.network.now in
     let run = c.requires.may.well.running in
     let here = (goal.at.give_first-requires-clause-next g c).After-leave_port in
     let mid = c.leave_port.new.self in
     let one = c.record-gone.result in
     let eight : rank one.body ≡ 8 = ap (λ (z : Settled). rank z.body) c.record-gone.ensures
     ∙ c.leaves.ensures.yes c.if-leaves.true in
-    let turn = turned g here (Some one) (c.in-Some.is ∙ ap Some (sym c.record-gone.ensures)) run.s run.notes run.is in
+    let turn = turned g here (c.in-Some.is ∙ ap Some (sym c.record-gone.ensures)) run.is in
     record {
       s = run.s;
       notes = run.notes;
-      next = next_first K.reading S network run.s run.notes (world_of network mid) _ mid.settled.items refl one None turn
+      next = next_first mid.settled.items refl turn
           mid.settled.items refl (source_at (Departure c.args.place) one.body eight);
       own = turn.first_is;
     }
@@ -98,45 +90,37 @@ returns-then-leaves-clause-kept g c =
     let few = may.range.few_devices in
     let changes : ChangesOnly other c.args.self.now gave = changes_both (left.others other) give.others in
     let time = changes.time in
-    kept_timers g.C.Clock.last_step g.C.Clock.reading g.M.Machine.stands c.args.network.now c.args.self.now gave gave _
+    kept_timers _
     may.well give.sound
     (record { clocks = changes.clocks; ended = changes.ended; later = omega (arith, time) })
     (λ s notes is.
-    let K = g.C.Clock in
-    let S = g.M.Machine.stands in
     let network = c.args.network.now in
     let here = (goal.at.returns-then-leaves-clause-kept g c).After-leave_port in
-    (first_given K.reading S network s notes (world_of network mid) _ mid.settled.items refl one None
-    (turned g here (Some one) (c.in-Some.is ∙ ap Some (sym c.record-gone.ensures)) s notes is) mid.settled.items refl
+    (first_given mid.settled.items refl
+    (turned g here (c.in-Some.is ∙ ap Some (sym c.record-gone.ensures)) is) mid.settled.items refl
     (source_at (Departure c.args.place) one.body eight)
-    (world_of network gave) c.give_first.new.note give.note
+    (world_of network gave) give.note
     (ap (λ (t : State _ _). world_of network t) give.same) (give.launched s notes)).0)
     refl
-    (aside g.C.Clock.reading g.M.Machine.stands c.args.network.now other c.args.self.now gave may.well.timed (omega (arith, far, few)) changes
-    (ap (λ (t : State _ _). t.timers) give.same ∙ ap (λ (t : State _ _). t.timers) left.same))
+    (aside may.well.timed (omega (arith, far, few)) changes
+    (ap State.timers give.same ∙ ap State.timers left.same))
 
 pub returns-clause-kept : goal.returns-clause-kept
 returns-clause-kept g c =
-    let K = g.C.Clock in
-    let S = g.M.Machine.stands in
-    let network = c.args.network.now in
     let mid = c.leave_port.new.self in
     let left = c.in-Some.ensures in
-    let one = c.record-other.result in
     let same = c.record-other.ensures in
     let put = c.put_in.ensures.is in
     let after : State _ _ = record mid { settled = c.put_in.new.settled } in
     let here = (goal.at.returns-clause-kept g c).After-leave_port in
     let late = ap (λ (z : Settled). is_at_source z.body) same ∙ left.late (c.leaves.ensures.no c.if-leaves.false) in
-    step_kept K.last_step K.reading S network c.args.self.now after
-    (plain_step K.last_step K.reading S network c.args.self.now after c.requires.may.well
-    (sound_same K.last_step network mid after left.sound refl refl refl refl refl refl refl refl refl refl
-    (all_put have_octets one mid.settled.items c.put_in.new.settled.items put.0 put.1
+    step_kept (plain_step c.requires.may.well
+    (sound_same after left.sound refl refl refl refl refl refl refl refl refl refl
+    (all_put have_octets put.1
     (subst have_octets (sym same) left.octets) left.sound.fit.octets))
     (λ n. let o = left.others n in record { clocks = o.clocks; time = o.time; ended = o.ended; machines = o.machines; waiting = o.waiting })
-    (ap (λ (t : State _ _). t.timers) left.same) (ap (λ (t : State _ _). t.given) left.same)
+    (ap State.timers left.same) (ap State.given left.same)
     (λ s notes is.
-    (all_put_in K.reading S network s notes (world_of network mid) _ mid.settled.items refl (Some one)
-    None c.put_in.new.settled.items c.put_in.new.settled.items
-    (turned g here (Some one) (c.in-Some.is ∙ ap Some (sym same)) s notes is) put
+    (all_put_in mid.settled.items refl c.put_in.new.settled.items c.put_in.new.settled.items
+    (turned g here (c.in-Some.is ∙ ap Some (sym same)) is) put
     refl late).0))

@@ -21,7 +21,7 @@ returns g c = λ s entry of is.
     (slice_get_within network.link link.0 found.link c.entry_of-entry.ensures.is.link) in
     let way = subst (λ n. slice_get (if is_parent_of n device link then w.downs.items else w.ups.items) link.0 ≡ Some c.way_from-way.result)
     of.same c.way_from-way.ensures in
-    let cut = ap (λ (k : WayNow). k.cut) (way_by s w.time w.ups.items w.downs.items link c.way_from-way.result (is_parent_of s.network device link) of.ways
+    let cut = ap WayNow.cut (way_by s w.time w.ups.items w.downs.items link (is_parent_of s.network device link) of.ways
     here way) in
     subst (λ e. IsDispatched s w.stored.items w.time device e c.args.cycle (Some c.dispatched.result))
     (one_entry network c.args.row.0 found entry c.entry_of-entry.ensures.is is)

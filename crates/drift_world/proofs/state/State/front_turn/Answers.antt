@@ -5,7 +5,7 @@ use Rattle.drift_world.proofs.state.State.front_turn.Goals as goal
 pub give_next-requires-clause-first : goal.give_next-requires-clause-first
 give_next-requires-clause-first g c =
     let source = c.source_by-source in
-    may_give_first g.C.Clock.last_step g.C.Clock.reading g.M.Machine.stands c.args.network.now c.args.self.now source.result
+    may_give_first
     c.requires.may.well source.ensures.foremost (c.if-has_first.ensures.yes refl)
 
 pub pass_on-requires-clause-empty : goal.pass_on-requires-clause-empty
@@ -16,7 +16,7 @@ pass_on-requires-clause-empty g c =
 pub returns-then-has_first-clause-turns : goal.returns-then-has_first-clause-turns
 returns-then-has_first-clause-turns g c =
     let gave = c.give_next.ensures in
-    gives_turns g.C.Clock.last_step g.C.Clock.reading g.M.Machine.stands c.args.network.now OutOfMemory c.args.self.now c.give_next.new.self c.args.until
+    gives_turns OutOfMemory c.args.self.now c.args.until
     c.give_next.new.note c.give_next.result c.requires.may.early gave.kept.well
     gave.says
 
@@ -26,12 +26,12 @@ returns-then-has_first-clause-err g c =
 
 pub returns-in-Later-clause-kept : goal.returns-in-Later-clause-kept
 returns-in-Later-clause-kept g c =
-    passed_kept g.C.Clock.last_step g.C.Clock.reading g.M.Machine.stands c.args.network.now OutOfMemory c.args.self.now c.pass_on.new.self c.args.until
-    c.args.note.now c.pass_on.result c.pass_on.ensures.passed
+    passed_kept OutOfMemory
+    c.args.note.now c.pass_on.ensures.passed
 
 pub returns-in-Later-clause-turns : goal.returns-in-Later-clause-turns
 returns-in-Later-clause-turns g c =
-    passed_turns g.C.Clock.last_step g.C.Clock.reading g.M.Machine.stands c.args.network.now c.args.self.now c.pass_on.new.self c.args.until c.args.note.now
+    passed_turns c.args.note.now
     c.pass_on.result c.pass_on.ensures.passed c.pass_on.ensures.nears
 
 pub work_turn-requires : goal.work_turn-requires
@@ -52,7 +52,7 @@ work_turn-requires g c =
 pub returns-clause-turns : goal.returns-clause-turns
 returns-clause-turns g c =
     let turn = c.work_turn.ensures in
-    work_turns g.C.Clock.last_step g.C.Clock.reading g.M.Machine.stands c.args.network.now OutOfMemory c.args.self.now c.work_turn.new.self c.args.until
+    work_turns OutOfMemory c.args.self.now c.args.until
     c.work_turn.new.note c.work_turn.result c.requires.may.early turn.kept.well
     turn.says
 

@@ -8,8 +8,8 @@ use Rattle.world_state.specs.{Frames.room_of, Shelves.HasPlace, declared.content
 use Rattle.drift_world.proofs.state.State.give.Given as given
 use Rattle.drift_world.proofs.state.State.give.Goals as goal
 
-heads : (x y : Settled) (xs ys : List Settled) → x ∷ xs ≡ y ∷ ys → x ≡ y
-heads x y xs ys e = cc
+heads : {x y : Settled} {xs ys : List Settled} → x ∷ xs ≡ y ∷ ys → x ≡ y
+heads e = cc
 
 -- the first of what is settled was taken out
 whole_is : (g : given.Over) (c : After-unwrap-first g) → c.args.self.now.settled.items ≡ c.unwrap-first.result ∷ c.pop_front.new.self.items
@@ -18,7 +18,7 @@ whole_is g c = c.pop_front.ensures.items ∙ ap (λ o. option_to_list o ++ c.pop
 pub returns-in-Err-clause-sound : goal.returns-in-Err-clause-sound
 returns-in-Err-clause-sound g c =
     let room = c.in-Err.ensures in
-    sound_same g.C.Clock.last_step c.args.network.now c.args.self.now _ c.requires.sound refl refl refl refl refl refl refl refl room.entries room.waiting
+    sound_same _ c.requires.sound refl refl refl refl refl refl refl refl room.entries room.waiting
     c.requires.sound.fit.octets
 
 pub returns-in-Err-clause-unmoved : goal.returns-in-Err-clause-unmoved
@@ -30,7 +30,7 @@ give_first-requires-clause-sound g c =
     let whole = whole_is g (goal.at.give_first-requires-clause-sound g c).After-unwrap-first in
     let octets = All-tail (λ (z : Settled). HasItsOctets z.body z.octets) c.unwrap-first.result c.pop_front.new.self.items
     (subst (All (λ (z : Settled). HasItsOctets z.body z.octets)) whole c.requires.sound.fit.octets) in
-    sound_same g.C.Clock.last_step c.args.network.now c.args.self.now _ c.requires.sound refl refl refl refl refl refl refl refl room.entries room.waiting
+    sound_same _ c.requires.sound refl refl refl refl refl refl refl refl room.entries room.waiting
     octets
 
 pub give_first-requires-clause-octets : goal.give_first-requires-clause-octets
@@ -40,7 +40,7 @@ give_first-requires-clause-octets g c =
     (subst (All (λ (z : Settled). HasItsOctets z.body z.octets)) whole c.requires.sound.fit.octets)
 
 -- the first of what is settled is the next record, also once it is taken out
-next_of : (g : given.Over) (c : After-unwrap-first g) (s : Scenario) (notes : List Note)
+next_of : (g : given.Over) (c : After-unwrap-first g) {s : Scenario} {notes : List Note}
     → Stands g.C.Clock.reading (keeps g.M.Machine.stands) s (world_of c.args.network.now c.args.self.now) notes
     → IsNext g.C.Clock.reading s notes
     (world_of c.args.network.now (record c.args.self.now {
@@ -50,7 +50,7 @@ next_of : (g : given.Over) (c : After-unwrap-first g) (s : Scenario) (notes : Li
       settled = c.pop_front.new.self;
     })) c.unwrap-first.result.body
     × IsOwn s.network c.args.network.now c.args.self.now.time (happenings s.network notes) (Some c.unwrap-first.result)
-next_of g c s notes old =
+next_of g c {s} {notes} old =
     let w = c.args.self.now in
     let hs = happenings s.network notes in
     let z = settled_at c.args.network.now w.time c.unwrap-first.result in
@@ -75,7 +75,7 @@ next_of g c s notes old =
 pub give_first-requires-clause-next : goal.give_first-requires-clause-next
 give_first-requires-clause-next g c =
     let run = c.requires.running in
-    let it = next_of g (goal.at.give_first-requires-clause-next g c).After-unwrap-first run.s run.notes run.is in
+    let it = next_of g (goal.at.give_first-requires-clause-next g c).After-unwrap-first run.is in
     record { s = run.s; notes = run.notes; next = it.0; own = it.1 }
 
 pub give_first-requires-clause-capacity : goal.give_first-requires-clause-capacity
@@ -129,8 +129,8 @@ returns-clause-stands g c = λ s notes other rest is.
     let step : (o : Stands K.reading stands s (world_of network w) notes)
     → NoSourceBefore s (happenings s.network notes) o.frontier (place_of z)
     → StandsAt K.reading stands s (world_of network new) (notes ++ note_of notes z ∷ []) (behind (place_of z)) = λ o none.
-    subst Steps (popped_world network w popped first room.entries room.waiting room.stored whole refl)
-    (by (next_of g (goal.at.returns-clause-stands g c).After-unwrap-first s notes o)) o none in
+    subst Steps (popped_world network w popped room.entries room.waiting room.stored whole refl)
+    (by (next_of g (goal.at.returns-clause-stands g c).After-unwrap-first o)) o none in
     let Gives = λ (f : Settled). (o : Stands K.reading stands s (world_of network w) notes)
     → NoSourceBefore s (happenings s.network notes) o.frontier (place_of (settled_at network w.time f))
     → (note ≡ note_of notes (settled_at network w.time f))
@@ -143,12 +143,11 @@ returns-clause-stands g c = λ s notes other rest is.
       subst (λ (n : Note). StandsAt K.reading stands s (world_of network new) (notes ++ n ∷ []) (behind (place_of z)))
           (sym same) (step o none),
     ) in
-    subst Gives (heads first other c.pop_front.new.self.items rest (sym whole ∙ is)) given
+    subst Gives (heads (sym whole ∙ is)) given
 
 pub returns-clause-others : goal.returns-clause-others
 returns-clause-others g c =
     let w = c.args.self.now in
-    let first = c.unwrap-first.result in
     let popped : State _ _ = record w {
       under_way = c.make_room.new.under_way;
       waiting = c.make_room.new.waiting;

@@ -39,7 +39,7 @@ returns-clause-sound g c =
     let sent : IsPutOn wire two.under_way.entries three.under_way.entries =
     subst (λ (q : State _ _). IsPutOn (wire_entry network q.ups.items q.downs.items first.body first.frame first.octets q.time number)
     two.under_way.entries three.under_way.entries) c.launch_frame.ensures.same c.launch_octets.ensures.sent in
-    let on = wire_is network w.ups.items w.downs.items c.requires.range number first.body first.frame first.octets w.time in
+    let on = wire_is w.ups.items w.downs.items c.requires.range number first.body first.frame first.octets w.time in
     let ports = from_ports giving out in
     let wires = from_wire network number two.under_way.entries three.under_way.entries wire on sent in
     let mid = c.launch_frame.ensures.sound fit.below c.requires.sound.under_way in
@@ -51,7 +51,7 @@ returns-clause-sound g c =
       stored = three.stored;
       given = number;
     }) = record {
-      sized = sized_so g.C.Clock.last_step network w _ c.requires.sound.sized refl refl refl refl refl refl refl;
+      sized = sized_so _ c.requires.sound.sized refl refl refl refl refl refl refl;
       under_way = wire_sound network number two.under_way.entries three.under_way.entries wire on sent (λ d there. elim (ports d there) [
         | inl old ↦ inl (fit.below d old)
         | inr port ↦ inr port.1
@@ -93,8 +93,8 @@ returns-clause-launched g c = λ s notes next own.
     subst (λ k. IsStoredBy first.body first.octets k w.stored.items three.stored.items) number
     (subst (λ (q : State _ _). IsStoredBy first.body first.octets (w.given + 1) q.stored.items three.stored.items) c.launch_frame.ensures.same
     c.launch_octets.ensures.stored) in
-    let step = launched_on _ K.reading s network (sym next.same) w two notes first given.0 three.under_way.entries
-    three.stored.items next own (may_in K.reading network w first next own c.requires.octets) out sent held in
+    let step = launched_on _ K.reading s (sym next.same) w two notes first given.0 three.under_way.entries
+    three.stored.items next own (may_in w first next own c.requires.octets) out sent held in
     let so : IsLaunched s notes first.body (world_of network w) (world_of network (record w {
       under_way = three.under_way;
       waiting = two.waiting;
@@ -130,7 +130,7 @@ returns-clause-others g c =
 pub launch_frame-requires : goal.launch_frame-requires
 launch_frame-requires g c =
     let w = c.args.self.now in
-    let may = may_give g.C.Clock.reading c.args.network.now w c.args.first c.requires.next c.requires.octets in
+    let may = may_give w c.args.first c.requires.next c.requires.octets in
     let fit = c.requires.sound.fit in
     let room = c.requires.room in
     record {
@@ -142,20 +142,19 @@ launch_frame-requires g c =
       capacity = c.requires.capacity;
       ups = fit.ups;
       downs = fit.downs;
-      low = low_with g.C.Clock.reading c.args.network.now w c.args.first c.requires.next c.requires.sound.sized.clocks;
+      low = low_with w c.args.first c.requires.next c.requires.sound.sized.clocks;
     }
 
 pub launch_octets-requires : goal.launch_octets-requires
 launch_octets-requires g c =
-    let w = c.args.self.now in
     let fit = c.requires.sound.fit in
     let same = c.launch_frame.ensures.same in
     let room = c.requires.room in
     let left = c.launch_frame.ensures.room in
     record {
-      sized = sized_so g.C.Clock.last_step c.args.network.now w c.launch_frame.new.self c.requires.sound.sized (ap (λ (q : State _ _). q.clocks) same)
-          (ap (λ (q : State _ _). length q.machines.items) same) (ap (λ (q : State _ _). q.broken) same) (ap (λ (q : State _ _). q.ups) same)
-          (ap (λ (q : State _ _). q.downs) same) (ap (λ (q : State _ _). q.time) same) (ap (λ (q : State _ _). q.shown) same);
+      sized = sized_so c.launch_frame.new.self c.requires.sound.sized (ap State.clocks same)
+          (ap (λ (q : State _ _). length q.machines.items) same) (ap State.broken same) (ap State.ups same)
+          (ap State.downs same) (ap State.time same) (ap State.shown same);
       range = c.requires.range;
       room = omega (arith, room, left);
       place = subst (λ (q : State _ _). IfSome (spot_of c.args.first.body) (HasPlace q.stored)) (sym same) c.requires.place;
@@ -165,7 +164,7 @@ launch_octets-requires g c =
 
 pub returns-clause-note : goal.returns-clause-note
 returns-clause-note g c =
-    let now = ap (λ (q : State _ _). q.time) c.launch_octets.ensures.same ∙ ap (λ (q : State _ _). q.time) c.launch_frame.ensures.same in
+    let now = ap State.time c.launch_octets.ensures.same ∙ ap State.time c.launch_frame.ensures.same in
     ap (λ (t : Units). let n : Note = record { number = c.args.self.now.given + 1; time = t; body = c.args.first.body } in n)
     (c.from_amount-note-inside.ensures.value ∙ ap units_of now)
 
@@ -184,4 +183,4 @@ returns-clause-same g c =
 
 pub returns-clause-arrived : goal.returns-clause-arrived
 returns-clause-arrived g c =
-    (may_give g.C.Clock.reading c.args.network.now c.args.self.now c.args.first c.requires.next c.requires.octets).arrived
+    (may_give c.args.self.now c.args.first c.requires.next c.requires.octets).arrived

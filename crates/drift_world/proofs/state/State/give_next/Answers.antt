@@ -5,15 +5,15 @@ use Rattle.drift_world.proofs.Words.{changed_device, keeps, length, note_of, set
 use Rattle.drift_world.proofs.state.State.give_next.Given as given
 use Rattle.drift_world.proofs.state.State.give_next.Goals as goal
 
-given_so : (g : given.Over) (c : In-Ok g) (s : Scenario) (notes : List Note)
+given_so : (g : given.Over) (c : In-Ok g) {s : Scenario} {notes : List Note}
     → Stands g.C.Clock.reading (keeps g.M.Machine.stands) s (world_of c.args.network.now c.args.self.now) notes
     → (c.give.new.note ≡ note_of notes (settled_at c.args.network.now c.args.self.now.time c.requires.first.first))
     × Stands g.C.Clock.reading (keeps g.M.Machine.stands) s (world_of c.args.network.now c.give.new.self)
     (notes ++ c.give.new.note ∷ [])
-given_so g c s notes old =
+given_so g c {s} {notes} old =
     let f = c.requires.first in
     let step = c.in-Ok.ensures.stands s notes f.first f.others f.whole old
-    (gives_first g.C.Clock.last_step g.C.Clock.reading g.M.Machine.stands c.args.network.now c.args.self.now f s notes c.requires.well.sound old) in
+    (gives_first f s c.requires.well.sound old) in
     (step.0, step.1.0)
 
 pub give-requires-clause-range : goal.give-requires-clause-range
@@ -30,7 +30,7 @@ rekey_after-requires-clause-may g c =
       running = record {
         s = run.s;
         notes = run.notes ++ c.give.new.note ∷ [];
-        is = (given_so g (goal.at.rekey_after-requires-clause-may g c).In-Ok run.s run.notes run.is).1;
+        is = (given_so g (goal.at.rekey_after-requires-clause-may g c).In-Ok run.is).1;
       };
     }
 
@@ -39,35 +39,34 @@ returns-in-Ok-clause-kept g c =
     let well = c.requires.well in
     let mid = c.give.new.self in
     let E = c.in-Ok.ensures in
-    let time = ap (λ (t : State _ _). t.time) E.same in
-    kept_timers g.C.Clock.last_step g.C.Clock.reading g.M.Machine.stands c.args.network.now c.args.self.now mid c.rekey_after.new.self (c.give.new.note
+    let time = ap State.time E.same in
+    kept_timers (c.give.new.note
     ∷ []) well E.sound
-    (record { clocks = ap (λ (t : State _ _). t.clocks) E.same; ended = ap (λ (t : State _ _). t.ended) E.same; later = omega (arith, time) })
-    (λ s notes old. (given_so g (goal.at.returns-in-Ok-clause-kept g c).In-Ok s notes old).1)
+    (record { clocks = ap State.clocks E.same; ended = ap State.ended E.same; later = omega (arith, time) })
+    (λ s notes old. (given_so g (goal.at.returns-in-Ok-clause-kept g c).In-Ok old).1)
     c.rekey_after.ensures.same
     (c.rekey_after.ensures.timed c.args.self.now well.timed
     (subst (λ b. ChangesOnly (changed_device b) c.args.self.now mid) (sym c.body.ensures) E.others)
-    (ap (λ (t : State _ _). t.machines) E.same) (ap (λ (t : State _ _). t.timers) E.same))
+    (ap State.machines E.same) (ap State.timers E.same))
 
 pub returns-in-Ok-clause-says : goal.returns-in-Ok-clause-says
 returns-in-Ok-clause-says g c =
     let run = c.requires.well.running in
     let E = c.in-Ok.ensures in
     let same = c.rekey_after.ensures.same in
-    let time = ap (λ (t : State _ _). t.time) same ∙ ap (λ (t : State _ _). t.time) E.same in (
-      ap (λ (n : Note). n.time) (given_so g (goal.at.returns-in-Ok-clause-says g c).In-Ok run.s run.notes run.is).0 ∙ ap units_of (sym time),
+    let time = ap State.time same ∙ ap State.time E.same in (
+      ap Note.time (given_so g (goal.at.returns-in-Ok-clause-says g c).In-Ok run.is).0 ∙ ap units_of (sym time),
       time,
-      ap (λ (t : State _ _). t.given) same ∙ E.given,
+      ap State.given same ∙ E.given,
     )
 
 pub returns-in-Err-clause-kept : goal.returns-in-Err-clause-kept
 returns-in-Err-clause-kept g c =
     let E = c.in-Err.ensures in
-    step_kept g.C.Clock.last_step g.C.Clock.reading g.M.Machine.stands c.args.network.now c.args.self.now c.give.new.self
-    (plain_step g.C.Clock.last_step g.C.Clock.reading g.M.Machine.stands c.args.network.now c.args.self.now c.give.new.self c.requires.well E.sound E.unmoved
-    (ap (λ (t : State _ _). t.timers) E.same)
-    (ap (λ (v : World _ _). v.given) E.err)
+    step_kept (plain_step c.requires.well E.sound E.unmoved
+    (ap State.timers E.same)
+    (ap World.given E.err)
     (λ s notes old. subst (λ v. Stands g.C.Clock.reading (keeps g.M.Machine.stands) s v notes) (sym E.err) old))
 
 pub returns-in-Err-clause-err : goal.returns-in-Err-clause-err
-returns-in-Err-clause-err g c = ap (λ (t : State _ _). t.time) c.in-Err.ensures.same
+returns-in-Err-clause-err g c = ap State.time c.in-Err.ensures.same

@@ -6,9 +6,9 @@ use Rattle.drift_world.{proofs.{Halves.{set_act, waits_as}, OwnPlaces.{changes_b
 use Rattle.drift_world.proofs.Turning.{kept_timers, rekeyed_step, runs_on, step_kept}
 use Rattle.drift_world.specs.{Stepping.TurnsPast, declared.source.Source.TheVariants.Arrival}
 use Rattle.drift_world.proofs.Turned.{all_put_in, first_given, next_first, turns_of}
-use Rattle.drift_world.proofs.Words.{◌++◌, ◌<◌, ◌∙◌, ◌∷◌, ◌≡◌, ChangesOnly, DeviceId, IsSound, List, Network, None, Note}
-use Rattle.drift_world.proofs.Words.{Scenario, Settled, Some, Stands, [], ap, arith, changed_device, keeps, length, numbers_of, rank}
-use Rattle.drift_world.proofs.Words.{refl, subst, sym, world_of}
+use Rattle.drift_world.proofs.Words.{◌<◌, ◌∙◌, ◌∷◌, ◌≡◌, ChangesOnly, DeviceId, IsSound, Network, None}
+use Rattle.drift_world.proofs.Words.{Settled, Some, [], ap, arith, changed_device, length, numbers_of, rank}
+use Rattle.drift_world.proofs.Words.{StandsOn, StandsWith, refl, subst, sym, world_of}
 use Rattle.world_law.specs.world.World.{is_at_source}
 use Rattle.drift_world.proofs.state.State.hear_turn.Given as given
 use Rattle.drift_world.proofs.state.State.hear_turn.Goals as goal
@@ -18,7 +18,7 @@ use Rattle.drift_world.proofs.state.State.hear_turn.Goals as goal
 pub give_first-requires-clause-number : goal.give_first-requires-clause-number
 give_first-requires-clause-number g c =
     let numbers = c.requires.may.room.numbers in
-    let given = ap (λ (t : State _ _). t.given) c.hear_wire-came.ensures.same in
+    let given = ap State.given c.hear_wire-came.ensures.same in
     omega (arith, numbers, given)
 
 pub give_first-requires-clause-room : goal.give_first-requires-clause-room
@@ -36,7 +36,7 @@ give_first-requires-clause-capacity g c =
     waits_at c.record-taken.result.body c.hear_wire-came.new.self.waiting
     (subst (λ (z : Settled). rank z.body ≡ 2 → changed_device z.body ≡ c.args.place.device)
     (sym c.record-taken.ensures) hear.device)
-    (λ two. subst (λ (w : Waiting). 0 < room_of w c.args.place.device) (sym (ap (λ (t : State _ _). t.waiting) hear.same)) c.requires.room)
+    (λ two. subst (λ (w : Waiting). 0 < room_of w c.args.place.device) (sym (ap State.waiting hear.same)) c.requires.room)
 
 pub give_first-requires-clause-place : goal.give_first-requires-clause-place
 give_first-requires-clause-place g c =
@@ -55,13 +55,13 @@ give_first-requires-clause-next g c =
     let one = c.record-taken.result in
     let two : rank one.body ≡ 2 = ap (λ (z : Settled). rank z.body) c.record-taken.ensures
     ∙ c.is_taken.ensures.yes c.if-is_taken.true in
-    let turn = turns_of K.last_step K.reading S network c.args.self.now mid (Arrival c.args.place) (Some one) None c.requires.may tt
+    let turn = turns_of mid (Some one) None c.requires.may tt
     (subst (λ (z : Settled). TurnsPast K.reading S network c.args.self.now mid (numbers_of c.args.place) (Some z) None)
-    (sym c.record-taken.ensures) c.hear_wire-came.ensures.turns) run.s run.notes run.is in
+    (sym c.record-taken.ensures) c.hear_wire-came.ensures.turns) run.is in
     record {
       s = run.s;
       notes = run.notes;
-      next = next_first K.reading S network run.s run.notes (world_of network mid) _ mid.settled.items refl one None turn
+      next = next_first mid.settled.items refl turn
           mid.settled.items refl (source_at (Arrival c.args.place) one.body two);
       own = turn.first_is;
     }
@@ -69,11 +69,9 @@ give_first-requires-clause-next g c =
 arriving : (g : given.Over) (c : After-give_first g) → rank c.record-taken.result.body ≡ 2
 arriving g c = ap (λ (z : Settled). rank z.body) c.record-taken.ensures ∙ c.is_taken.ensures.yes c.if-is_taken.true
 
-given_so : (g : given.Over) (c : After-give_first g) (s : Scenario) (notes : List Note)
-    → Stands g.C.Clock.reading (keeps g.M.Machine.stands) s (world_of c.args.network.now c.args.self.now) notes
-    → Stands g.C.Clock.reading (keeps g.M.Machine.stands) s (world_of c.args.network.now c.give_first.new.self)
-    (notes
-    ++ c.give_first.new.note ∷ [])
+given_so : (g : given.Over) (c : After-give_first g)
+    → StandsWith g.C.Clock.reading g.M.Machine.stands c.args.network.now c.args.self.now c.give_first.new.self
+    (c.give_first.new.note ∷ [])
 given_so g c s notes is =
     let K = g.C.Clock in
     let S = g.M.Machine.stands in
@@ -81,12 +79,11 @@ given_so g c s notes is =
     let mid = c.hear_wire-came.new.self in
     let one = c.record-taken.result in
     let give = c.give_first.ensures in
-    (first_given K.reading S network s notes (world_of network mid) _ mid.settled.items refl one None
-    (turns_of K.last_step K.reading S network c.args.self.now mid (Arrival c.args.place) (Some one) None c.requires.may tt
+    (first_given mid.settled.items refl
+    (turns_of mid (Some one) None c.requires.may tt
     (subst (λ (z : Settled). TurnsPast K.reading S network c.args.self.now mid (numbers_of c.args.place) (Some z) None)
-    (sym c.record-taken.ensures) c.hear_wire-came.ensures.turns) s notes is)
-    mid.settled.items refl (source_at (Arrival c.args.place) one.body (arriving g c)) (world_of network c.give_first.new.self)
-    c.give_first.new.note give.note (ap (λ (t : State _ _). world_of network t) give.same) (give.launched s notes)).0
+    (sym c.record-taken.ensures) c.hear_wire-came.ensures.turns) is)
+    mid.settled.items refl (source_at (Arrival c.args.place) one.body (arriving g c)) (world_of network c.give_first.new.self) give.note (ap (λ (t : State _ _). world_of network t) give.same) (give.launched s notes)).0
 
 pub rekey_from-requires : goal.rekey_from-requires
 rekey_from-requires g c =
@@ -94,11 +91,10 @@ rekey_from-requires g c =
     let run = may.well.running in
     let hear = c.hear_wire-came.ensures in
     let give = c.give_first.ensures in
-    let timers = ap (λ (t : State _ _). t.timers) give.same ∙ ap (λ (t : State _ _). t.timers) hear.same in
+    let timers = ap State.timers give.same ∙ ap State.timers hear.same in
     let device : DeviceId = record { 0 = c.args.place.device } in
     let gave = given_so g (goal.at.rekey_from-requires g c).After-give_first run.s run.notes run.is in
-    let has = gave.devices device (subst (λ (n : Network). device.0 < length n.device) gave.same
-        may.foremost.there.device) in
+    let has = gave.devices device (subst (λ (n : Network). device.0 < length n.device) gave.same may.foremost.there.device) in
     record {
       may = record {
         sized = give.sound.sized;
@@ -107,15 +103,13 @@ rekey_from-requires g c =
         slots = ap length timers ∙ may.well.timed.sized;
         running = record { s = run.s; notes = _; is = gave };
       };
-      before = told_timed g.C.Clock.reading g.M.Machine.stands c.args.network.now g.C.Clock.last_step c.args.self.now
-          c.give_first.new.self
+      before = told_timed g.C.Clock.reading g.M.Machine.stands c.args.network.now g.C.Clock.last_step c.args.self.now c.give_first.new.self
           device c.hear_wire-came.result.before may.well
           may.foremost.there.device
-          (λ was is at now. hear.before was is at (sym
-              (ap (λ (t : State _ _). slice_get t.machines.items device.0) give.same) ∙ now))
+          (λ was is at now. hear.before was is at (sym (ap (λ (t : State _ _). slice_get t.machines.items device.0) give.same) ∙ now))
           has.0 has.1
-          (ap (λ (t : State _ _). t.clocks) give.same ∙ ap (λ (t : State _ _). t.clocks) hear.same)
-          (ap (λ (t : State _ _). t.time) give.same ∙ ap (λ (t : State _ _). t.time) hear.same)
+          (ap State.clocks give.same ∙ ap State.clocks hear.same)
+          (ap State.time give.same ∙ ap State.time hear.same)
           timers;
     }
 
@@ -133,14 +127,13 @@ returns-then-is_taken-clause-kept g c =
     ∙ hear.device (c.is_taken.ensures.yes c.if-is_taken.true))
     give.others) in
     let time = changes.time in
-    kept_timers g.C.Clock.last_step g.C.Clock.reading g.M.Machine.stands c.args.network.now c.args.self.now gave
-    c.rekey_from.new.self _ may.well
+    kept_timers _ may.well
     give.sound
     (record { clocks = changes.clocks; ended = changes.ended; later = omega (arith, time) })
     (given_so g (goal.at.returns-then-is_taken-clause-kept g c).After-give_first) c.rekey_from.ensures.sets.same
-    (rekeyed g.C.Clock.reading g.M.Machine.stands c.args.network.now device c.args.self.now gave c.rekey_from.new.self may.well.timed may.foremost.there.device
+    (rekeyed may.well.timed may.foremost.there.device
     changes
-    (ap (λ (t : State _ _). t.timers) give.same ∙ ap (λ (t : State _ _). t.timers) hear.same) c.rekey_from.ensures)
+    (ap State.timers give.same ∙ ap State.timers hear.same) c.rekey_from.ensures)
 
 -- ---- it is put in among others
 
@@ -148,17 +141,15 @@ sound_after : (g : given.Over) (c : After-put_in g)
     → IsSound g.C.Clock.last_step c.args.network.now
     (record c.hear_wire-came.new.self { settled = c.put_in.new.settled })
 sound_after g c =
-    let mid = c.hear_wire-came.new.self in
     let put = c.put_in.ensures.is in
     let hear = c.hear_wire-came.ensures in
-    sound_same g.C.Clock.last_step c.args.network.now mid _ hear.sound refl refl refl refl refl refl refl refl refl refl
-    (all_put have_octets c.record-other.result mid.settled.items c.put_in.new.settled.items put.0 put.1
+    sound_same _ hear.sound refl refl refl refl refl refl refl refl refl refl
+    (all_put have_octets put.1
     (subst have_octets (sym c.record-other.ensures) hear.octets) hear.sound.fit.octets)
 
-still : (g : given.Over) (c : After-put_in g) (s : Scenario) (notes : List Note)
-    → Stands g.C.Clock.reading (keeps g.M.Machine.stands) s (world_of c.args.network.now c.args.self.now) notes
-    → Stands g.C.Clock.reading (keeps g.M.Machine.stands) s
-    (world_of c.args.network.now (record c.hear_wire-came.new.self { settled = c.put_in.new.settled })) notes
+still : (g : given.Over) (c : After-put_in g)
+    → StandsOn g.C.Clock.reading g.M.Machine.stands c.args.network.now c.args.self.now
+    (record c.hear_wire-came.new.self { settled = c.put_in.new.settled })
 still g c s notes is =
     let K = g.C.Clock in
     let S = g.M.Machine.stands in
@@ -167,24 +158,22 @@ still g c s notes is =
     let one = c.record-other.result in
     let late = ap (λ (z : Settled). is_at_source z.body) c.record-other.ensures
     ∙ c.hear_wire-came.ensures.late (c.is_taken.ensures.no c.if-is_taken.false) in
-    (all_put_in K.reading S network s notes (world_of network mid) _ mid.settled.items refl (Some one) None
+    (all_put_in mid.settled.items refl
     c.put_in.new.settled.items c.put_in.new.settled.items
-    (turns_of K.last_step K.reading S network c.args.self.now mid (Arrival c.args.place) (Some one) None c.requires.may tt
+    (turns_of mid (Some one) None c.requires.may tt
     (subst (λ (z : Settled). TurnsPast K.reading S network c.args.self.now mid (numbers_of c.args.place) (Some z) None)
-    (sym c.record-other.ensures) c.hear_wire-came.ensures.turns) s notes is) c.put_in.ensures.is refl late).0
+    (sym c.record-other.ensures) c.hear_wire-came.ensures.turns) is) c.put_in.ensures.is refl late).0
 
 pub rekey_act_from-requires : goal.rekey_act_from-requires
 rekey_act_from-requires g c =
     let may = c.requires.may in
     let hear = c.hear_wire-came.ensures in
     let after : State _ _ = record c.hear_wire-came.new.self { settled = c.put_in.new.settled } in
-    let timers = ap (λ (t : State _ _). t.timers) hear.same in
+    let timers = ap State.timers hear.same in
     let device : DeviceId = record { 0 = c.args.place.device } in
-    let runs = runs_on g.C.Clock.last_step g.C.Clock.reading g.M.Machine.stands c.args.network.now c.args.self.now after
-        may.well
+    let runs = runs_on after may.well
     (still g (goal.at.rekey_act_from-requires g c).After-put_in) in
-    let has = runs.is.devices device (subst (λ (n : Network). device.0 < length n.device) runs.is.same
-        may.foremost.there.device) in
+    let has = runs.is.devices device (subst (λ (n : Network). device.0 < length n.device) runs.is.same may.foremost.there.device) in
     record {
       may = record {
         sized = (sound_after g (goal.at.rekey_act_from-requires g c).After-put_in).sized;
@@ -193,11 +182,9 @@ rekey_act_from-requires g c =
         slots = ap length timers ∙ may.well.timed.sized;
         running = runs;
       };
-      before = told_timed g.C.Clock.reading g.M.Machine.stands c.args.network.now g.C.Clock.last_step c.args.self.now
-          after device
+      before = told_timed g.C.Clock.reading g.M.Machine.stands c.args.network.now g.C.Clock.last_step c.args.self.now after device
           c.hear_wire-came.result.before may.well may.foremost.there.device
-          hear.before has.0 has.1 (ap (λ (t : State _ _). t.clocks) hear.same)
-              (ap (λ (t : State _ _). t.time) hear.same) timers;
+          hear.before has.0 has.1 (ap State.clocks hear.same) (ap State.time hear.same) timers;
     }
 
 pub returns-clause-kept : goal.returns-clause-kept
@@ -210,12 +197,11 @@ returns-clause-kept g c =
     let after : State _ _ = record c.hear_wire-came.new.self { settled = c.put_in.new.settled } in
     let new = c.rekey_act_from.new.self in
     let keyed = c.rekey_act_from.ensures in
-    let timers = ap (λ (t : State _ _). t.timers) hear.same in
-    step_kept g.C.Clock.last_step g.C.Clock.reading g.M.Machine.stands c.args.network.now c.args.self.now new
-    (rekeyed_step g.C.Clock.last_step g.C.Clock.reading g.M.Machine.stands c.args.network.now device c.args.self.now after new may.well
+    let timers = ap State.timers hear.same in
+    step_kept (rekeyed_step {device = device} {new = new} may.well
     (sound_after g (goal.at.returns-clause-kept g c).After-put_in) there
     (record { clocks = o.clocks; time = o.time; ended = o.ended; machines = o.machines; waiting = o.waiting }) timers
-    (ap (λ (t : State _ _). t.given) hear.same) (still g (goal.at.returns-clause-kept g c).After-put_in)
-    (set_act g.C.Clock.reading g.M.Machine.stands c.args.network.now c.args.self.now after new device there (may.well.timed.each device there) o.clocks o.time
-    (λ w at. waits_as c.args.self.now after (ap (λ (t : State _ _). t.waiting) hear.same) w) timers
+    (ap State.given hear.same) (still g (goal.at.returns-clause-kept g c).After-put_in)
+    (set_act there (may.well.timed.each device there) o.clocks o.time
+    (λ w at. waits_as c.args.self.now after (ap State.waiting hear.same) w) timers
     keyed.timed keyed.sets))

@@ -6,7 +6,7 @@ use Rattle.world_state.specs.Hearing.{TellsBefore}
 use Rattle.drift_world.proofs.Words.{Kept, List, keeps, length, length-set, length_permutation, moment_of, rank, refl, settled_at, slice_get_read}
 use Rattle.{std.proofs.Common.{set, slice_get}, world_law.proofs.giving.GivenParts.some_same}
 use Rattle.world_law.specs.world.World.{is_at_source}
-use Rattle.drift_world.{proofs.Turning.is_at, specs.declared.source.Source.TheVariants.Arrival}
+use Rattle.drift_world.proofs.Turning.{is_at}
 use Rattle.drift_world.proofs.state.State.hear_wire.Given as given
 use Rattle.drift_world.proofs.state.State.hear_wire.Goals as goal
 
@@ -19,17 +19,17 @@ held g c =
     slice_get_read c.args.self.now.machines.items c.args.self.now.machines.len c.args.place.device c.index_mut-machine.result.now c.args.self.now.machines.ok.0
     (omega (arith, machines, within, kept)) c.index_mut-machine.ensures.value
 
-now_is : (g : given.Over) (c : After-read g) (s : Scenario) (notes : List Note)
+now_is : (g : given.Over) (c : After-read g) {s : Scenario} {notes : List Note}
     → Stands g.C.Clock.reading (keeps g.M.Machine.stands) s (world_of c.args.network.now c.args.self.now) notes
     → (let m : Moment = record { time = c.from_amount-time.result; reading = c.read.result } in m)
     ≡ moment_of s (record { 0 = c.args.place.device }) c.args.self.now.time
-now_is g c s notes old =
+now_is g c {s} old =
     let device : DeviceId = record { 0 = c.args.place.device } in
     let within = c.requires.may.foremost.there.device in
     let clocks = c.requires.may.well.sound.sized.clocks in
     let held = c.args.self.now.clocks.ok.0 in
     let own = old.clocks device (subst (λ (n : Network). device.0 < length n.device) old.same within) in
-    moment_is g.C.Clock.reading s c.args.self.now.time device own.0 c.index.result.now c.from_amount-time.result c.read.result
+    moment_is g.C.Clock.reading s c.args.self.now.time device {own = own.0} {clock = c.index.result.now} c.read.result
     (some_same _ _ _ own.1
     (slice_get_read c.args.self.now.clocks.items c.args.self.now.clocks.len device.0 c.index.result.now c.args.self.now.clocks.ok.0
     (omega (arith, clocks, within, held)) c.index.ensures))
@@ -37,16 +37,15 @@ now_is g c s notes old =
 
 pub hear_signal-hearing-requires-clause-may : goal.hear_signal-hearing-requires-clause-may
 hear_signal-hearing-requires-clause-may g c =
-    let at = is_at g.C.Clock.last_step g.C.Clock.reading g.M.Machine.stands c.args.network.now c.args.self.now (Arrival c.args.place) c.requires.may tt in
+    let at = is_at c.requires.may tt in
     may_come g.C.Clock.reading (keeps g.M.Machine.stands) at.s c.args.network.now c.args.self.now at.notes at.is c.args.place c.take_wire-signal.result
-    c.take_wire-signal.new.under_way.entries c.take_wire-signal.ensures.taken c.requires.may.foremost.there.rank_is c.requires.may.foremost.there.now c.index_mut-machine.result.now
-    (record { time = c.from_amount-time.result; reading = c.read.result })
+    c.take_wire-signal.new.under_way.entries c.take_wire-signal.ensures.taken c.requires.may.foremost.there.rank_is c.requires.may.foremost.there.now
     (held g (goal.at.hear_signal-hearing-requires-clause-may g c).After-index_mut-machine)
-    (now_is g (goal.at.hear_signal-hearing-requires-clause-may g c).After-read at.s at.notes at.is)
+    (now_is g (goal.at.hear_signal-hearing-requires-clause-may g c).After-read at.is)
 
 pub hear_signal-hearing-requires-clause-as_sent : goal.hear_signal-hearing-requires-clause-as_sent
 hear_signal-hearing-requires-clause-as_sent g c =
-    let at = is_at g.C.Clock.last_step g.C.Clock.reading g.M.Machine.stands c.args.network.now c.args.self.now (Arrival c.args.place) c.requires.may tt in
+    let at = is_at c.requires.may tt in
     as_sent g.C.Clock.reading (keeps g.M.Machine.stands) at.s c.args.network.now c.args.self.now at.notes at.is c.args.place c.take_wire-signal.result
     c.take_wire-signal.new.under_way.entries c.take_wire-signal.ensures.taken c.requires.may.foremost.there.rank_is c.requires.may.foremost.there.now
 
@@ -57,7 +56,7 @@ returns-clause-sound g c =
     let fit = c.requires.may.well.sound.fit in
     let took = c.take_wire-signal in
     record {
-      sized = sized_so g.C.Clock.last_step c.args.network.now c.args.self.now _ z refl
+      sized = sized_so _ z refl
           (length-set w.machines.items c.args.place.device c.hear_signal-hearing.new.kept) refl refl refl refl refl;
       under_way = sound_without c.args.network.now w.under_way.entries took.new.under_way.entries _ c.requires.may.well.sound.under_way took.ensures.taken;
       fit = record {
@@ -73,14 +72,12 @@ returns-clause-sound g c =
 pub returns-clause-octets : goal.returns-clause-octets
 returns-clause-octets g c =
     let took = c.take_wire-signal in
-    let at = is_at g.C.Clock.last_step g.C.Clock.reading g.M.Machine.stands c.args.network.now c.args.self.now (Arrival c.args.place) c.requires.may tt in
+    let at = is_at c.requires.may tt in
     let heard = c.hear_signal-hearing in
     subst have_octets (sym c.arrived-heard.ensures)
     (heard_octets g.C.Clock.reading (keeps g.M.Machine.stands) at.s c.args.network.now c.args.self.now at.notes at.is c.args.place took.result
-    took.new.under_way.entries took.ensures.taken c.requires.may.foremost.there.rank_is c.requires.may.foremost.there.now c.index_mut-machine.result.now
-    (record { time = c.from_amount-time.result; reading = c.read.result }) (held g (goal.at.returns-clause-octets g c).After-index_mut-machine)
-    (now_is g (goal.at.returns-clause-octets g c).After-read at.s at.notes at.is) heard.new.kept heard.ensures.hears.0
-        heard.result.arrival heard.ensures.hears.1
+    took.new.under_way.entries took.ensures.taken c.requires.may.foremost.there.rank_is c.requires.may.foremost.there.now (held g (goal.at.returns-clause-octets g c).After-index_mut-machine)
+    (now_is g (goal.at.returns-clause-octets g c).After-read at.is) heard.new.kept heard.result.arrival heard.ensures.hears.1
     heard.ensures.hears.2)
 
 pub returns-clause-device : goal.returns-clause-device
@@ -105,17 +102,16 @@ returns-clause-turns g c = λ s notes old first.
     let heard = c.hear_signal-hearing in
     let it = heard_turns g.C.Clock.reading (keeps g.M.Machine.stands) s network w notes old c.args.place took.result
     took.new.under_way.entries
-    took.ensures.taken c.requires.may.foremost.there.rank_is c.requires.may.foremost.there.now c.index_mut-machine.result.now
-    (record { time = c.from_amount-time.result; reading = c.read.result })
+    took.ensures.taken c.requires.may.foremost.there.rank_is c.requires.may.foremost.there.now
     (held g (goal.at.returns-clause-turns g c).After-index_mut-machine)
-    (now_is g (goal.at.returns-clause-turns g c).After-read s notes old)
-    heard.new.kept heard.ensures.hears.0 heard.result.arrival (set w.machines.items device.0 heard.new.kept)
+    (now_is g (goal.at.returns-clause-turns g c).After-read old)
+    heard.new.kept heard.result.arrival (set w.machines.items device.0 heard.new.kept)
     c.requires.may.well.sound.under_way first heard.ensures.hears.1 heard.ensures.hears.2
     (record {
       there = set_same w.machines.items device.0 heard.new.kept (omega (arith, machines, within, kept));
       same = λ i apart. set_aside w.machines.items device.0 i heard.new.kept apart;
     }) in
-    one_turn g.C.Clock.reading g.M.Machine.stands network c.arrived-heard.result _ (settled_in_order old)
+    one_turn g.M.Machine.stands network c.arrived-heard.result (settled_in_order old)
     (ap (settled_at network w.time) c.arrived-heard.ensures ∙ it.0) it.1
 
 pub returns-clause-others : goal.returns-clause-others
@@ -123,8 +119,7 @@ returns-clause-others g c = record {
   clocks = refl;
   time = refl;
   ended = refl;
-  machines = λ i apart. set_aside c.args.self.now.machines.items c.args.place.device i c.hear_signal-hearing.new.kept
-      apart;
+  machines = λ i apart. set_aside c.args.self.now.machines.items c.args.place.device i c.hear_signal-hearing.new.kept apart;
   waiting = λ w apart. (λ there. there, λ there. there);
 }
 
@@ -139,7 +134,6 @@ returns-clause-before g c = λ was is at now.
     let kept = w.machines.ok.0 in
     let heard = c.hear_signal-hearing in
     subst (λ (m : Kept _). TellsBefore (keeps g.M.Machine.stands) was m heard.result.before)
-    (some_same _ _ _ (set_same w.machines.items c.args.place.device heard.new.kept
-        (omega (arith, machines, within, kept))) now)
+    (some_same _ _ _ (set_same w.machines.items c.args.place.device heard.new.kept (omega (arith, machines, within, kept))) now)
     (subst (λ (m : Kept _). TellsBefore (keeps g.M.Machine.stands) m heard.new.kept heard.result.before)
     (some_same _ _ _ (held g (goal.at.returns-clause-before g c).After-index_mut-machine) at) heard.ensures.before)

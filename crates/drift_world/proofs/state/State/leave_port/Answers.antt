@@ -14,7 +14,7 @@ returns-clause-sound g c =
     let z = c.requires.may.well.sound.sized in
     let fit = c.requires.may.well.sound.fit in
     record {
-      sized = sized_so g.C.Clock.last_step c.args.network.now c.args.self.now _ z refl refl refl refl refl refl refl;
+      sized = sized_so _ z refl refl refl refl refl refl refl;
       under_way = sound_without c.args.network.now w.under_way.entries c.take_port-frame.new.under_way.entries _ c.requires.may.well.sound.under_way
           c.take_port-frame.ensures.taken;
       fit = record {
@@ -44,7 +44,7 @@ returns-clause-turns g c = λ s notes old first.
     (λ (r : ℕ). place.at ∷ r ∷ place.device ∷ place.link ∷ place.cause ∷ []) c.requires.may.foremost.there.rank_is in
     let there = is_given at_port w.under_way.entries taken e (in_permuted _ _ taken (IsPermutation-sym _ _ took.ensures.taken) (inl refl)) refl in
     let given = frame_of_port (old.ports.real e there).0 in
-    let of = shows_of network w old in
+    let of = shows_of w old in
     let under_way = c.requires.may.well.sound.under_way in
     let mid : World _ _ = record world { ports = filter_map at_port took.new.under_way.entries; early = false } in
     let after : World _ _ = record mid { wires = filter_map (on_wire network) took.new.under_way.entries } in
@@ -54,7 +54,7 @@ returns-clause-turns g c = λ s notes old first.
     let placed = subst (λ p. TurnsBy K.reading stands s notes (departure_bodies s e w.time) mid p) (sym numbers) turn in
     subst (λ o. TurnsIn K.reading g.M.Machine.stands network s notes after (numbers_of place) o None)
     (sym (c.departure.ensures.is s (record { same = of.same; clocks = of.clocks; broken = of.broken; ways = of.ways })))
-    (some_turn K.reading g.M.Machine.stands network (is_broken s e.device w.time) _ (departure_body e (departure_now s e w.time))
+    (some_turn g.M.Machine.stands network (is_broken s e.device w.time) _ (departure_body e (departure_now s e w.time))
     (settled_in_order old) (departed_is s.network network w.time hs e (departure_now s e w.time) given)
     (turns_alike K.reading stands s notes mid (filter_map (on_wire network) took.new.under_way.entries) mid.ports
     (wires_stay network w.under_way.entries took.new.under_way.entries taken under_way took.ensures.taken refl)

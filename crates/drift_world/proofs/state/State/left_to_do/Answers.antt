@@ -5,9 +5,9 @@ use Rattle.{drift_world.proofs.state.State.left_to_do.Given.Over, world_law.proo
 use Rattle.drift_world.proofs.state.State.left_to_do.Goals as goal
 
 -- the machine of the device
-held : (g : Over) (c : After-is_reached g) (machine : Kept _) → slice_get c.args.self.now.machines.items c.args.device.0 ≡ Some machine
+held : (g : Over) (c : After-is_reached g) {machine : Kept _} → slice_get c.args.self.now.machines.items c.args.device.0 ≡ Some machine
     → c.index-machine.result.now ≡ machine
-held g c machine there =
+held g c there =
     let w = c.args.self.now in
     let lt = c.requires.there in
     let many = c.requires.sized.machines in
@@ -17,19 +17,19 @@ held g c machine there =
     c.index-machine.ensures) there
 
 -- the reading
-read : (g : Over) (c : After-is_reached g) (s : Scenario) → IsOf g.C.Clock.reading s c.args.network.now c.args.self.now
+read : (g : Over) (c : After-is_reached g) {s : Scenario} → IsOf g.C.Clock.reading s c.args.network.now c.args.self.now
     → c.args.moment.reading.0 ≡ pos (s.reading c.args.device c.args.self.now.time)
-read g c s of = ap (λ (m : Moment). m.reading.0) (c.requires.moment s of)
+read g c {s} of = ap (λ (m : Moment). m.reading.0) (c.requires.moment s of)
 
 pub returns-then-is_reached : goal.returns-then-is_reached
 returns-then-is_reached g c = λ s machine node of there is.
     let here = (goal.at.returns-then-is_reached g c).After-is_reached in
-    let kept = subst (λ m. keeps g.M.Machine.stands m s.network c.args.device node) (sym (held g here machine there)) is in
+    let kept = subst (λ m. keeps g.M.Machine.stands m s.network c.args.device node) (sym (held g here there)) is in
     let due = some_due s.network c.args.device node c.due-due.result c.args.moment.reading.0 (c.due-due.ensures s.network c.args.device node kept)
     (c.is_reached.ensures.reached c.if-is_reached.true) in
     record {
       kind = c.first_kind.result;
-      is = subst (λ z. IsFirstKind s.network c.args.device node z c.first_kind.result) (read g here s of)
+      is = subst (λ z. IsFirstKind s.network c.args.device node z c.first_kind.result) (read g here of)
           (c.first_kind.ensures s.network c.args.device node kept due);
       of_part = sym c.of.ensures;
     }
@@ -38,10 +38,10 @@ pub returns-else-is_reached : goal.returns-else-is_reached
 returns-else-is_reached g c =
     let here = (goal.at.returns-else-is_reached g c).After-is_reached in (
       λ machine network d node at is.
-          c.due-due.ensures network d node (subst (λ m. keeps g.M.Machine.stands m network d node) (sym (held g here machine at)) is),
+          c.due-due.ensures network d node (subst (λ m. keeps g.M.Machine.stands m network d node) (sym (held g here at)) is),
       λ s machine of there node task is pending.
-          let kept = subst (λ m. keeps g.M.Machine.stands m s.network c.args.device node) (sym (held g here machine there)) is in
-          subst (λ z. z <ℤ reading_for s.network node task) (read g here s of)
+          let kept = subst (λ m. keeps g.M.Machine.stands m s.network c.args.device node) (sym (held g here there)) is in
+          subst (λ z. z <ℤ reading_for s.network node task) (read g here of)
           (none_due s.network c.args.device node c.due-due.result c.args.moment.reading.0 (c.due-due.ensures s.network c.args.device node kept)
           (c.is_reached.ensures.later c.if-is_reached.false) task pending),
     )

@@ -28,15 +28,15 @@ turn-requires g c =
     }
 
 -- with all turns before it
-since : (g : given.Over) (c : After-turn g) (more : List Note)
+since : (g : given.Over) (c : After-turn g) {more : List Note}
     → IsKept g.C.Clock.last_step g.C.Clock.reading g.M.Machine.stands c.args.network.now c.turns.self c.turn.new.self more
     → IsKept g.C.Clock.last_step g.C.Clock.reading g.M.Machine.stands c.args.network.now c.args.self.now c.turn.new.self more
-since g c more kept = kept_then g.C.Clock.last_step g.C.Clock.reading g.M.Machine.stands c.args.network.now c.args.self.now c.turns.self c.turn.new.self more
+since g c {more} kept = kept_then
     c.turns.invariant.after c.turns.invariant.still kept
 
 pub returns-in-Ok-Gives-clause-kept : goal.returns-in-Ok-Gives-clause-kept
 returns-in-Ok-Gives-clause-kept g c =
-    since g (goal.at.returns-in-Ok-Gives-clause-kept g c).After-turn _
+    since g (goal.at.returns-in-Ok-Gives-clause-kept g c).After-turn
     (subst (λ (t : Turn). IsKept g.C.Clock.last_step g.C.Clock.reading g.M.Machine.stands c.args.network.now c.turns.self c.turn.new.self
     (given_in {E = OutOfMemory} (Ok t) c.turn.new.note)) c.in-Ok-Gives.field-0-is c.in-Ok-Gives.ensures.kept)
 
@@ -48,7 +48,7 @@ returns-in-Ok-Gives-clause-says g c =
 
 pub returns-in-Ok-Ends-clause-kept : goal.returns-in-Ok-Ends-clause-kept
 returns-in-Ok-Ends-clause-kept g c =
-    since g (goal.at.returns-in-Ok-Ends-clause-kept g c).After-turn _
+    since g (goal.at.returns-in-Ok-Ends-clause-kept g c).After-turn
     (subst (λ (t : Turn). IsKept g.C.Clock.last_step g.C.Clock.reading g.M.Machine.stands c.args.network.now c.turns.self c.turn.new.self
     (given_in {E = OutOfMemory} (Ok t) c.turn.new.note)) c.in-Ok-Ends.field-0-is c.in-Ok-Ends.ensures.kept)
 
@@ -62,7 +62,7 @@ returns-in-Ok-Ends-clause-complete g c = λ s notes is none.
     (ended g (goal.at.returns-in-Ok-Ends-clause-complete g c).In-Ok-Ends).whole s notes (c.turns.invariant.still s notes is)
 
 pub returns-in-Err-clause-kept : goal.returns-in-Err-clause-kept
-returns-in-Err-clause-kept g c = since g (goal.at.returns-in-Err-clause-kept g c).After-turn _ c.in-Err.ensures.kept
+returns-in-Err-clause-kept g c = since g (goal.at.returns-in-Err-clause-kept g c).After-turn c.in-Err.ensures.kept
 
 gone_on : (g : given.Over) (c : In-Ok-GoesOn g) → TurnsTo g.C.Clock.reading g.M.Machine.stands c.args.network.now c.args.until c.turns.self c.turn.new.self
     c.turn.new.note GoesOn

@@ -25,7 +25,7 @@ returns g c = λ clock machine network d node own at kept task pending reached.
     ∙ ap (λ (k : _). pos (K.reading k c.args.time)) clock_is in
     let due : HasDue network d node c.read-reading.result.0 = (task, pending, subst (λ z. reading_for network node task ≤ℤ z) (sym reads) reached) in
     subst (λ z. IsNoSooner network d node z c.of.result) reads
-    (none_sooner network d node c.read-reading.result.0 c.of.result
+    (none_sooner {network = network} {device = d} {node = node} {reading = c.read-reading.result.0} {part = c.of.result}
     (record {
       kind = c.first_kind.result;
       is = c.first_kind.ensures network d node (subst (λ m. keeps g.M.Machine.stands m network d node) (sym machine_is) kept) due;

@@ -20,7 +20,7 @@ pass_up-requires-clause-nothing g c =
     let within = c.least_of-time.ensures.within in
     let limit = r.may.limit in
     let calm = c.is_calm.ensures c.if-not-is_calm.false in
-    none_before g.C.Clock.last_step g.C.Clock.reading g.M.Machine.stands c.args.network.now c.args.self.now c.args.place c.args.due r.may.well r.firsts
+    none_before r.may.well r.firsts
     c.least_of-time.result (omega (arith, within, limit)) calm.pending (λ ended more. both_ways c.args.self.now.ended calm.ended ended)
     c.least_of-time.ensures.place c.least_of-time.ensures.due
 

@@ -1,7 +1,7 @@
 use Rattle.drift_world.proofs.{Nearings.passing_nears, Words.{inl, inr, keeps, refl, subst, true, world_of, ℕ}, state.State.pass_on.Goals.After-pass_to}
 use Rattle.drift_world.proofs.Sources.{of_world}
 use Rattle.drift_world.{proofs.Turning.{passed_same, passes, whole_run}, specs.{Turns.{IsPassed, IsWhole, PassSays}, declared.state.State.State}}
-use Rattle.drift_world.proofs.Words.{◌+◌, ◌<◌, ◌^◌, ◌∙◌, ◌∷◌, ◌≡◌, ◌≤◌, ◌⊎◌, IsScenarioRun, List, Note, Scenario, Stands, Turn, [], ap, arith, both_ways, false}
+use Rattle.drift_world.proofs.Words.{◌+◌, ◌<◌, ◌^◌, ◌∙◌, ◌∷◌, ◌≡◌, ◌≤◌, ◌⊎◌, IsScenarioRun, List, Note, Scenario, Stands, StandsOn, Turn, [], ap, arith, both_ways, false}
 use Rattle.drift_world.proofs.state.State.pass_on.Given as given
 use Rattle.drift_world.proofs.state.State.pass_on.Goals as goal
 
@@ -12,14 +12,13 @@ last time until now ended (inl is) later within limit most = let le = most is in
 last time until now ended (inr far) later within limit most = let gt = far.1 in omega (arith, gt, within, limit)
 
 -- where nothing is under way before the time, time passes
-still : (g : given.Over) (c : After-pass_to g) (s : Scenario) (notes : List Note)
-    → Stands g.C.Clock.reading (keeps g.M.Machine.stands) s (world_of c.args.network.now c.args.self.now) notes
-    → Stands g.C.Clock.reading (keeps g.M.Machine.stands) s (world_of c.args.network.now c.pass_to.new.self) notes
+still : (g : given.Over) (c : After-pass_to g)
+    → StandsOn g.C.Clock.reading g.M.Machine.stands c.args.network.now c.args.self.now c.pass_to.new.self
 still g c s notes old =
     let sound = c.requires.may.well.sound in
     (c.pass_to.ensures.stands c.args.network.now s notes old
-    (of_world g.C.Clock.last_step g.C.Clock.reading g.M.Machine.stands s c.args.network.now c.args.self.now notes old
-    sound.sized (c.args.time ∷ []) sound.under_way c.requires.nothing)).0
+    (of_world g.M.Machine.stands old
+    sound.sized sound.under_way c.requires.nothing)).0
 
 passed : (g : given.Over) (c : After-pass_to g) (turn : Turn) → PassSays c.args.self.now c.pass_to.new.self c.args.until turn
     → ((s : Scenario) (notes : List Note) → Stands g.C.Clock.reading (keeps g.M.Machine.stands) s
@@ -31,9 +30,9 @@ passed g c turn says whole =
     let new = c.pass_to.new.self in
     let same = c.pass_to.ensures.same in
     let later = r.later in
-    let time = ap (λ (t : State _ _). t.time) same in
+    let time = ap State.time same in
     record {
-      well = passes g.C.Clock.last_step g.C.Clock.reading g.M.Machine.stands c.args.network.now c.args.self.now new c.args.time r.may.well r.nothing later
+      well = passes r.may.well r.nothing later
           (omega (arith, c.if-time-gt-LAST.false)) same
           (c.pass_to.ensures.sound c.args.network.now r.may.well.sound) (still g c);
       still = still g c;
@@ -52,7 +51,7 @@ returns-then-self-clause-passed g c =
       whole = λ s notes old.
           subst (λ (t : ℕ). IsScenarioRun s (t ∷ []) notes)
           (last c.args.time c.args.until c.args.self.now.time c.args.self.now.ended c.then-self.either r.later r.within r.may.limit r.may.ended)
-          (whole_run g.C.Clock.last_step g.C.Clock.reading g.M.Machine.stands c.args.network.now c.args.self.now s notes c.args.time r.may.well.sound r.nothing
+          (whole_run r.may.well.sound r.nothing
           r.empty r.later old);
       says = λ early most. elim c.then-self.either [
         | inl is ↦ absurd (both_ways c.args.self.now.ended early is)
@@ -64,11 +63,11 @@ returns-then-self-clause-passed g c =
 
 pub returns-then-time-until-clause-passed : goal.returns-then-time-until-clause-passed
 returns-then-time-until-clause-passed g c =
-    let time = ap (λ (t : State _ _). t.time) c.pass_to.ensures.same in
+    let time = ap State.time c.pass_to.ensures.same in
     let less = c.if-time-until.true in
     passed g (goal.at.returns-then-time-until-clause-passed g c).After-pass_to _ (
       omega (arith, time, less),
-      ap (λ (t : State _ _). t.given) c.pass_to.ensures.same,
+      ap State.given c.pass_to.ensures.same,
     ) (λ s notes is. tt)
 
 pub returns-else-time-until-clause-passed : goal.returns-else-time-until-clause-passed
@@ -78,14 +77,14 @@ returns-else-time-until-clause-passed g c =
     let not_less = c.if-time-until.false in
     let at : c.args.time ≡ c.args.until = omega (arith, within, not_less) in
     passed g (goal.at.returns-else-time-until-clause-passed g c).After-pass_to _
-    (λ early most. record { time = ap (λ (t : State _ _). t.time) c.pass_to.ensures.same ∙ at; early = ap (λ (t : State _ _). t.early) c.pass_to.ensures.same })
+    (λ early most. record { time = ap State.time c.pass_to.ensures.same ∙ at; early = ap State.early c.pass_to.ensures.same })
     (λ s notes old. subst (λ (t : ℕ). IsScenarioRun s (t ∷ []) notes) at
-    (whole_run g.C.Clock.last_step g.C.Clock.reading g.M.Machine.stands c.args.network.now c.args.self.now s notes c.args.time r.may.well.sound r.nothing
+    (whole_run r.may.well.sound r.nothing
     r.empty r.later old))
 
 pub returns-then-time-until-clause-nears : goal.returns-then-time-until-clause-nears
 returns-then-time-until-clause-nears g c =
     let r = c.requires in
-    passing_nears g.C.Clock.last_step g.C.Clock.reading g.M.Machine.stands c.args.network.now c.args.until c.args.time _ c.args.self.now c.pass_to.new.self
+    passing_nears g.C.Clock.last_step g.C.Clock.reading g.M.Machine.stands c.args.network.now c.args.until c.args.time _ c.args.self.now
     (returns-then-time-until-clause-passed g c).well c.pass_to.ensures.same r.later
     r.within

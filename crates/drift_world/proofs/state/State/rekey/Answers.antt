@@ -8,5 +8,4 @@ rekey_act-requires g c = record {
 
 pub returns : goal.returns
 returns g c =
-    set_both g.C.Clock.reading g.M.Machine.stands c.args.network.now c.args.self.now c.rekey_ripe.new.self c.rekey_act.new.self
-    (record { 0 = c.args.device }) c.requires.may.there c.rekey_ripe.ensures.timed c.rekey_ripe.ensures.sets c.rekey_act.ensures.timed c.rekey_act.ensures.sets
+    set_both c.requires.may.there c.rekey_ripe.ensures.timed c.rekey_ripe.ensures.sets c.rekey_act.ensures.timed c.rekey_act.ensures.sets

@@ -6,7 +6,6 @@ use Rattle.drift_world.proofs.state.State.rekey_act_from.Goals as goal
 pub returns-in-Due-then-keeps_part : goal.returns-in-Due-then-keeps_part
 returns-in-Due-then-keeps_part g c =
     let w = c.args.self.now in
-    let K = g.C.Clock in
     let S = g.M.Machine.stands in
     let network = c.args.network.now in
     let may = c.requires.may in
@@ -32,7 +31,7 @@ returns-in-Due-then-keeps_part g c =
         act = timer.time;
         part = before.part;
         of_act = at ∙ ap (λ (r : ℕ). Some (let t : Timer = record { time = timer.time; rank = r } in t)) before.rank_is;
-        acts = acts_by K.reading S network own.0 has.0 device w.time timer.time before.part c.args.before
+        acts = acts_by S network has.0 device before.part c.args.before
             (λ node is. subst (λ d. IsDueReading network device node d) (c.is_same.ensures c.if-is_same.true)
             (c.due_of-due.ensures has.0 network device node has.1 is))
             before.by

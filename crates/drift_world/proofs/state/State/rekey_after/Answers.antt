@@ -17,17 +17,14 @@ rekey_ripe-requires g c =
 
 pub returns-in-Arrived-clause-timed : goal.returns-in-Arrived-clause-timed
 returns-in-Arrived-clause-timed g c = λ before are changes machines timers.
-    let K = g.C.Clock in
-    let S = g.M.Machine.stands in
     let network = c.args.network.now in
     let w = c.args.self.now in
-    let new = c.rekey_ripe.new.self in
     let device = c.in-Arrived.device in
     let keyed = c.rekey_ripe.ensures in
     let there = subst (ArrivedAt (length network.device)) (sym c.body.view_is ∙ ap body_of c.in-Arrived.is) c.requires.arrived in
     let only = subst (λ b. ChangesOnly (changed_device b) before w) (sym c.body.view_is ∙ ap body_of c.in-Arrived.is) changes in
-    rekeyed K.reading S network device before w new are there only timers
-    (set_ripe K.reading S network before w new device there (are.each device there) only.clocks only.time machines timers keyed.timed keyed.sets)
+    rekeyed are there only timers
+    (set_ripe there (are.each device there) only.clocks only.time machines timers keyed.timed keyed.sets)
 
 pub returns-in_default : goal.returns-in_default
 returns-in_default g c = record {
@@ -35,6 +32,6 @@ returns-in_default g c = record {
   timed = λ before are changes machines timers.
       let far : changed_device c.args.body.now ≡ 2 ^ 32 = ap changed_device (sym c.body.view_is) ∙ far_kind c.body.inside.kind c.in_default.not-Arrived in
       let few = (in_range c.requires.may.running).few_devices in
-      aside g.C.Clock.reading g.M.Machine.stands c.args.network.now (changed_device c.args.body.now) before c.args.self.now are (omega (arith, far, few))
+      aside are (omega (arith, far, few))
       changes timers;
 }

@@ -10,11 +10,11 @@ rekey-requires g c =
     let S = g.M.Machine.stands in
     record {
       may = record {
-        sized = sized_with K.last_step K.reading S c.args.network.now c.args.self.now c.loop-device.self before.same c.requires.may.sized;
+        sized = sized_with K.last_step K.reading S before.same c.requires.may.sized;
         there = omega (arith, more, len);
         few = (in_range c.requires.may.running).few_devices;
         slots = before.sized;
-        running = running_with K.last_step K.reading S c.args.network.now c.args.self.now c.loop-device.self before.same c.requires.may.running;
+        running = running_with K.last_step K.reading S before.same c.requires.may.running;
       };
     }
 
@@ -22,5 +22,5 @@ pub loop-device-preserved : goal.loop-device-preserved
 loop-device-preserved g c =
     let more = c.loop-device-test.true in
     let len = ap length c.as_slice.ensures in
-    set_more g.C.Clock.reading g.M.Machine.stands c.args.network.now (record { 0 = c.loop-device.device }) c.args.self.now c.loop-device.self c.rekey.new.self
+    set_more
     c.loop-device.invariant c.rekey.ensures (omega (arith, more, len))

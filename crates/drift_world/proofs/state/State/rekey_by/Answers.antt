@@ -8,7 +8,7 @@ rekey-requires g c =
     record {
       may = record {
         sized = may.sized;
-        there = its_device c.args.network.now c.args.what.now c.in-Some.device c.requires.there (sym c.in-Some.ensures);
+        there = its_device c.args.network.now c.args.what.now c.requires.there (sym c.in-Some.ensures);
         few = (in_range may.running).few_devices;
         slots = may.slots;
         running = may.running;

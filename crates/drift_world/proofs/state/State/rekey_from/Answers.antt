@@ -7,8 +7,7 @@ rekey_act_from-requires-clause-may g c =
 
 pub returns : goal.returns
 returns g c =
-    set_both g.C.Clock.reading g.M.Machine.stands c.args.network.now c.args.self.now c.rekey_ripe.new.self c.rekey_act_from.new.self
-    (record { 0 = c.args.device }) c.requires.may.there c.rekey_ripe.ensures.timed c.rekey_ripe.ensures.sets c.rekey_act_from.ensures.timed
+    set_both c.requires.may.there c.rekey_ripe.ensures.timed c.rekey_ripe.ensures.sets c.rekey_act_from.ensures.timed
     c.rekey_act_from.ensures.sets
 
 pub rekey_act_from-requires-clause-before : goal.rekey_act_from-requires-clause-before

@@ -19,7 +19,6 @@ pub returns-clause-timed : goal.returns-clause-timed
 returns-clause-timed g c =
     let w = c.args.self.now in
     let K = g.C.Clock in
-    let network = c.args.network.now in
     let there = c.requires.may.there in
     let slots = c.requires.may.slots in
     let clocks = c.requires.may.sized.clocks in

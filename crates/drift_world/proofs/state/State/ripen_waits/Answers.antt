@@ -14,7 +14,7 @@ within : (g : given.Over) (c : After-take_first-waits g) → c.take_first-waits.
 within g c =
     let at = c.requires.comes c.take_first-waits.result c.take_first-waits.ensures.is in
     device_in g.C.Clock.reading g.M.Machine.stands c.args.network.now c.args.self.now c.take_first-waits.result (inside g c) (λ clock own.
-    c.requires.reached c.take_first-waits.result clock c.take_first-waits.ensures.is own) at.s at.notes at.is
+    c.requires.reached c.take_first-waits.result clock c.take_first-waits.ensures.is own) at.is
 
 -- its device's machine, and the moment
 held : (g : given.Over) (c : After-index_mut g) → slice_get c.args.self.now.machines.items c.take_first-waits.result.device.0 ≡ Some c.index_mut.result.now
@@ -22,22 +22,20 @@ held g c =
     let at = c.requires.comes c.take_first-waits.result c.take_first-waits.ensures.is in
     let lt = device_in g.C.Clock.reading g.M.Machine.stands c.args.network.now c.args.self.now c.take_first-waits.result
     (was_there c.take_first-waits.result c.args.self.now.waiting.items c.take_first-waits.new.self.items c.take_first-waits.ensures.items)
-    (λ clock own. c.requires.reached c.take_first-waits.result clock c.take_first-waits.ensures.is own) at.s at.notes at.is in
+    (λ clock own. c.requires.reached c.take_first-waits.result clock c.take_first-waits.ensures.is own) at.is in
     let many = c.requires.sound.sized.machines in
     slice_get_read c.args.self.now.machines.items (length c.args.self.now.machines.items) c.take_first-waits.result.device.0 c.index_mut.result.now refl
     (omega (arith, lt, many))
     c.index_mut.ensures.value
 
-now_is : (g : given.Over) (c : After-index_mut g) (s : Scenario) (notes : List Note)
+now_is : (g : given.Over) (c : After-index_mut g) {s : Scenario} {notes : List Note}
     → Stands g.C.Clock.reading (keeps g.M.Machine.stands) s (world_of c.args.network.now c.args.self.now) notes
     → moment_by c.from_amount.result c.from_amount-2.result ≡ moment_of s c.take_first-waits.result.device c.args.self.now.time
-now_is g c s notes old =
+now_is g c {s} {notes} old =
     let own = c.reading_of-reading.ensures in
     moment_is g.C.Clock.reading g.M.Machine.stands c.args.network.now c.args.self.now c.take_first-waits.result
     (was_there c.take_first-waits.result c.args.self.now.waiting.items c.take_first-waits.new.self.items c.take_first-waits.ensures.items) (λ clock own.
-    c.requires.reached c.take_first-waits.result clock c.take_first-waits.ensures.is own) s notes old own.0 own.1 c.reading_of-reading.result own.2
-    c.from_amount.result
-    c.from_amount-2.result c.from_amount.ensures.value c.from_amount-2.ensures.value
+    c.requires.reached c.take_first-waits.result clock c.take_first-waits.ensures.is own) s old own.1 own.2 c.from_amount.ensures.value c.from_amount-2.ensures.value
 
 pub reading_of-reading-requires-clause-there : goal.reading_of-reading-requires-clause-there
 reading_of-reading-requires-clause-there g c = within g (goal.at.reading_of-reading-requires-clause-there g c).After-take_first-waits
@@ -48,7 +46,7 @@ from_amount-requires-2 g c =
     let own = c.reading_of-reading.ensures in
     let most = low g.C.Clock.reading g.M.Machine.stands c.args.network.now c.args.self.now c.take_first-waits.result
     (inside g (goal.at.from_amount-requires-2 g c).After-take_first-waits) (λ clock own.
-    c.requires.reached c.take_first-waits.result clock c.take_first-waits.ensures.is own) at.s at.notes at.is own.0 own.1 in
+    c.requires.reached c.take_first-waits.result clock c.take_first-waits.ensures.is own) at.is own.1 in
     let same = own.2 in
     omega (arith, most, same)
 
@@ -64,9 +62,8 @@ ripen-ripe-requires g c =
     let at = c.requires.comes c.take_first-waits.result c.take_first-waits.ensures.is in
     asked g.C.Clock.reading g.M.Machine.stands c.args.network.now c.args.self.now c.take_first-waits.result
     (inside g (goal.at.ripen-ripe-requires g c).After-take_first-waits) (λ clock own.
-    c.requires.reached c.take_first-waits.result clock c.take_first-waits.ensures.is own) at c.index_mut.result.now
-    (moment_by c.from_amount.result c.from_amount-2.result) (held g (goal.at.ripen-ripe-requires g c).After-index_mut)
-    (now_is g (goal.at.ripen-ripe-requires g c).After-index_mut at.s at.notes at.is)
+    c.requires.reached c.take_first-waits.result clock c.take_first-waits.ensures.is own) at (held g (goal.at.ripen-ripe-requires g c).After-index_mut)
+    (now_is g (goal.at.ripen-ripe-requires g c).After-index_mut at.is)
 
 pub returns-clause-sound : goal.returns-clause-sound
 returns-clause-sound g c =
@@ -76,7 +73,7 @@ returns-clause-sound g c =
     let fit = c.requires.sound.fit in
     let t = c.take_first-waits.ensures.items in
     record {
-      sized = sized_so g.C.Clock.last_step c.args.network.now c.args.self.now _ z refl (length-set w.machines.items one.device.0 c.ripen-ripe.new.self) refl
+      sized = sized_so _ z refl (length-set w.machines.items one.device.0 c.ripen-ripe.new.self) refl
           refl refl refl refl;
       under_way = c.requires.sound.under_way;
       fit = record {
@@ -94,13 +91,12 @@ returns-clause-turns g c = λ s notes old first.
     let one = c.take_first-waits.result in
     let lt = within g (goal.at.returns-clause-turns g c).After-take_first-waits in
     let many = c.requires.sound.sized.machines in
-    ripened g.M.Machine.stands c.args.network.now c.args.self.now c.take_first-waits.new.self.items
-    c.index_mut.result.now
+    ripened g.M.Machine.stands c.args.self.now c.take_first-waits.new.self.items
     c.ripen-ripe.new.self c.ripen-ripe.result c.take_first-waits.ensures.items c.requires.sound.fit.apart
     (λ clock own. c.requires.reached one clock c.take_first-waits.ensures.is own) (omega (arith, lt, many))
-    (held g (goal.at.returns-clause-turns g c).After-index_mut) old first
+    (held g (goal.at.returns-clause-turns g c).After-index_mut) first
     (subst (λ m. HasRipened (keeps g.M.Machine.stands) s.network one.device m one.link one.frame one.point c.ripen-ripe.result c.index_mut.result.now
-    c.ripen-ripe.new.self) (now_is g (goal.at.returns-clause-turns g c).After-index_mut s notes old)
+    c.ripen-ripe.new.self) (now_is g (goal.at.returns-clause-turns g c).After-index_mut old)
     (λ node. c.ripen-ripe.ensures s.network one.device node))
 
 pub returns-clause-others : goal.returns-clause-others

@@ -3,7 +3,7 @@ use Rattle.drift_world.proofs.{OwnPlaces.{judged_far, judged_rank, no_shelf, no_
 use Rattle.{drift_world.{proofs.Fits.{all_put_some, have_octets, sound_same}, specs.declared.state.State.State}, world_state.specs.Ripening.{joined_record, ripe_record}}
 use Rattle.{drift_world.proofs.{Timings.rekeyed_by, Turned.{all_put_in, first_given, next_first, turns_of}}, run_law.specs.declared.steps.Ripe.Ripe}
 use Rattle.drift_world.{proofs.Turning.{is_at, kept_timers, rekeyed_step, runs_on, step_kept}, specs.declared.source.Source.TheVariants.Ripening}
-use Rattle.drift_world.proofs.Words.{◌++◌, ◌+◌, ◌<◌, ◌∙◌, ◌∷◌, ◌≡◌, ◌≤ℤ◌, ChangesOnly, DeviceId, IsSomePut, IsSound, Kept, List, Network, Node, Note}
+use Rattle.drift_world.proofs.Words.{◌++◌, ◌+◌, ◌<◌, ◌∙◌, ◌∷◌, ◌≡◌, ◌≤ℤ◌, ChangesOnly, DeviceId, IsSomePut, IsSound, Kept, List, Meaning, Network, Note}
 use Rattle.drift_world.proofs.Words.{Option, Scenario, Settled, Some, Stands, TurnsIn, Waits, World, [], ap, arith, both_ways}
 use Rattle.drift_world.proofs.Words.{changed_device, keeps, length, pos, rank, refl, ripe_place, subst, sym, true}
 use Rattle.drift_world.proofs.Words.{waiting_as}
@@ -29,20 +29,20 @@ pub overflow_add-number : goal.overflow_add-number
 overflow_add-number g c = let most = c.requires.may.room.numbers in omega (arith, most)
 
 -- the frame that is permanent comes first
-first_ripe : {C M : Type 0} (last_step : C → ℕ) (reading : C → ℕ → ℕ) (stands : M → Network → DeviceId → Node → Type 0) (network : Network)
-    (state : State C M) (one w : Waits) → MayWork last_step reading stands network state (Ripening one)
+first_ripe : {C M : Type 0} {last_step : C → ℕ} {reading : C → ℕ → ℕ} {stands : Meaning M} {network : Network}
+    {state : State C M} {one w : Waits} → MayWork last_step reading stands network state (Ripening one)
     → first_of state.waiting one.device.0 ≡ Some w → MayWork last_step reading stands network state (Ripening w)
-first_ripe last_step reading stands network state one w may at =
+first_ripe {last_step} {reading} {stands} {network} {state} may at =
     subst (λ (v : Waits). MayWork last_step reading stands network state (Ripening v)) (some_same _ _ _ may.foremost.there.is at) may
 
 pub ripen_waits-ripened-requires-clause-comes : goal.ripen_waits-ripened-requires-clause-comes
 ripen_waits-ripened-requires-clause-comes g c = λ w at.
-    is_at g.C.Clock.last_step g.C.Clock.reading g.M.Machine.stands c.args.network.now c.args.self.now (Ripening w)
-    (first_ripe g.C.Clock.last_step g.C.Clock.reading g.M.Machine.stands c.args.network.now c.args.self.now c.args.one w c.requires.may at) tt
+    is_at
+    (first_ripe c.requires.may at) tt
 
-changed : {C M : Type 0} (reading : C → ℕ → ℕ) (network : Network) (old new : State C M) (one w : Waits) → IsRipe reading network old one
+changed : {C M : Type 0} {reading : C → ℕ → ℕ} {network : Network} {old new : State C M} {one w : Waits} → IsRipe reading network old one
     → first_of old.waiting one.device.0 ≡ Some w → ChangesOnly w.device.0 old new → ChangesOnly one.device.0 old new
-changed reading network old new one w ripe at others = subst (λ (v : Waits). ChangesOnly v.device.0 old new) (sym (some_same _ _ _ ripe.is at)) others
+changed {old} {new} ripe at others = subst (λ (v : Waits). ChangesOnly v.device.0 old new) (sym (some_same _ _ _ ripe.is at)) others
 
 -- ---- its record is given
 
@@ -56,7 +56,7 @@ give_first-requires-clause-sound g c =
     let mid = c.ripen_waits-ripened.new.self in
     let sound = c.ripen_waits-ripened.ensures.sound in
     let number = c.args.self.now.given + 1 in
-    sound_same g.C.Clock.last_step c.args.network.now mid _ sound refl refl refl refl refl refl refl refl refl refl
+    sound_same _ sound refl refl refl refl refl refl refl refl refl refl
     (all_put_some have_octets (joined_record number got.waits.device got.ripe) mid.settled.items c.put_change.new.settled.items
     (subst (λ (o : Option Settled). IsSomePut o mid.settled.items c.put_change.new.settled.items) c.joined-change.ensures c.put_change.ensures.is)
     (joined_fits number got.waits.device got.ripe) sound.fit.octets)
@@ -64,7 +64,7 @@ give_first-requires-clause-sound g c =
 pub give_first-requires-clause-number : goal.give_first-requires-clause-number
 give_first-requires-clause-number g c =
     let numbers = c.requires.may.room.numbers in
-    let given = ap (λ (t : State _ _). t.given) c.ripen_waits-ripened.ensures.same in
+    let given = ap State.given c.ripen_waits-ripened.ensures.same in
     omega (arith, numbers, given)
 
 pub give_first-requires-clause-room : goal.give_first-requires-clause-room
@@ -84,57 +84,51 @@ give_first-requires-clause-place g c =
     no_shelf c.record_of-record.result.body c.ripen_waits-ripened.new.self.stored (λ taken. omega (arith, taken, own))
 
 -- it is worked off, and these are its records
-turned : (g : given.Over) (c : After-ripen_waits-ripened g) (s : Scenario) (notes : List Note)
+turned : (g : given.Over) (c : After-ripen_waits-ripened g) {s : Scenario} {notes : List Note}
     → Stands g.C.Clock.reading (keeps g.M.Machine.stands) s (world_of c.args.network.now c.args.self.now) notes
     → TurnsIn g.C.Clock.reading g.M.Machine.stands c.args.network.now s notes
     (world_of c.args.network.now c.ripen_waits-ripened.new.self)
     (ripe_place c.args.self.now.time (waiting_as c.ripen_waits-ripened.result.waits))
     (Some (ripe_record c.ripen_waits-ripened.result.waits c.ripen_waits-ripened.result.ripe))
     (joined_record (c.args.self.now.given + 1) c.ripen_waits-ripened.result.waits.device c.ripen_waits-ripened.result.ripe)
-turned g c s notes is =
-    let K = g.C.Clock in
-    let S = g.M.Machine.stands in
-    let network = c.args.network.now in
+turned g c {s} {notes} is =
     let got = c.ripen_waits-ripened.result in
-    turns_of K.last_step K.reading S network c.args.self.now c.ripen_waits-ripened.new.self (Ripening got.waits)
+    turns_of c.ripen_waits-ripened.new.self
     (Some (ripe_record got.waits got.ripe)) (joined_record (c.args.self.now.given + 1) got.waits.device got.ripe)
-    (first_ripe K.last_step K.reading S network c.args.self.now c.args.one got.waits c.requires.may c.ripen_waits-ripened.ensures.is) tt
-    c.ripen_waits-ripened.ensures.turns s notes is
+    (first_ripe c.requires.may c.ripen_waits-ripened.ensures.is) tt
+    c.ripen_waits-ripened.ensures.turns is
 
 -- with the record that is made of it
-turned_by : {C M : Type 0} (reading : C → ℕ → ℕ) (stands : M → Network → DeviceId → Node → Type 0) (network : Network) {s : Scenario}
-    {notes : List Note} {world : World C (Kept M)} {place : List ℕ} (w : Waits) (is : Ripe) (z : Settled) (second : Option Settled)
+turned_by : {C M : Type 0} {reading : C → ℕ → ℕ} {stands : Meaning M} {network : Network} {s : Scenario}
+    {notes : List Note} {world : World C (Kept M)} {place : List ℕ} (w : Waits) (is : Ripe) {z : Settled} {second : Option Settled}
     → z ≡ ripe_record w is → TurnsIn reading stands network s notes world place (Some (ripe_record w is)) second
     → TurnsIn reading stands network s notes world place (Some z) second
-turned_by reading stands network {s} {notes} {world} {place} w is z second same =
+turned_by {reading} {stands} {network} {s} {notes} {world} {place} w is {second} same =
     subst (λ x. TurnsIn reading stands network s notes world place (Some x) second) (sym same)
 
 -- it stands where it was permanent
-at_source : (w : Waits) (is : Ripe) (z : Settled) → z ≡ ripe_record w is → IsJudged is → is_at_source z.body ≡ true
-at_source w is z same judged = subst (λ (x : Settled). is_at_source x.body ≡ true) (sym same) (judged_source w is judged)
+at_source : (w : Waits) (is : Ripe) {z : Settled} → z ≡ ripe_record w is → IsJudged is → is_at_source z.body ≡ true
+at_source w is same judged = subst (λ (x : Settled). is_at_source x.body ≡ true) (sym same) (judged_source w is judged)
 
 pub give_first-requires-clause-next : goal.give_first-requires-clause-next
 give_first-requires-clause-next g c =
-    let network = c.args.network.now in
     let run = c.requires.may.well.running in
     let here = (goal.at.give_first-requires-clause-next g c).After-ripen_waits-ripened in
     let got = c.ripen_waits-ripened.result in
     let mid = c.ripen_waits-ripened.new.self in
-    let one = c.record_of-record.result in
     let second = joined_record (c.args.self.now.given + 1) got.waits.device got.ripe in
-    let turn = turned_by g.C.Clock.reading g.M.Machine.stands network got.waits got.ripe one second c.record_of-record.ensures
-    (turned g here run.s run.notes run.is) in
+    let turn = turned_by got.waits got.ripe c.record_of-record.ensures
+    (turned g here run.is) in
     record {
       s = run.s;
       notes = run.notes;
-      next = next_first g.C.Clock.reading g.M.Machine.stands network run.s run.notes (world_of network mid) _ mid.settled.items refl
-          one second turn c.put_change.new.settled.items
+      next = next_first mid.settled.items refl turn c.put_change.new.settled.items
           (subst (λ o. IsSomePut o mid.settled.items c.put_change.new.settled.items) c.joined-change.ensures c.put_change.ensures.is)
-          (at_source got.waits got.ripe one c.record_of-record.ensures (c.is_judged.ensures.0 c.if-is_judged.true));
+          (at_source got.waits got.ripe c.record_of-record.ensures (c.is_judged.ensures.0 c.if-is_judged.true));
       own = turn.first_is;
     }
 
-given_so : (g : given.Over) (c : After-give_first g) (s : Scenario) (notes : List Note)
+given_so : (g : given.Over) (c : After-give_first g) {s : Scenario} {notes : List Note}
     → TurnsIn g.C.Clock.reading g.M.Machine.stands c.args.network.now s notes
     (world_of c.args.network.now c.ripen_waits-ripened.new.self)
     (ripe_place c.args.self.now.time (waiting_as c.ripen_waits-ripened.result.waits))
@@ -143,19 +137,17 @@ given_so : (g : given.Over) (c : After-give_first g) (s : Scenario) (notes : Lis
     → Stands g.C.Clock.reading (keeps g.M.Machine.stands) s (world_of c.args.network.now c.give_first.new.self)
     (notes
     ++ c.give_first.new.note ∷ [])
-given_so g c s notes from =
+given_so g c {s} {notes} from =
     let network = c.args.network.now in
     let got = c.ripen_waits-ripened.result in
     let mid = c.ripen_waits-ripened.new.self in
-    let one = c.record_of-record.result in
     let give = c.give_first.ensures in
     let second = joined_record (c.args.self.now.given + 1) got.waits.device got.ripe in
-    let turn = turned_by g.C.Clock.reading g.M.Machine.stands network got.waits got.ripe one second c.record_of-record.ensures from in
+    let turn = turned_by got.waits got.ripe c.record_of-record.ensures from in
     let put = subst (λ o. IsSomePut o mid.settled.items c.put_change.new.settled.items) c.joined-change.ensures c.put_change.ensures.is in
-    let source = at_source got.waits got.ripe one c.record_of-record.ensures (c.is_judged.ensures.0 c.if-is_judged.true) in
-    (first_given g.C.Clock.reading g.M.Machine.stands network s notes (world_of network mid) _ mid.settled.items refl
-    one second turn
-    c.put_change.new.settled.items put source (world_of network c.give_first.new.self) c.give_first.new.note give.note
+    let source = at_source got.waits got.ripe c.record_of-record.ensures (c.is_judged.ensures.0 c.if-is_judged.true) in
+    (first_given mid.settled.items refl turn
+    c.put_change.new.settled.items put source (world_of network c.give_first.new.self) give.note
     (ap (λ (t : State _ _). world_of network t) give.same) (give.launched s notes)).0
 
 pub rekey_from-requires : goal.rekey_from-requires
@@ -164,7 +156,7 @@ rekey_from-requires g c =
     let run = may.well.running in
     let rip = c.ripen_waits-ripened.ensures in
     let give = c.give_first.ensures in
-    let timers = ap (λ (t : State _ _). t.timers) give.same ∙ ap (λ (t : State _ _). t.timers) rip.same in
+    let timers = ap State.timers give.same ∙ ap State.timers rip.same in
     record {
       may = record {
         sized = give.sound.sized;
@@ -174,43 +166,41 @@ rekey_from-requires g c =
         running = record {
           s = run.s;
           notes = _;
-          is = given_so g (goal.at.rekey_from-requires g c).After-give_first run.s run.notes
-              (turned g (goal.at.rekey_from-requires g c).After-ripen_waits-ripened run.s run.notes run.is);
+          is = given_so g (goal.at.rekey_from-requires g c).After-give_first
+              (turned g (goal.at.rekey_from-requires g c).After-ripen_waits-ripened run.is);
         };
       };
-      before = due_stays g.C.Clock.reading g.M.Machine.stands c.args.network.now g.C.Clock.last_step c.args.self.now c.give_first.new.self
+      before = due_stays g.M.Machine.stands c.args.network.now c.give_first.new.self
           (record { 0 = c.args.one.device.0 }) c.due_of-before.result may.well
           may.foremost.there.of
           c.due_of-before.ensures
-          (ap (λ (t : State _ _). t.clocks) give.same ∙ ap (λ (t : State _ _). t.clocks) rip.same)
-          (ap (λ (t : State _ _). t.time) give.same ∙ ap (λ (t : State _ _). t.time) rip.same)
+          (ap State.clocks give.same ∙ ap State.clocks rip.same)
+          (ap State.time give.same ∙ ap State.time rip.same)
           timers;
     }
 
 pub returns-then-is_judged-clause-kept : goal.returns-then-is_judged-clause-kept
 returns-then-is_judged-clause-kept g c =
-    let gave = c.give_first.new.self in
     let device : DeviceId = record { 0 = c.args.one.device.0 } in
     let may = c.requires.may in
     let got = c.ripen_waits-ripened.result in
     let rip = c.ripen_waits-ripened.ensures in
     let give = c.give_first.ensures in
-    let o = changed g.C.Clock.reading c.args.network.now c.args.self.now c.ripen_waits-ripened.new.self c.args.one c.ripen_waits-ripened.result.waits
+    let o = changed
     c.requires.may.foremost.there c.ripen_waits-ripened.ensures.is c.ripen_waits-ripened.ensures.others in
     let far = ap (λ (x : Settled). changed_device x.body) c.record_of-record.ensures ∙ judged_far got.waits got.ripe in
     let few = may.range.few_devices in
-    let time = ap (λ (t : State _ _). t.time) give.same ∙ o.time in
-    kept_timers g.C.Clock.last_step g.C.Clock.reading g.M.Machine.stands c.args.network.now c.args.self.now gave
-    c.rekey_from.new.self _ may.well
+    let time = ap State.time give.same ∙ o.time in
+    kept_timers _ may.well
     give.sound
     (record {
-      clocks = ap (λ (t : State _ _). t.clocks) give.same ∙ o.clocks;
-      ended = ap (λ (t : State _ _). t.ended) give.same ∙ o.ended;
+      clocks = ap State.clocks give.same ∙ o.clocks;
+      ended = ap State.ended give.same ∙ o.ended;
       later = omega (arith, time);
     })
-    (λ s notes is. given_so g (goal.at.returns-then-is_judged-clause-kept g c).After-give_first s notes
-    (turned g (goal.at.returns-then-is_judged-clause-kept g c).After-ripen_waits-ripened s notes is)) c.rekey_from.ensures.sets.same
-    (rekeyed_by g.C.Clock.reading g.M.Machine.stands c.args.network.now device c.args.self.now gave c.rekey_from.new.self may.well.timed may.foremost.there.of
+    (λ s notes is. given_so g (goal.at.returns-then-is_judged-clause-kept g c).After-give_first
+    (turned g (goal.at.returns-then-is_judged-clause-kept g c).After-ripen_waits-ripened is)) c.rekey_from.ensures.sets.same
+    (rekeyed_by may.well.timed may.foremost.there.of
     (λ i ne. ap (λ (t : State _ _). slice_get t.clocks.items i) give.same ∙ ap (λ (t : State _ _). slice_get t.clocks.items i) rip.same)
     (λ i ne. ap (λ (t : State _ _). slice_get t.machines.items i) give.same ∙ o.machines i ne)
     (λ x ne lt.
@@ -218,11 +208,11 @@ returns-then-is_judged-clause-kept g c =
     let before = o.waiting x ne in
     (λ i. before.0 (aside.0 i), λ i. aside.1 (before.1 i)))
     time
-    (ap (λ (t : State _ _). t.timers) give.same ∙ ap (λ (t : State _ _). t.timers) rip.same) c.rekey_from.ensures)
+    (ap State.timers give.same ∙ ap State.timers rip.same) c.rekey_from.ensures)
 
 -- ---- its records are put in among others
 
-still : (g : given.Over) (c : After-settle_ripe g) (s : Scenario) (notes : List Note)
+still : (g : given.Over) (c : After-settle_ripe g) {s : Scenario} {notes : List Note}
     → TurnsIn g.C.Clock.reading g.M.Machine.stands c.args.network.now s notes
     (world_of c.args.network.now c.ripen_waits-ripened.new.self)
     (ripe_place c.args.self.now.time (waiting_as c.ripen_waits-ripened.result.waits))
@@ -230,25 +220,21 @@ still : (g : given.Over) (c : After-settle_ripe g) (s : Scenario) (notes : List 
     (joined_record (c.args.self.now.given + 1) c.ripen_waits-ripened.result.waits.device c.ripen_waits-ripened.result.ripe)
     → Stands g.C.Clock.reading (keeps g.M.Machine.stands) s
     (world_of c.args.network.now (record c.ripen_waits-ripened.new.self { settled = c.settle_ripe.new.settled })) notes
-still g c s notes turn =
-    let network = c.args.network.now in
+still g c {s} {notes} turn =
     let got = c.ripen_waits-ripened.result in
     let mid = c.ripen_waits-ripened.new.self in
     let number = c.args.self.now.given + 1 in
     let so = c.settle_ripe.ensures in
     let not : IsJudged got.ripe → ⊥ = λ judged. both_ways c.is_judged.result c.if-is_judged.false
     (c.is_judged.ensures.1 judged) in
-    (all_put_in g.C.Clock.reading g.M.Machine.stands network s notes (world_of network mid) _ mid.settled.items refl
-    (Some (ripe_record got.waits got.ripe)) (joined_record number got.waits.device got.ripe) so.mid c.settle_ripe.new.settled.items turn
+    (all_put_in mid.settled.items refl so.mid c.settle_ripe.new.settled.items turn
     (so.at, so.first) so.more (dropped_late number got.waits got.ripe not)).0
 
 sound_after : (g : given.Over) (c : After-settle_ripe g)
     → IsSound g.C.Clock.last_step c.args.network.now (record c.ripen_waits-ripened.new.self { settled = c.settle_ripe.new.settled })
 sound_after g c =
-    let got = c.ripen_waits-ripened.result in
-    let mid = c.ripen_waits-ripened.new.self in
     let sound = c.ripen_waits-ripened.ensures.sound in
-    sound_same g.C.Clock.last_step c.args.network.now mid _ sound refl refl refl refl refl refl refl refl refl refl
+    sound_same _ sound refl refl refl refl refl refl refl refl refl refl
     (octets_fit c.settle_ripe.ensures sound.fit.octets)
 
 pub rekey_from-requires-2 : goal.rekey_from-requires-2
@@ -256,35 +242,32 @@ rekey_from-requires-2 g c =
     let may = c.requires.may in
     let rip = c.ripen_waits-ripened.ensures in
     let after : State _ _ = record c.ripen_waits-ripened.new.self { settled = c.settle_ripe.new.settled } in
-    let timers = ap (λ (t : State _ _). t.timers) rip.same in
+    let timers = ap State.timers rip.same in
     record {
       may = record {
         sized = (sound_after g (goal.at.rekey_from-requires-2 g c).After-settle_ripe).sized;
         there = may.foremost.there.of;
         few = may.range.few_devices;
         slots = ap length timers ∙ may.well.timed.sized;
-        running = runs_on g.C.Clock.last_step g.C.Clock.reading g.M.Machine.stands c.args.network.now
-            c.args.self.now after may.well
-            (λ s notes is. still g (goal.at.rekey_from-requires-2 g c).After-settle_ripe s notes
-            (turned g (goal.at.rekey_from-requires-2 g c).After-ripen_waits-ripened s notes is));
+        running = runs_on after may.well
+            (λ s notes is. still g (goal.at.rekey_from-requires-2 g c).After-settle_ripe
+            (turned g (goal.at.rekey_from-requires-2 g c).After-ripen_waits-ripened is));
       };
-      before = due_stays g.C.Clock.reading g.M.Machine.stands c.args.network.now g.C.Clock.last_step c.args.self.now after (record { 0 = c.args.one.device.0 })
+      before = due_stays g.M.Machine.stands c.args.network.now after (record { 0 = c.args.one.device.0 })
           c.due_of-before.result may.well may.foremost.there.of
-          c.due_of-before.ensures (ap (λ (t : State _ _). t.clocks) rip.same) (ap (λ (t : State _ _). t.time) rip.same) timers;
+          c.due_of-before.ensures (ap State.clocks rip.same) (ap State.time rip.same) timers;
     }
 
 pub returns-clause-kept : goal.returns-clause-kept
 returns-clause-kept g c =
     let may = c.requires.may in
     let rip = c.ripen_waits-ripened.ensures in
-    let o = changed g.C.Clock.reading c.args.network.now c.args.self.now c.ripen_waits-ripened.new.self c.args.one c.ripen_waits-ripened.result.waits
+    let o = changed
     c.requires.may.foremost.there c.ripen_waits-ripened.ensures.is c.ripen_waits-ripened.ensures.others in
     let after : State _ _ = record c.ripen_waits-ripened.new.self { settled = c.settle_ripe.new.settled } in
-    step_kept g.C.Clock.last_step g.C.Clock.reading g.M.Machine.stands c.args.network.now c.args.self.now c.rekey_from-2.new.self
-    (rekeyed_step g.C.Clock.last_step g.C.Clock.reading g.M.Machine.stands c.args.network.now (record { 0 = c.args.one.device.0 }) c.args.self.now after
-    c.rekey_from-2.new.self may.well (sound_after g (goal.at.returns-clause-kept g c).After-settle_ripe) may.foremost.there.of
+    step_kept (rekeyed_step may.well (sound_after g (goal.at.returns-clause-kept g c).After-settle_ripe) may.foremost.there.of
     (record { clocks = o.clocks; time = o.time; ended = o.ended; machines = o.machines; waiting = o.waiting })
-    (ap (λ (t : State _ _). t.timers) rip.same) (ap (λ (t : State _ _). t.given) rip.same)
-    (λ s notes is. still g (goal.at.returns-clause-kept g c).After-settle_ripe s notes
-    (turned g (goal.at.returns-clause-kept g c).After-ripen_waits-ripened s notes is))
+    (ap State.timers rip.same) (ap State.given rip.same)
+    (λ s notes is. still g (goal.at.returns-clause-kept g c).After-settle_ripe
+    (turned g (goal.at.returns-clause-kept g c).After-ripen_waits-ripened is))
     c.rekey_from-2.ensures)

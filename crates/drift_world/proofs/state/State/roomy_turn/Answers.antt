@@ -27,10 +27,10 @@ front_turn-requires g c =
         well = up.well;
         limit = r.may.limit;
         early = (subst (PassSays c.args.self.now mid c.args.until) c.in-GoesOn.is up.says).0;
-        ended = λ is. let most = r.may.ended (sym (ap (λ (t : State _ _). t.ended) up.same) ∙ is) in omega (arith, most, later);
+        ended = λ is. let most = r.may.ended (sym (ap State.ended up.same) ∙ is) in omega (arith, most, later);
       };
-      room = room_passed c.args.network.now mid up.same r.room;
-      firsts = firsts_passed mid up.same (firsts_of g (goal.at.front_turn-requires g c).After-first-due);
+      room = room_passed up.same r.room;
+      firsts = firsts_passed up.same (firsts_of g (goal.at.front_turn-requires g c).After-first-due);
     }
 
 pub returns-in-GoesOn : goal.returns-in-GoesOn
@@ -41,10 +41,10 @@ returns-in-GoesOn g c =
     let up = c.pass_first.ensures in
     let turn = c.front_turn.ensures in
     let says = subst (PassSays c.args.self.now mid until) c.in-GoesOn.is up.passed.says in
-    let after = passed_after g.C.Clock.last_step g.C.Clock.reading g.M.Machine.stands c.args.network.now c.args.self.now mid until c.pass_first.result up.passed in
+    let after = passed_after up.passed in
     record {
-      kept = kept_then g.C.Clock.last_step g.C.Clock.reading g.M.Machine.stands c.args.network.now c.args.self.now mid new _ after up.passed.still turn.kept;
-      turns = turns_then g.C.Clock.last_step g.C.Clock.reading g.M.Machine.stands c.args.network.now OutOfMemory c.args.self.now mid new until
+      kept = kept_then after up.passed.still turn.kept;
+      turns = turns_then g.C.Clock.reading g.M.Machine.stands c.args.network.now c.args.self.now mid new until
           c.front_turn.new.note c.front_turn.result says.1 after.ended up.passed.still
           (subst (IsNoFarther c.args.network.now until c.args.self.now mid) c.in-GoesOn.is up.nearer) turn.turns;
       err = turn.err;
@@ -52,11 +52,11 @@ returns-in-GoesOn g c =
 
 pub returns-in_default-clause-kept : goal.returns-in_default-clause-kept
 returns-in_default-clause-kept g c =
-    passed_kept g.C.Clock.last_step g.C.Clock.reading g.M.Machine.stands c.args.network.now OutOfMemory c.args.self.now c.pass_first.new.self c.args.until
-    c.args.note.now c.pass_first.result c.pass_first.ensures.passed
+    passed_kept OutOfMemory
+    c.args.note.now c.pass_first.ensures.passed
 
 pub returns-in_default-clause-turns : goal.returns-in_default-clause-turns
 returns-in_default-clause-turns g c =
-    passed_turns g.C.Clock.last_step g.C.Clock.reading g.M.Machine.stands c.args.network.now c.args.self.now c.pass_first.new.self c.args.until c.args.note.now
+    passed_turns c.args.note.now
     c.pass_first.result c.pass_first.ensures.passed
     (ends_near c.args.network.now c.args.until c.args.self.now c.pass_first.new.self c.pass_first.result c.in_default.not-GoesOn)

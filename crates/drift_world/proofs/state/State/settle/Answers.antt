@@ -4,11 +4,10 @@ use Rattle.drift_world.proofs.state.State.settle.Goals as goal
 
 pub returns-clause-step : goal.returns-clause-step
 returns-clause-step g c =
-    let w = c.args.self.now in
     let step = c.settle_befallen.ensures in
     let after = world_of c.args.network.now c.settle_befallen.new.self in
-    plain_step g.C.Clock.last_step g.C.Clock.reading g.M.Machine.stands c.args.network.now w c.settle_befallen.new.self
-    c.requires.may.well step.sound step.others (ap (λ (t : State _ _). t.timers) step.same) (ap (λ (t : State _ _). t.given) step.same)
+    plain_step
+    c.requires.may.well step.sound step.others (ap State.timers step.same) (ap State.given step.same)
     (λ s notes old. either_end c.settle_befallen.result _ _
     (Stands g.C.Clock.reading (keeps g.M.Machine.stands) s after notes)
     (step.stands s notes old) step.err (λ is. is.0)
@@ -19,4 +18,4 @@ returns-clause-less g c =
     let w = c.args.self.now in
     let step = c.settle_befallen.ensures in
     on_both c.settle_befallen.result _ _ _ step.done step.no_more
-    (λ done most. settled_less c.args.network.now w c.settle_befallen.new.self c.requires.may.foremost.there done most step.same)
+    (λ done most. settled_less c.args.network.now w c.requires.may.foremost.there done most step.same)

@@ -8,7 +8,7 @@ pub returns-in_err-make_room-clause-sound : goal.returns-in_err-make_room-clause
 returns-in_err-make_room-clause-sound g c =
     let made = c.make_room.ensures in
     let sound = c.requires.may.well.sound in
-    sound_same g.C.Clock.last_step c.args.network.now c.args.self.now _ sound refl refl refl refl refl refl refl refl made.entries refl
+    sound_same _ sound refl refl refl refl refl refl refl refl made.entries refl
     (subst (All have_octets) (sym made.items) sound.fit.octets)
 
 -- the outcomes are those of what befell
@@ -35,10 +35,10 @@ returns-clause-sound g c =
     let so = settled_so g (goal.at.returns-clause-sound g c).After-settle_all in
     let under = sound_settled network c.requires.may.range w.broken.items w.ups.items w.time (w.given + 1) w.befell.items w.settled.items after.settled.items
     w.under_way.entries after.under_way.entries so c.requires.may.well.sound.under_way fit.below at.is.untold.in_order
-    (numbers_given g.C.Clock.reading stands at.s network w at.notes at.is c.requires.may.foremost.there)
-    (all_fresh g.C.Clock.reading stands at.s network w at.notes at.is c.requires.may.foremost.there c.requires.may.well.sound.under_way) in
+    (numbers_given w at.is c.requires.may.foremost.there)
+    (all_fresh w at.is c.requires.may.foremost.there c.requires.may.well.sound.under_way) in
     record {
-      sized = sized_so g.C.Clock.last_step c.args.network.now c.args.self.now _ c.requires.may.well.sound.sized refl refl refl refl refl refl refl;
+      sized = sized_so _ c.requires.may.well.sound.sized refl refl refl refl refl refl refl;
       under_way = under.0;
       fit = record {
         ups = fit.ups;
@@ -54,14 +54,13 @@ returns-clause-sound g c =
 pub returns-clause-stands : goal.returns-clause-stands
 returns-clause-stands g c = λ s notes old.
     let w = c.args.self.now in
-    let network = c.args.network.now in
     let after = c.settle_all.new in
     let so = settled_so g (goal.at.returns-clause-stands g c).After-settle_all in
     let few = c.if-more-self.false in
     let len = c.len-more.ensures in
     let own = w.befell.ok.0 in
     let given = old.given in
-    befallen_behind g.C.Clock.reading (keeps g.M.Machine.stands) s network w notes old c.requires.may.foremost.there after.befell.items after.settled.items
+    befallen_behind w old c.requires.may.foremost.there after.settled.items
     after.under_way.entries c.settle_all.ensures.none (omega (arith, few, len, own, given)) so
 
 pub returns-clause-no_more : goal.returns-clause-no_more

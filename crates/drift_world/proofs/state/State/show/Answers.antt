@@ -7,7 +7,7 @@ use Rattle.drift_world.proofs.state.State.show.Goals as goal
 pub give_first-requires-clause-number : goal.give_first-requires-clause-number
 give_first-requires-clause-number g c =
     let numbers = c.requires.may.room.numbers in
-    let given = ap (λ (t : State _ _). t.given) c.show_clock-record.ensures.same in
+    let given = ap State.given c.show_clock-record.ensures.same in
     omega (arith, numbers, given)
 
 pub give_first-requires-clause-room : goal.give_first-requires-clause-room
@@ -26,19 +26,16 @@ give_first-requires-clause-place g c =
 
 pub give_first-requires-clause-next : goal.give_first-requires-clause-next
 give_first-requires-clause-next g c =
-    let K = g.C.Clock in
-    let S = g.M.Machine.stands in
-    let network = c.args.network.now in
     let well = c.requires.may.well in
     let run = well.running in
     let mid = c.show_clock-record.new.self in
     let one = c.show_clock-record.result in
-    let turn = turns_of K.last_step K.reading S network c.args.self.now mid (Clock c.args.device) (Some one) None c.requires.may tt
-    (c.show_clock-record.ensures.turns c.requires.may.foremost.there.ended) run.s run.notes run.is in
+    let turn = turns_of mid (Some one) None c.requires.may tt
+    (c.show_clock-record.ensures.turns c.requires.may.foremost.there.ended) run.is in
     record {
       s = run.s;
       notes = run.notes;
-      next = next_first K.reading S network run.s run.notes (world_of network mid) _ mid.settled.items refl one None turn mid.settled.items refl
+      next = next_first mid.settled.items refl turn mid.settled.items refl
           (source_at (Clock c.args.device) one.body c.show_clock-record.ensures.rank);
       own = turn.first_is;
     }
@@ -58,17 +55,15 @@ returns-clause-kept g c =
     let few = may.range.few_devices in
     let changes : ChangesOnly other w gave = changes_both (shown.others other) give.others in
     let time = changes.time in
-    kept_timers g.C.Clock.last_step g.C.Clock.reading g.M.Machine.stands c.args.network.now w gave gave _
+    kept_timers _
     may.well give.sound
     (record { clocks = changes.clocks; ended = changes.ended; later = omega (arith, time) })
     (λ s notes is.
-    let K = g.C.Clock in
-    let S = g.M.Machine.stands in
     let network = c.args.network.now in
-    (first_given K.reading S network s notes (world_of network mid) _ mid.settled.items refl one None
-    (turns_of K.last_step K.reading S network w mid (Clock c.args.device) (Some one) None may tt (shown.turns may.foremost.there.ended) s notes is)
-    mid.settled.items refl (source_at (Clock c.args.device) one.body shown.rank) (world_of network gave) c.give_first.new.note give.note
+    (first_given mid.settled.items refl
+    (turns_of mid (Some one) None may tt (shown.turns may.foremost.there.ended) is)
+    mid.settled.items refl (source_at (Clock c.args.device) one.body shown.rank) (world_of network gave) give.note
     (ap (λ (t : State _ _). world_of network t) give.same) (give.launched s notes)).0)
     refl
-    (aside g.C.Clock.reading g.M.Machine.stands c.args.network.now other w gave may.well.timed (omega (arith, far, few)) changes
-    (ap (λ (t : State _ _). t.timers) give.same ∙ ap (λ (t : State _ _). t.timers) shown.same))
+    (aside may.well.timed (omega (arith, far, few)) changes
+    (ap State.timers give.same ∙ ap State.timers shown.same))

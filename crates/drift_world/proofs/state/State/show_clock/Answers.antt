@@ -52,9 +52,8 @@ returns-clause-turns g c = λ ended s notes old first.
     (c.read-reading.ensures ∙ ap (λ t. pos (K.reading c.index.result.now (amount t))) c.from_amount.ensures.value
     ∙ ap (λ k. pos (K.reading k w.time)) (sym same) ∙ ap pos (sym (own.2 w.time (omega arith)))) in
     let shows : NoteBody → Settled = λ body. record { body = body; frame = None; octets = None } in
-    one_turn K.reading g.M.Machine.stands network
-    (shows (Shown device c.read-reading.result c.adjustment.result c.state.result))
-    (Shown device (units_of (s.reading device w.time)) c.adjustment.result c.state.result) (settled_in_order old)
+    one_turn g.M.Machine.stands network
+    (shows (Shown device c.read-reading.result c.adjustment.result c.state.result)) (settled_in_order old)
     (ap (λ r. settled_at network w.time (shows (Shown device r c.adjustment.result c.state.result))) read)
     (clock_turn K.reading (keeps g.M.Machine.stands) s world notes device c.index-machine.result.now c.state.result
     c.adjustment.result

@@ -6,25 +6,24 @@ use Rattle.drift_world.proofs.state.State.source_by.Goals as goal
 pub returns-then-self-clause-foremost : goal.returns-then-self-clause-foremost
 returns-then-self-clause-foremost g c = record {
   there = c.if-self.true;
-  nothing = events_first g.C.Clock.last_step g.C.Clock.reading g.M.Machine.stands c.args.network.now c.args.self.now c.args.place
-      c.args.due c.requires.may.well c.requires.firsts;
+  nothing = events_first c.requires.may.well c.requires.firsts;
 }
 
 pub returns-in-Some-clause-foremost : goal.returns-in-Some-clause-foremost
 returns-in-Some-clause-foremost g c =
     let is = c.in-Some.ensures.some in
-    let at = placed g.C.Clock.last_step g.C.Clock.reading g.M.Machine.stands c.args.network.now c.args.self.now c.args.place c.args.due c.requires.may.well
-    c.requires.firsts c.in-Some.arrival is.0 in
+    let at = placed c.requires.may.well
+    c.requires.firsts is.0 in
     record {
       there = record {
-        first = from_some (λ (q : DueAt). IsFirst c.args.self.now.under_way.entries q) c.args.place c.in-Some.arrival c.requires.firsts.some_place is.0;
+        first = from_some (λ (q : DueAt). IsFirst c.args.self.now.under_way.entries q) c.args.place c.requires.firsts.some_place is.0;
         now = is.1;
         rank_is = is.2;
         device = at.0;
         link = at.1;
       };
-      nothing = arrival_first g.C.Clock.last_step g.C.Clock.reading g.M.Machine.stands c.args.network.now c.args.self.now c.args.place c.args.due
-          c.requires.may.well c.requires.firsts c.in-Some.arrival c.if-self.false is.0 is.1 is.2;
+      nothing = arrival_first
+          c.requires.may.well c.requires.firsts c.if-self.false is.0 is.1 is.2;
     }
 
 pub returns-in-Some-slot_at-clause-foremost : goal.returns-in-Some-slot_at-clause-foremost
@@ -33,7 +32,7 @@ returns-in-Some-slot_at-clause-foremost g c =
     let d : SlotTimer = record { time = c.args.self.now.time; rank = first.rank; slot = first.slot } in
     record {
       there = c.source_of_slot.ensures.there;
-      nothing = slot_first g.C.Clock.last_step g.C.Clock.reading g.M.Machine.stands c.args.network.now c.args.self.now c.args.place c.args.due
+      nothing = slot_first
           c.requires.may.well c.requires.firsts d _ c.if-self.false c.in_default.ensures.none c.in-Some-slot_at.ensures.some refl
           c.source_of_slot.ensures.place;
     }
@@ -42,17 +41,17 @@ pub returns-in-Some-placed_at-clause-foremost : goal.returns-in-Some-placed_at-c
 returns-in-Some-placed_at-clause-foremost g c =
     let is = c.in-Some-placed_at.ensures.some in
     let q = c.in-Some-placed_at.departure in
-    let at = placed g.C.Clock.last_step g.C.Clock.reading g.M.Machine.stands c.args.network.now c.args.self.now c.args.place c.args.due c.requires.may.well
-    c.requires.firsts q is.0 in
+    let at = placed c.requires.may.well
+    c.requires.firsts is.0 in
     record {
       there = record {
-        first = from_some (λ (p : DueAt). IsFirst c.args.self.now.under_way.entries p) c.args.place q c.requires.firsts.some_place is.0;
+        first = from_some (λ (p : DueAt). IsFirst c.args.self.now.under_way.entries p) c.args.place c.requires.firsts.some_place is.0;
         now = is.1;
         rank_is = is.2;
         device = at.0;
         link = at.1;
       };
-      nothing = departure_first g.C.Clock.last_step g.C.Clock.reading g.M.Machine.stands c.args.network.now c.args.self.now c.args.place c.args.due
+      nothing = departure_first
           c.requires.may.well c.requires.firsts q c.if-self.false c.in_default-slot_at.ensures.none is.0 is.1 is.2;
     }
 
@@ -62,7 +61,7 @@ returns-then-self-as_slice-clause-foremost g c =
     let len = ap length c.as_slice.ensures in
     record {
       there = record { ended = c.if-self-2.true; next = refl; more = omega (arith, more, len) };
-      nothing = clock_first g.C.Clock.last_step g.C.Clock.reading g.M.Machine.stands c.args.network.now c.args.self.now c.args.place c.args.due
+      nothing = clock_first
           c.requires.may.well c.requires.firsts c.if-self.false c.in_default.ensures.none c.in_default-slot_at.ensures.none
           c.in_default-placed_at.ensures.none;
     }
@@ -73,11 +72,11 @@ returns-clause-foremost g c =
     let limit = c.requires.may.limit in
     record {
       there = c.least_of.ensures.later c.args.self.now.time c.requires.may.early
-          (place_after g.C.Clock.last_step g.C.Clock.reading g.M.Machine.stands c.args.network.now c.args.self.now c.args.place c.args.due
+          (place_after
           c.requires.may.well c.requires.firsts c.in_default.ensures.none c.in_default-placed_at.ensures.none)
-          (due_after g.C.Clock.last_step g.C.Clock.reading g.M.Machine.stands c.args.network.now c.args.self.now c.args.place c.args.due
+          (due_after
           c.requires.may.well c.requires.firsts c.in_default-slot_at.ensures.none);
-      nothing = none_before g.C.Clock.last_step g.C.Clock.reading g.M.Machine.stands c.args.network.now c.args.self.now c.args.place c.args.due
+      nothing = none_before
           c.requires.may.well c.requires.firsts c.least_of.result (omega (arith, within, limit)) c.if-self.false
           (λ ended more. elim c.else-self-2.branch [
             | else-self-2-via-then-self-2+else-self-as_slice v ↦

@@ -15,7 +15,7 @@ high g c =
     elim c.if-slot-devices.branch [
       | then-slot-devices+in_default w ↦
           let low = w.if-slot-devices.true in
-          let ripe = due_ripe g.C.Clock.reading g.M.Machine.stands c.args.network.now c.args.self.now (due g c) c.requires.well.timed c.requires.due
+          let ripe = due_ripe c.requires.well.timed c.requires.due
           (omega (arith, low, len)) (omega (arith, limit)) in
           let none = subst (λ (o : Option Waits). IfNone o _) w.in_default.is w.ripe_frame.ensures.none in
           absurd (none ripe.2.0 ripe.0 ripe.2.1 (ap (λ (n : ℕ). let d : DeviceId = record { 0 = n } in d) ripe.2.2) ripe.1 ripe.2.3)
@@ -33,17 +33,17 @@ returns-clause-there g c =
     let len : length c.as_slice-devices.result.now ≡ length c.args.network.now.device = ap length c.as_slice-devices.ensures in
     let limit = c.requires.well.sound.sized.limit in
     let le = high g c in
-    let is = due_part g.C.Clock.reading g.M.Machine.stands c.args.network.now c.args.self.now (due g c) c.requires.well.timed c.requires.due le in
+    let is = due_part c.requires.well.timed c.requires.due le in
     let device : DeviceId = record { 0 = c.args.slot - length c.as_slice-devices.result.now } in
     subst (λ p. IsActive g.C.Clock.reading g.M.Machine.stands c.args.network.now c.args.self.now p device) (sym (c.of_rank.ensures is.0 is.1))
-    (due_acts g.C.Clock.reading g.M.Machine.stands c.args.network.now c.args.self.now (due g c) c.requires.well.timed c.requires.due device is.0
+    (due_acts c.requires.well.timed c.requires.due device is.0
     refl limit (omega (arith, le, len)) (let few = is.2 in omega (arith, few, le, len)) is.1)
 
 pub returns-clause-place : goal.returns-clause-place
 returns-clause-place g c =
     let len : length c.as_slice-devices.result.now ≡ length c.args.network.now.device = ap length c.as_slice-devices.ensures in
     let le = high g c in
-    let is = due_part g.C.Clock.reading g.M.Machine.stands c.args.network.now c.args.self.now (due g c) c.requires.well.timed c.requires.due le in
+    let is = due_part c.requires.well.timed c.requires.due le in
     let slot = c.args.slot in
     let now = c.args.self.now.time in
     inl

@@ -1,6 +1,6 @@
 use Rattle.drift_world.{proofs.{TurnSays.turns_then, Nearings.{as_far, no_more}}, specs.{Turns.IsStep, declared.state.State.State}}
 use Rattle.world_state.specs.Frames.{Waiting}
-use Rattle.drift_world.proofs.{Turning.{kept_then, roomier, step_kept}, Words.{◌∙◌, OutOfMemory, ap, arith, sym}, state.State.turn.Goals.After-make_places}
+use Rattle.drift_world.proofs.{Turning.{kept_then, roomier, step_kept}, Words.{◌∙◌, ap, arith, sym}, state.State.turn.Goals.After-make_places}
 use Rattle.drift_world.proofs.state.State.turn.Given as given
 use Rattle.drift_world.proofs.state.State.turn.Goals as goal
 
@@ -10,16 +10,16 @@ made : (g : given.Over) (c : After-make_places g) → IsStep g.C.Clock.last_step
 made g c =
     let made = c.make_places.ensures in
     let new = c.make_places.new.self in
-    roomier g.C.Clock.last_step g.C.Clock.reading g.M.Machine.stands c.args.network.now c.args.self.now new c.requires.may.well
+    roomier new c.requires.may.well
     (made.same ∙ ap (λ (w : Waiting). let t : State _ _ = record c.args.self.now { under_way = new.under_way; waiting = w; settled = new.settled } in t)
-    (sym (ap (λ (t : State _ _). t.waiting) made.same))) made.entries (ap (λ (t : State _ _). t.waiting.items) made.same) made.items
+    (sym (ap State.waiting made.same))) made.entries (ap (λ (t : State _ _). t.waiting.items) made.same) made.items
 
 pub returns-in-Err : goal.returns-in-Err
 returns-in-Err g c =
     let time = (made g (goal.at.returns-in-Err g c).After-make_places).time in
     let early = c.requires.may.early in
     record {
-      kept = step_kept g.C.Clock.last_step g.C.Clock.reading g.M.Machine.stands c.args.network.now c.args.self.now c.make_places.new.self
+      kept = step_kept
           (made g (goal.at.returns-in-Err g c).After-make_places);
       turns = tt;
       err = omega (arith, time, early);
@@ -49,9 +49,9 @@ returns g c =
     let new = c.roomy_turn.new.self in
     let turn = c.roomy_turn.ensures in
     record {
-      kept = kept_then g.C.Clock.last_step g.C.Clock.reading g.M.Machine.stands c.args.network.now c.args.self.now mid new _ step.after step.still turn.kept;
-      turns = turns_then g.C.Clock.last_step g.C.Clock.reading g.M.Machine.stands c.args.network.now OutOfMemory c.args.self.now mid new c.args.until
+      kept = kept_then step.after step.still turn.kept;
+      turns = turns_then g.C.Clock.reading g.M.Machine.stands c.args.network.now c.args.self.now mid new c.args.until
           c.roomy_turn.new.note c.roomy_turn.result step.given step.after.ended step.still
-          (no_more _ _ (as_far c.args.network.now c.args.until c.args.self.now mid c.make_places.ensures.same c.make_places.ensures.entries)) turn.turns;
+          (no_more (as_far c.args.network.now c.args.until c.args.self.now mid c.make_places.ensures.same c.make_places.ensures.entries)) turn.turns;
       err = turn.err;
     }

@@ -38,9 +38,9 @@ show-requires g c = record {
 }
 
 pub returns-in-Err-clause-kept : goal.returns-in-Err-clause-kept
-returns-in-Err-clause-kept g c = step_kept g.C.Clock.last_step g.C.Clock.reading g.M.Machine.stands c.args.network.now c.args.self.now c.settle.new.self
+returns-in-Err-clause-kept g c = step_kept
     c.settle.ensures.step
 
 pub returns-in_default-clause-kept : goal.returns-in_default-clause-kept
-returns-in_default-clause-kept g c = step_kept g.C.Clock.last_step g.C.Clock.reading g.M.Machine.stands c.args.network.now c.args.self.now c.settle.new.self
+returns-in_default-clause-kept g c = step_kept
     c.settle.ensures.step

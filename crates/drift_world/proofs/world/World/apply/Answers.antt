@@ -23,21 +23,20 @@ returns-in-Err-clause-stands g c = λ network events notes comes.
     (c.in-Err.ensures.stands network events notes comes.is)
 
 -- the world is where the event may befall it
-there : (g : given.Over) (c : In-Ok g) (network : Network) (events : List Event) (notes : List Note)
+there : (g : given.Over) (c : In-Ok g) {network : Network} {events : List Event} {notes : List Note}
     → ComesBehind g.C.Clock.fresh g.C.Clock.after_step g.C.Clock.reading g.M.Machine.stands network c.args.self.now events notes c.args.event.now
     → IsThere g.C.Clock.fresh g.C.Clock.after_step g.C.Clock.reading g.M.Machine.stands network c.args.self.now c.next_given.new.self events notes
     c.args.event.now
-there g c network events notes comes =
+there g c {network} {events} {notes} comes =
     let E = c.in-Ok.ensures in
-    is_there g.C.Clock.fresh g.C.Clock.after_step g.C.Clock.reading g.M.Machine.stands network c.args.self.now c.next_given.new.self events notes
-    c.args.event.now comes
+    is_there c.args.self.now c.next_given.new.self comes
     c.requires.may.opens (option_given c.in-Ok.field-0 c.next_given.new.note) (E.stands network events notes comes.is) E.reached
 
 own : (g : given.Over) (c : In-Ok g)
     → IsThere g.C.Clock.fresh g.C.Clock.after_step g.C.Clock.reading g.M.Machine.stands c.args.self.now.network c.args.self.now c.next_given.new.self
     c.requires.may.events c.requires.may.notes
     c.args.event.now
-own g c = there g c c.args.self.now.network c.requires.may.events c.requires.may.notes c.requires.may.comes
+own g c = there g c c.requires.may.comes
 
 pub befall-requires : goal.befall-requires
 befall-requires g c =
@@ -64,7 +63,7 @@ returns-in-Ok-befall-clause-stands g c = λ network events notes comes.
     subst (λ (note : Note). StandsUnder g.C.Clock.fresh g.C.Clock.after_step g.C.Clock.reading g.M.Machine.stands network c.befall.new.self (events
     ++ c.args.event.now ∷ [])
     (notes ++ note ∷ [])) (sym c.note.ensures) (c.in-Ok-befall.ensures.stands network events notes
-    (there g (goal.at.returns-in-Ok-befall-clause-stands g c).In-Ok network events notes comes).so comes.within)
+    (there g (goal.at.returns-in-Ok-befall-clause-stands g c).In-Ok comes).so comes.within)
 
 pub returns-in-Ok-befall-clause-note : goal.returns-in-Ok-befall-clause-note
 returns-in-Ok-befall-clause-note g c =
@@ -82,7 +81,7 @@ returns-in-Ok-befall-clause-at g c = record {
 pub returns-in-Err-befall-clause-stands : goal.returns-in-Err-befall-clause-stands
 returns-in-Err-befall-clause-stands g c = λ network events notes comes.
     subst (λ w. StandsUnder g.C.Clock.fresh g.C.Clock.after_step g.C.Clock.reading g.M.Machine.stands network w events notes)
-    (sym c.in-Err-befall.ensures.err) (there g (goal.at.returns-in-Err-befall-clause-stands g c).In-Ok network events notes comes).so
+    (sym c.in-Err-befall.ensures.err) (there g (goal.at.returns-in-Err-befall-clause-stands g c).In-Ok comes).so
 
 pub returns-in-Err-befall-clause-err : goal.returns-in-Err-befall-clause-err
 returns-in-Err-befall-clause-err g c =

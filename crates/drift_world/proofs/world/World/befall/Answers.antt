@@ -1,6 +1,6 @@
 use Rattle.{drift_world.proofs.{Elsewhere.timed_by_event, Fits.sound_timers, Onwards.befalls, Shortness.sets_short}, net_plan.specs.declared.event.Event.Event}
 use Rattle.{drift_world.{proofs.Timings.unmoved, specs.declared.state.State.State}, precision_law.proofs.traffic_lemmas.safety_lemmas.Histories.slow_rate}
-use Rattle.drift_world.proofs.Words.{◌*◌, ◌++◌, ◌∙◌, ◌∷◌, ◌≡◌, AreTimed, IsLawful, IsOfNetwork, IsSound, IsWithinHypothesis, Kept, List, Network, Note, Stands}
+use Rattle.drift_world.proofs.Words.{◌*◌, ◌++◌, ◌∙◌, ◌∷◌, ◌≡◌, AreTimed, IsLawful, IsOfNetwork, IsSound, IsWithinHypothesis, List, Network, Note, Stands}
 use Rattle.drift_world.proofs.Words.{StandsUnder, World, [], ap, arith, keeps, length, reading_of, refl, scenario, subst, sym, world_of}
 use Rattle.drift_world.proofs.world.World.befall.Given as given
 use Rattle.drift_world.proofs.world.World.befall.Goals as goal
@@ -34,7 +34,6 @@ lawful g = record {
 pub invariant_of-self : goal.invariant_of-self
 invariant_of-self g c =
     let K = g.C.Clock in
-    let accepted = c.self.inside.accepted.now in
     let state = c.self.inside.state in
     let new = c.apply.new.self in
     let well = c.self.invariant in
@@ -49,9 +48,9 @@ invariant_of-self g c =
         notes = well.running.notes;
         is = then_;
       };
-      timed = unmoved K.reading g.M.Machine.stands accepted state new well.timed (ap (λ (s : State _ _). s.clocks) kept)
-          (ap (λ (s : State _ _). s.machines.items) kept) (ap (λ (s : State _ _). s.waiting.items) kept) (ap (λ (s : State _ _). s.time) kept)
-          (ap (λ (s : State _ _). s.timers) kept);
+      timed = unmoved state new well.timed (ap State.clocks kept)
+          (ap (λ (s : State _ _). s.machines.items) kept) (ap (λ (s : State _ _). s.waiting.items) kept) (ap State.time kept)
+          (ap State.timers kept);
     }
 
 -- ---- where it befell
@@ -60,7 +59,6 @@ pub rekey_by-requires-clause-may : goal.rekey_by-requires-clause-may
 rekey_by-requires-clause-may g c =
     let K = g.C.Clock in
     let may = c.requires.may in
-    let own = c.network-network.result.now in
     let network = c.args.self.now.network in
     let events = may.events ++ c.args.event.now ∷ [] in
     record {
@@ -70,26 +68,26 @@ rekey_by-requires-clause-may g c =
       running = record {
         s = scenario network (reading_of K.fresh K.after_step K.reading network events) events;
         notes = may.notes ++ c.in-Ok.note ∷ [];
-        is = (befalls K.fresh K.after_step K.reading K.grain_of K.count (lawful g) g.M.Machine.stands own c.self.inside.state c.apply.new.self c.args.self.now
-            (ap (λ n. world_of n c.self.inside.state) c.network-network.ensures.value ∙ c.self.view_is) c.args.event.now c.in-Ok.note
+        is = (befalls (lawful g) c.self.inside.state c.apply.new.self
+            (ap (λ n. world_of n c.self.inside.state) c.network-network.ensures.value ∙ c.self.view_is) c.in-Ok.note
             (c.self.invariant.sound.sized.clocks ∙ ap (λ (n : Network). length n.device) (sym c.network-network.ensures.value)) may.now
-            may.hold may.of_network c.in-Ok.ensures.clocks c.in-Ok.ensures.stands network may.events may.notes may.is
+            may.hold may.of_network c.in-Ok.ensures.clocks c.in-Ok.ensures.stands may.is
             may.within).is;
       };
     }
 
-befallen : (g : given.Over) (c : goal.After-rekey_by g) (network : Network) (events : List Event) (notes : List Note)
+befallen : (g : given.Over) (c : goal.After-rekey_by g) {network : Network} {events : List Event} {notes : List Note}
     → StandsUnder g.C.Clock.fresh g.C.Clock.after_step g.C.Clock.reading g.M.Machine.stands network c.args.self.now events notes
     → IsWithinHypothesis network events c.args.event.now → StandsUnder g.C.Clock.fresh g.C.Clock.after_step g.C.Clock.reading g.M.Machine.stands network
     (world_of c.self.inside.accepted.now c.rekey_by.new.self) (events ++ c.args.event.now ∷ []) (notes ++ c.in-Ok.note ∷ [])
-befallen g c network events notes under within =
+befallen g c {network} {events} {notes} under within =
     let K = g.C.Clock in
     let may = c.requires.may in
     let own = c.network-network.result.now in
-    let it = befalls K.fresh K.after_step K.reading K.grain_of K.count (lawful g) g.M.Machine.stands own c.self.inside.state c.apply.new.self c.args.self.now
-    (ap (λ n. world_of n c.self.inside.state) c.network-network.ensures.value ∙ c.self.view_is) c.args.event.now c.in-Ok.note
+    let it = befalls (lawful g) c.self.inside.state c.apply.new.self
+    (ap (λ n. world_of n c.self.inside.state) c.network-network.ensures.value ∙ c.self.view_is) c.in-Ok.note
     (c.self.invariant.sound.sized.clocks ∙ ap (λ (n : Network). length n.device) (sym c.network-network.ensures.value)) may.now
-    may.hold may.of_network c.in-Ok.ensures.clocks c.in-Ok.ensures.stands network events notes under within in
+    may.hold may.of_network c.in-Ok.ensures.clocks c.in-Ok.ensures.stands under within in
     let same : world_of own c.apply.new.self ≡ world_of c.self.inside.accepted.now c.rekey_by.new.self =
     ap (λ n. world_of n c.apply.new.self) c.network-network.ensures.value
     ∙ ap (λ s. world_of c.self.inside.accepted.now s) (sym c.rekey_by.ensures.sets.same) in
@@ -100,8 +98,6 @@ pub invariant_of-self-2 : goal.invariant_of-self-2
 invariant_of-self-2 g c =
     let K = g.C.Clock in
     let may = c.requires.may in
-    let own = c.network-network.result.now in
-    let accepted = c.self.inside.accepted.now in
     let network = c.args.self.now.network in
     let events = may.events ++ c.args.event.now ∷ [] in
     let state = c.self.inside.state in
@@ -110,19 +106,19 @@ invariant_of-self-2 g c =
     let sets = c.rekey_by.ensures.sets in
     let was = subst (λ n. AreTimed K.reading g.M.Machine.stands n state) (sym c.network-network.ensures.value) c.self.invariant.timed in
     let of_network = subst (λ n. IsOfNetwork n c.args.event.now.what)
-    (sym (c.network-network.ensures.value ∙ ap (λ (w : World _ (Kept _)). w.network) c.self.view_is)) may.of_network in
+    (sym (c.network-network.ensures.value ∙ ap World.network c.self.view_is)) may.of_network in
     record {
-      sound = sound_timers K.last_step accepted mid new sets.same
+      sound = sound_timers sets.same
           (subst (λ n. IsSound K.last_step n mid) c.network-network.ensures.value c.apply.ensures.sound);
       running = record {
         s = scenario network (reading_of K.fresh K.after_step K.reading network events) events;
         notes = may.notes ++ c.in-Ok.note ∷ [];
-        is = (befallen g c network may.events may.notes may.is may.within).is;
+        is = (befallen g c may.is may.within).is;
       };
       timed = subst (λ n. AreTimed K.reading g.M.Machine.stands n new) c.network-network.ensures.value
-          (timed_by_event mid new c.args.event.now.what was c.in-Ok.ensures.others c.apply.ensures.timers
+          (timed_by_event c.args.event.now.what was c.in-Ok.ensures.others c.apply.ensures.timers
           c.apply.ensures.still.0 of_network sets c.rekey_by.ensures.timed);
     }
 
 pub returns-clause-stands : goal.returns-clause-stands
-returns-clause-stands g c = λ network events notes under within. befallen g c network events notes under within
+returns-clause-stands g c = λ network events notes under within. befallen g c under within

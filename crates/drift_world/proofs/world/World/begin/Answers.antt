@@ -21,12 +21,11 @@ rekey_all-requires-clause-may g c =
     let network = c.network-network.result.now in
     let range = subst IsInRange (sym c.network-network.ensures.value) c.network-network.ensures.range in
     let are = subst (λ n. AreFresh g.M.Machine.stands n c.args.machines.items) (sym c.network-network.ensures.value) c.requires in
-    let under = first_stands K.fresh K.last_step network c.args.machines.items c.in_ok-state.state c.in_ok-state.ensures K.after_step K.reading K.grain_of
-    K.count
-    (lawful g) g.M.Machine.stands are range
+    let under = first_stands c.in_ok-state.ensures
+    (lawful g) are range
     (subst KeepsRules (sym c.network-network.ensures.value) c.network-network.ensures.rules) in
     record {
-      sized = (first_sound K.fresh K.last_step network c.args.machines.items c.in_ok-state.state c.in_ok-state.ensures range are.each).sized;
+      sized = (first_sound c.in_ok-state.ensures range are.each).sized;
       slots = ap length c.in_ok-state.ensures.timers ∙ length-replicate _ _;
       running = record { s = scenario network (reading_of K.fresh K.after_step K.reading network []) []; notes = []; is = under.is };
     }
@@ -45,17 +44,16 @@ stands g c =
     let K = g.C.Clock in
     subst (λ w. StandsUnder K.fresh K.after_step K.reading g.M.Machine.stands c.args.accepted.now w [] [])
     (ap (world_of c.args.accepted.now) (sym c.rekey_all.ensures.same))
-    (first_stands K.fresh K.last_step c.args.accepted.now c.args.machines.items c.in_ok-state.state (first g c) K.after_step K.reading K.grain_of K.count
-    (lawful g)
-    g.M.Machine.stands c.requires c.network-network.ensures.range c.network-network.ensures.rules)
+    (first_stands (first g c)
+    (lawful g) c.requires c.network-network.ensures.range c.network-network.ensures.rules)
 
 pub invariant_of-result : goal.invariant_of-result
 invariant_of-result g c =
     let K = g.C.Clock in
     let network = c.args.accepted.now in
     record {
-      sound = sound_timers K.last_step network c.in_ok-state.state c.rekey_all.new.self c.rekey_all.ensures.same
-          (first_sound K.fresh K.last_step network c.args.machines.items c.in_ok-state.state (first g c) c.network-network.ensures.range c.requires.each);
+      sound = sound_timers c.rekey_all.ensures.same
+          (first_sound (first g c) c.network-network.ensures.range c.requires.each);
       running = record { s = scenario network (reading_of K.fresh K.after_step K.reading network []) []; notes = []; is = (stands g c).is };
       timed = subst (λ n. AreTimed K.reading g.M.Machine.stands n c.rekey_all.new.self) c.network-network.ensures.value c.rekey_all.ensures.timed;
     }

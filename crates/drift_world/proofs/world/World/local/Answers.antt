@@ -16,7 +16,7 @@ local_of-requires-clause-may g c =
     let begun = c.requires.time.begun in
     record {
       there = subst (λ (n : Network). c.args.device.0 < length n.device)
-          (sym (c.network.ensures.value ∙ ap (λ (w : World _ (Kept _)). w.network) c.self.view_is)) c.requires.there;
+          (sym (c.network.ensures.value ∙ ap World.network c.self.view_is)) c.requires.there;
       stepped = λ clock found.
           let le : K.last_step clock ≤ amount c.args.t =
           subst (λ k. K.last_step k ≤ amount c.args.t) (sym (some_same _ _ _ found (viewed ∙ was))) least in
@@ -27,9 +27,7 @@ local_of-requires-clause-may g c =
 pub returns-clause-local : goal.returns-clause-local
 returns-clause-local g c = λ network events notes complete.
     let K = g.C.Clock in
-    let world = c.args.self.now in
-    let own = c.self.inside.accepted.now in
-    local_is own
+    local_is
     (subst (λ (w : World _ (Kept _)). c.args.device.0 < length w.network.device) (sym c.self.view_is) c.requires.there)
     (subst (λ w. IsComplete K.fresh K.after_step K.reading g.M.Machine.stands network w (amount c.args.t) events notes)
     (sym c.self.view_is)

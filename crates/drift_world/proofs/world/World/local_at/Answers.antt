@@ -14,7 +14,7 @@ local_of-requires-clause-may g c =
     let begun = c.requires.may.time.begun in
     record {
       there = subst (λ (n : Network). c.args.device.0 < length n.device)
-          (sym (c.network.ensures.value ∙ ap (λ (w : World _ (Kept _)). w.network) c.self.view_is)) c.requires.may.there;
+          (sym (c.network.ensures.value ∙ ap World.network c.self.view_is)) c.requires.may.there;
       stepped = λ clock found. elim c.requires.may.may [
         | inl may ↦
             let was = may.is.is.clocks device c.requires.may.there in
@@ -26,7 +26,7 @@ local_of-requires-clause-may g c =
             omega (arith, ints, le, begun)
         | inr now ↦
             let least = in_all (λ k. K.last_step k ≤ state.time) state.clocks.items device.0 clock c.self.invariant.sound.sized.stepped found in
-            let at = now.0 ∙ sym (ap (λ (w : World _ (Kept _)). w.now) c.self.view_is) in
+            let at = now.0 ∙ sym (ap World.now c.self.view_is) in
             omega (arith, ints, least, at, begun)
       ];
       limit = c.requires.may.time.limit;
@@ -39,8 +39,7 @@ there g c = subst (λ (w : World _ (Kept _)). c.args.device.0 < length w.network
 pub returns-clause-local : goal.returns-clause-local
 returns-clause-local g c = λ network events notes complete.
     let K = g.C.Clock in
-    let own = c.self.inside.accepted.now in
-    local_is own (there g c)
+    local_is (there g c)
     (subst (λ w. IsComplete K.fresh K.after_step K.reading g.M.Machine.stands network w (amount c.args.t) events notes)
     (sym c.self.view_is)
     complete)
@@ -50,14 +49,13 @@ pub returns-clause-before : goal.returns-clause-before
 returns-clause-before g c = λ network events notes under now.
     let K = g.C.Clock in
     let S = g.M.Machine.stands in
-    let own = c.self.inside.accepted.now in
     let state = c.self.inside.state in
     let s = scenario network (reading_of K.fresh K.after_step K.reading network events) events in
-    let viewed = ap (λ (w : World _ (Kept _)). w.now) c.self.view_is in
+    let viewed = ap World.now c.self.view_is in
     subst (λ n. IsLocalClockBefore s (happenings network notes) c.args.device n c.local_of.result) (viewed ∙ sym now.0)
-    (local_is_before own
+    (local_is_before
     (subst (λ w. Stands K.reading (keeps S) s w notes) (sym c.self.view_is) under.is)
-    (ap (λ (w : World _ (Kept _)). w.early) c.self.view_is ∙ now.1) (there g c) (now.0 ∙ sym viewed)
+    (ap World.early c.self.view_is ∙ now.1) (there g c) (now.0 ∙ sym viewed)
     c.local_of.ensures.shows)
 
 pub returns-clause-small : goal.returns-clause-small
@@ -74,7 +72,7 @@ returns-clause-small g c = λ small.
       | inl may ↦
           let complete = subst (λ (w : World _ (Kept _)). IsComplete K.fresh K.after_step K.reading S w.network w (amount c.args.t) may.events may.notes)
           (sym c.self.view_is) may.is in
-          local_value small own complete.is.is (there g c) limit shows
+          local_value small complete.is.is (there g c) limit shows
           (complete_reads (there g c) complete
           shows)
       | inr now ↦
@@ -83,7 +81,7 @@ returns-clause-small g c = λ small.
           may.is
           in
           let s = scenario own (reading_of K.fresh K.after_step K.reading own may.events) may.events in
-          local_value small own under.is (there g c) limit shows
-          (now_reads own under.is (there g c)
-          (now.0 ∙ sym (ap (λ (w : World _ (Kept _)). w.now) c.self.view_is)) shows)
+          local_value small under.is (there g c) limit shows
+          (now_reads under.is (there g c)
+          (now.0 ∙ sym (ap World.now c.self.view_is)) shows)
     ]

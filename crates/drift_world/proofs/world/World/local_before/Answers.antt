@@ -10,7 +10,7 @@ local_of-requires-clause-may g c =
     let limit = c.self.invariant.sound.sized.limit in
     record {
       there = subst (λ (n : Network). c.args.device.0 < length n.device)
-          (sym (c.network.ensures.value ∙ ap (λ (w : World _ (Kept _)). w.network) c.self.view_is)) c.requires.there;
+          (sym (c.network.ensures.value ∙ ap World.network c.self.view_is)) c.requires.there;
       stepped = λ clock found.
           let least = in_all (λ k. K.last_step k ≤ state.time) state.clocks.items c.args.device.0 clock c.self.invariant.sound.sized.stepped found in
           omega (arith, ints, least, is);
@@ -21,14 +21,13 @@ pub returns-clause-local : goal.returns-clause-local
 returns-clause-local g c = λ network events notes under early.
     let K = g.C.Clock in
     let S = g.M.Machine.stands in
-    let own = c.self.inside.accepted.now in
     let state = c.self.inside.state in
     let s = scenario network (reading_of K.fresh K.after_step K.reading network events) events in
     subst (λ n. IsLocalClockBefore s (happenings network notes) c.args.device n c.local_of.result)
-    (ap (λ (w : World _ (Kept _)). w.now) c.self.view_is)
-    (local_is_before own
+    (ap World.now c.self.view_is)
+    (local_is_before
     (subst (λ w. Stands K.reading (keeps S) s w notes) (sym c.self.view_is) under.is)
-    (ap (λ (w : World _ (Kept _)). w.early) c.self.view_is ∙ early)
+    (ap World.early c.self.view_is ∙ early)
     (subst (λ (w : World _ (Kept _)). c.args.device.0 < length w.network.device) (sym c.self.view_is) c.requires.there)
     (ap amount c.from_amount-now.ensures.value)
     c.local_of.ensures.shows)

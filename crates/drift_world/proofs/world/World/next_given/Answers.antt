@@ -1,5 +1,5 @@
 use Rattle.drift_world.{proofs.{Retries.comes_up_to, Words.{keeps_clock_laws, reading_of, scenario, subst, sym, world_of, ℕ}}, specs.Running.next_of}
-use Rattle.drift_world.proofs.Words.{◌++◌, ◌∙◌, ◌∷◌, ◌≡◌, Bool, ComesUpTo, Err, IfOk, IsLawful, IsRunOf, IsScenarioRun, Kept, List, Network, Note, Ok, Result}
+use Rattle.drift_world.proofs.Words.{◌++◌, ◌∙◌, ◌∷◌, ◌≡◌, Bool, ComesUpTo, Err, IfOk, IsLawful, IsRunOf, IsScenarioRun, List, Network, Note, Ok, Result}
 use Rattle.drift_world.proofs.Words.{Scenario, Stands, StandsUnder, World, [], amount, ap, arith, begins_at_zero, false, given_by, ints, keeps}
 use Rattle.std.proofs.Common.{slice_get}
 use Rattle.precision_law.{proofs.traffic_lemmas.safety_lemmas.Clocked.before, specs.traffic.safety.{Headline.IsSafeFront, Under.IsUnder}}
@@ -12,7 +12,7 @@ viewed g c = ap (λ n. world_of n c.self.inside.state) c.network.ensures.value �
 
 pub returns-then-until-from_amount-clause-complete : goal.returns-then-until-from_amount-clause-complete
 returns-then-until-from_amount-clause-complete g c = λ network events notes under lt none.
-    let now = ap (λ (w : World _ (Kept _)). w.now) c.self.view_is in
+    let now = ap World.now c.self.view_is in
     let test = c.if-until-from_amount.true in
     let is = c.from_amount.ensures.whole in
     absurd (omega (arith, ints, now, test, is, lt))
@@ -84,6 +84,6 @@ returns-clause-reached g c =
     (world_of n state) notes
     → Stands K.reading (keeps S) s (world_of n new) (notes ++ given_by (next_of c.next.result c.next.new.note)) in
     subst (λ w. ComesUpTo w (world_of own new) c.args.until (next_of c.next.result c.next.new.note)) c.self.view_is
-    (comes_up_to K.reading S own state new _ c.next.result c.next.new.note c.args.until c.amount.result c.amount.ensures.whole c.next.ensures.kept.after
+    (comes_up_to _ c.next.result c.next.new.note c.args.until c.amount.result c.amount.ensures.whole c.next.ensures.kept.after
     c.self.invariant.running (subst Steps c.network.ensures.value c.next.ensures.kept.stands_then)
     c.next.ensures.says)

@@ -5,7 +5,6 @@ use Rattle.drift_world.proofs.world.World.on_wire.Goals as goal
 pub returns : goal.returns
 returns g c = λ network events notes h stands of within.
     let K = g.C.Clock in
-    let own = c.self.inside.accepted.now in
     let state = c.self.inside.state in
     shown_put state c.self.invariant.sound.under_way
     (subst (λ w. StandsUnder K.fresh K.after_step K.reading g.M.Machine.stands network w events notes) (sym c.self.view_is) stands)

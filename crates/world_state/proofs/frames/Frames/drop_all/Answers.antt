@@ -5,14 +5,7 @@ use Rattle.world_state.proofs.frames.Frames.drop_all.Goals as goal
 
 pub invariant_of-self : goal.invariant_of-self
 invariant_of-self c =
-    let b = c.self.inside in
-    let test = c.if-index-len.true in
-    let len = c.len.ensures in
-    let ok = b.queues.ok.0 in
-    let at = slice_get_read b.queues.items (length b.queues.items) c.args.device.0 c.index_mut.result.now refl (omega (arith, test, len, ok))
-    c.index_mut.ensures.value in
-    set_queued b.queues.items c.args.device.0 c.index_mut.result.now c.new.result c.self.invariant at
-    (λ e there. absurd (subst (λ l. IsIn e l) c.new.ensures there))
+    set_queued c.self.inside.queues.items c.args.device.0 c.new.result c.self.invariant (λ e there. absurd (subst (λ l. IsIn e l) c.new.ensures there))
 
 pub returns-then-index-len : goal.returns-then-index-len
 returns-then-index-len c =
@@ -23,7 +16,7 @@ returns-then-index-len c =
     let ok = b.queues.ok.0 in
     let at = slice_get_read b.queues.items (length b.queues.items) k c.index_mut.result.now refl (omega (arith, test, len, ok)) c.index_mut.ensures.value in
     let zero : 0 + k ≡ k = omega arith in
-    emptied 0 k b.queues.items c.index_mut.result.now c.new.result (from_zero b.queues.items c.self.invariant) at c.new.ensures
+    emptied 0 k b.queues.items c.new.result (from_zero b.queues.items c.self.invariant) at c.new.ensures
     ∙ ap (λ n. filter (keeps_it n) (frames_in b.queues.items)) zero
     ∙ ap (λ (w : Waiting). filter (keeps_it k) w.items) c.self.view_is
 

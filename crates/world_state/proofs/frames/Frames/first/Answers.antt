@@ -11,7 +11,7 @@ returns-in-Some-clause-first c =
     (slice_get_read c.deref.result.now (length c.deref.result.now) d c.in-Some.queue.now refl c.in-Some.ensures.lookup.3.0 c.in-Some.ensures.lookup.1) in
     subst (λ (w : Waiting). MatchOption (first_of w d) (NoneAt w.items d) (IsFirstAt w.items d)) c.self.view_is
     (subst (λ (o : Option (Queue Waits)). MatchOption (option_and_then first_frame o) (NoneAt (frames_in qs) d) (IsFirstAt (frames_in qs) d)) (sym at)
-    (first_of_queue qs c.self.invariant d c.in-Some.queue.now at c.peek.ensures.first))
+    (first_of_queue qs c.self.invariant d at c.peek.ensures.first))
 
 pub returns-in-None-clause-is : goal.returns-in-None-clause-is
 returns-in-None-clause-is c =

@@ -14,7 +14,7 @@ invariant_of-self c =
     let put : Entry Waits = record { place = c.place_of.result; content = one } in
     let lt = has_room qs d (slice_get qs d) refl (subst (λ w. 0 < room_of w d) (sym c.self.view_is) c.requires.room) in
     let at = slice_get_read qs (length qs) d was refl lt c.index_mut.ensures.value in
-    set_queued qs d was is c.self.invariant at (λ e there.
+    set_queued qs d is c.self.invariant (λ e there.
     elim (in_permuted is.entries (put ∷ was.entries) e (IsPermutation-sym _ _ c.put.ensures.entries) there) [
       | inl own ↦ subst (IsQueued d) (sym own) (record { own = refl; place = c.place_of.ensures; begun = c.requires.begun })
       | inr old ↦ c.self.invariant d was e at old

@@ -10,7 +10,7 @@ invariant_of-self c =
     let was = c.index_mut.result.now in
     let lt = subst (λ (w : Waiting). d < length w.queues) (sym c.self.view_is) c.in-Ok.ensures.there in
     let at = slice_get_read qs (length qs) d was refl lt c.index_mut.ensures.value in
-    set_queued qs d was c.reserve.new.self c.self.invariant at
+    set_queued qs d c.reserve.new.self c.self.invariant
     (λ e there. c.self.invariant d was e at (subst (λ l. IsIn e l) c.reserve.ensures.entries there))
 
 pub returns-in-Ok-clause-items : goal.returns-in-Ok-clause-items
@@ -20,7 +20,7 @@ returns-in-Ok-clause-items c =
     let was = c.index_mut.result.now in
     let lt = subst (λ (w : Waiting). d < length w.queues) (sym c.self.view_is) c.in-Ok.ensures.there in
     let at = slice_get_read qs (length qs) d was refl lt c.index_mut.ensures.value in
-    same_in qs d was c.reserve.new.self at c.reserve.ensures.entries ∙ ap (λ (w : Waiting). w.items) c.self.view_is ∙ c.in-Ok.ensures.items
+    same_in qs d was c.reserve.new.self at c.reserve.ensures.entries ∙ ap Waiting.items c.self.view_is ∙ c.in-Ok.ensures.items
 
 pub returns-in-Ok-clause-room : goal.returns-in-Ok-clause-room
 returns-in-Ok-clause-room c =

@@ -15,7 +15,7 @@ invariant_of-self c =
     let at = slice_get_read qs (length qs) d was refl lt c.index_mut.ensures.value in
     let taken = subst (λ (o : Option (Entry Waits)). IfSome o (λ e. IsPermutation was.entries (e ∷ is.entries))) c.unwrap.ensures
     c.take_first.ensures.entries in
-    set_queued qs d was is c.self.invariant at (λ e there. c.self.invariant d was e at (in_permuted _ _ e (IsPermutation-sym _ _ taken) (inr there)))
+    set_queued qs d is c.self.invariant (λ e there. c.self.invariant d was e at (in_permuted _ _ e (IsPermutation-sym _ _ taken) (inr there)))
 
 pub returns-clause-is : goal.returns-clause-is
 returns-clause-is c =

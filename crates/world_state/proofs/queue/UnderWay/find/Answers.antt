@@ -9,7 +9,7 @@ returns-in-Some-clause-found g c =
     let found = subst (λ l. IsSlotFor l c.from.result c.args.cause c.in-Some.slot) c.as_slice.ensures.value
     c.in-Some.ensures.found in
     subst (λ q. IfSome c.get.result (λ content. HoldsAt q.entries c.args.rank c.args.cause content.now)) c.self.view_is
-    (found_in b.contents b.heap.data.items c.args.rank c.args.cause c.in-Some.slot
+    (found_in b.contents
     (subst (λ r. IsSlotFor b.heap.data.items r c.args.cause c.in-Some.slot) c.from.ensures found)
     c.get.result c.get.ensures)
 

@@ -7,6 +7,6 @@ returns-in-Some-clause-first g c =
     let top = c.in-Some.first.now in
     let some = c.in-Some.ensures.variant.0 refl in
     let len = b.heap.data.ok.0 in
-    let there = in_contained b.heap.data.items 0 top (omega (arith, some, len)) (sym c.in-Some.ensures.lookup) in
+    let there = in_contained b.heap.data.items 0 (omega (arith, some, len)) (sym c.in-Some.ensures.lookup) in
     subst (λ q. IsFirst q.entries top.0.place) c.self.view_is
-    (top_is_first b.contents b.heap.data.items top c.self.invariant there (c.in-Some.ensures.greatest c.self.invariant.heap))
+    (top_is_first top c.self.invariant there (c.in-Some.ensures.greatest c.self.invariant.heap))

@@ -8,8 +8,8 @@ returns-in-Some-clause-first g c =
     let top = c.in-Some.first.now in
     let some = c.in-Some.ensures.variant.0 refl in
     let len = b.heap.data.ok.0 in
-    let there = in_contained b.heap.data.items 0 top (omega (arith, some, len)) (sym c.in-Some.ensures.lookup) in
-    let first = top_is_first b.contents b.heap.data.items top c.self.invariant there (c.in-Some.ensures.greatest c.self.invariant.heap) in
+    let there = in_contained b.heap.data.items 0 (omega (arith, some, len)) (sym c.in-Some.ensures.lookup) in
+    let first = top_is_first top c.self.invariant there (c.in-Some.ensures.greatest c.self.invariant.heap) in
     subst (λ q. IfSome (first_entry q.entries) (λ e. IsFirst q.entries e.place)) c.self.view_is
-    (head_first b.contents b.heap.data.items top c.self.invariant (c.self.invariant.filled top there)
-    (head_is b.contents b.heap.data.items top c.self.invariant (omega (arith, some, len)) c.in-Some.ensures.lookup) first)
+    (head_first top c.self.invariant (c.self.invariant.filled top there)
+    (head_is b.heap.data.items c.self.invariant (omega (arith, some, len)) c.in-Some.ensures.lookup) first)

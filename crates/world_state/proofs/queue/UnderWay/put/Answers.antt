@@ -7,7 +7,7 @@ invariant_of-self g c =
     let b = c.self.inside in
     let i = c.insert_reserved-slot in
     let p = c.push_reserved in
-    put_is_sound b.contents i.new.self b.heap.data.items p.new.heap.data.items c.args.place i.result c.args.content c.self.invariant i.ensures.was_vacant
+    put_is_sound i.new.self p.new.heap.data.items c.args.place i.result c.args.content c.self.invariant i.ensures.was_vacant
     i.ensures.updates p.ensures.items
     p.ensures.heap_order
 
@@ -17,5 +17,5 @@ returns-clause-entries g c =
     let i = c.insert_reserved-slot in
     let p = c.push_reserved in
     subst (λ q. IsPermutation (entry_at c.args.place c.args.content ∷ q.entries) (entries_in i.new.self p.new.heap.data.items)) c.self.view_is
-    (put_entries b.contents i.new.self b.heap.data.items p.new.heap.data.items c.args.place i.result c.args.content c.self.invariant i.ensures.was_vacant
+    (put_entries i.new.self p.new.heap.data.items c.args.place i.result c.args.content c.self.invariant i.ensures.was_vacant
     i.ensures.updates p.ensures.items)

@@ -8,7 +8,7 @@ invariant_of-self-2 g c =
     let b = c.self.inside in
     let top = c.in_ok-first.field-0 in
     let r = c.remove-content in
-    taken_is_sound b.contents r.new.self b.heap.data.items c.pop.new.self.data.items top r.result c.self.invariant r.ensures.value r.ensures.updates
+    taken_is_sound r.new.self c.pop.new.self.data.items top c.self.invariant r.ensures.value r.ensures.updates
     c.in_ok-first.ensures.permutation c.in_ok-first.ensures.heap_order
 
 pub returns-clause-first : goal.returns-clause-first
@@ -17,7 +17,7 @@ returns-clause-first g c =
     let top = c.in_ok-first.field-0 in
     let there = in_permuted _ _ top (IsPermutation-sym _ _ c.in_ok-first.ensures.permutation) (inl refl) in
     subst (λ q. IsFirst q.entries top.0.place) c.self.view_is
-    (top_is_first b.contents b.heap.data.items top c.self.invariant there (c.in_ok-first.ensures.heap_order c.self.invariant.heap).1)
+    (top_is_first top c.self.invariant there (c.in_ok-first.ensures.heap_order c.self.invariant.heap).1)
 
 pub returns-clause-entries : goal.returns-clause-entries
 returns-clause-entries g c =
@@ -25,5 +25,5 @@ returns-clause-entries g c =
     let top = c.in_ok-first.field-0 in
     let r = c.remove-content in
     subst (λ q. IsPermutation q.entries (entry_at top.0.place r.result ∷ entries_in r.new.self c.pop.new.self.data.items)) c.self.view_is
-    (taken_entries b.contents r.new.self b.heap.data.items c.pop.new.self.data.items top r.result c.self.invariant r.ensures.value r.ensures.updates
+    (taken_entries r.new.self c.pop.new.self.data.items top c.self.invariant r.ensures.value r.ensures.updates
     c.in_ok-first.ensures.permutation)

@@ -11,7 +11,7 @@ put-requires c =
     let room = subst (λ (w : Shelved). HasPlace w (record { device = one.device; vl = one.vl })) (sym c.self.view_is) c.requires in
     let lt = has_shelf ss d one.vl.0 (slice_get ss d) refl room in
     let at = slice_get_read ss (length ss) d was refl lt c.index_mut.ensures.value in
-    is_within ss d one.vl.0 was at room
+    is_within ss d one.vl.0 at room
 
 pub invariant_of-self : goal.invariant_of-self
 invariant_of-self c =
@@ -22,7 +22,7 @@ invariant_of-self c =
     let room = subst (λ (w : Shelved). HasPlace w (record { device = one.device; vl = one.vl })) (sym c.self.view_is) c.requires in
     let lt = has_shelf ss d one.vl.0 (slice_get ss d) refl room in
     let at = slice_get_read ss (length ss) d was refl lt c.index_mut.ensures.value in
-    subst (λ (s : Places). AreShelved (slice_set ss d s)) (sym c.put.ensures) (put_shelved ss was one c.self.invariant at)
+    subst (λ (s : Places). AreShelved (slice_set ss d s)) (sym c.put.ensures) (put_shelved ss one c.self.invariant at)
 
 pub returns : goal.returns
 returns c =
@@ -35,4 +35,4 @@ returns c =
     let at = slice_get_read ss (length ss) d was refl lt c.index_mut.ensures.value in
     subst (λ (w : Shelved). IsPermutation (one ∷ filter (beside one) w.items) (frames_in (slice_set ss d c.put.new.self))) c.self.view_is
     (subst (λ (s : Places). IsPermutation (one ∷ filter (beside one) (frames_in ss)) (frames_in (slice_set ss d s))) (sym c.put.ensures)
-    (put_at ss was one c.self.invariant at (is_within ss d one.vl.0 was at room)))
+    (put_at ss one c.self.invariant at (is_within ss d one.vl.0 at room)))

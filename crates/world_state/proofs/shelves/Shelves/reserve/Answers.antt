@@ -19,7 +19,7 @@ returns-in-Ok-clause-items c =
     let was = c.index_mut.result.now in
     let lt = subst (λ (w : Shelved). d < length w.shelves) (sym c.self.view_is) c.in-Ok.ensures.there in
     let at = slice_get_read ss (length ss) d was refl lt c.index_mut.ensures.value in
-    longer_in ss d {was = was} {is = c.reserve.new.self} at c.reserve.ensures.longer ∙ ap (λ (w : Shelved). w.items)
+    longer_in ss d {was = was} {is = c.reserve.new.self} at c.reserve.ensures.longer ∙ ap Shelved.items
     c.self.view_is ∙ c.in-Ok.ensures.items
 
 pub returns-in-Ok-clause-place : goal.returns-in-Ok-clause-place
