@@ -13,5 +13,5 @@ returns g c =
 pub rekey_act_from-requires-clause-before : goal.rekey_act_from-requires-clause-before
 rekey_act_from-requires-clause-before g c =
     timed_still g.C.Clock.reading g.M.Machine.stands c.args.network.now c.args.self.now c.rekey_ripe.new.self
-        (record { 0 = c.args.device })
+    (record { 0 = c.args.device })
     c.args.before c.requires.may.there c.rekey_ripe.ensures.sets c.requires.before
