@@ -33,8 +33,7 @@ front_at items time point t order bound parts lt next =
         let late = next first (slice_get-get_or items point d (omega (arith, from, there))) in
         absurd (omega (arith, early, late))
 
-lasting : (history : History) (time point : ℕ) (next : Option ℕ) → IsInOrder history → point ≤ length
-    history.entries.items
+lasting : (history : History) (time point : ℕ) (next : Option ℕ) → IsInOrder history → point ≤ length history.entries.items
     → IsPartitionPoint (λ e. nat_le (time_at e.place) time ≡ true) (λ e. nat_le (time_at e.place) time ≡ false) history.entries.items point
     → ((t : ℕ) (e : Entry) → IsUpTo next t → slice_get history.entries.items point ≡ Some e → t ≤ time_at e.place)
     → ((e : Entry) → slice_get history.entries.items point ≡ Some e → time < time_at e.place) → Lasts history time next
@@ -51,12 +50,10 @@ pub later_at : (items : List Entry) (time point : ℕ) (e : Entry)
 later_at items time point e parts is = grind (arith, got_within, get_or, slice_get-get_or, time_at, leb-false)
 
 abbrev IsParted : List Entry → ℕ → ℕ → Type 0
-IsParted items time point = IsPartitionPoint (λ e. nat_le (time_at e.place) time ≡ true)
-    (λ e. nat_le (time_at e.place) time ≡ false) items point
+IsParted items time point = IsPartitionPoint (λ e. nat_le (time_at e.place) time ≡ true) (λ e. nat_le (time_at e.place) time ≡ false) items point
 
 -- the time of the entry behind the point, if there is one, is later, and up to it the same is shown
-pub later_behind : (items : List Entry) (time point : ℕ) → IsParted items time point → (o : Option Entry) → slice_get
-    items point ≡ o
+pub later_behind : (items : List Entry) (time point : ℕ) → IsParted items time point → (o : Option Entry) → slice_get items point ≡ o
     → IfSome (option_map (λ (e : Entry). time_at e.place) o) (λ next. time < next)
 later_behind items time point parts None none = tt
 later_behind items time point parts (Some e) is = later_at items time point e parts is

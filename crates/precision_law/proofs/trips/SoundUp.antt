@@ -205,8 +205,7 @@ pub path_fits : {v : View} (channel : Channel) (device : DeviceId) (links : List
     → IsDeviceOf v.scenario.network channel device → IsPath v.scenario.network channel device links
     → (v.sizes.path + delay_on v.scenario.network links ≤ v.sizes.dmax) × (length links ≤ is.beta.links)
 path_fits {v} channel device links is member path =
-    let fits = (margins rules_give_trees v.scenario.network v.sizes.path is.lawful.range is.lawful.rules
-        is.beta).dmax.paths channel device links member path in (
+    let fits = (margins rules_give_trees v.scenario.network v.sizes.path is.lawful.range is.lawful.rules is.beta).dmax.paths channel device links member path in (
       omega (arith, (sizes_are is).dmax),
       is.beta.links_greatest.most (length links)
           (channel, (device, (links, member, path, refl))),

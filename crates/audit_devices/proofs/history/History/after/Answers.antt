@@ -11,8 +11,7 @@ returns-clause-shown c order =
     let point = c.count_up_to-point.result in
     let parts = c.count_up_to-point.ensures.part order in
     c.shown_by.ensures
-    ∙ ap (last_shown history.first) (sym
-        (front_at items time point (time + 1) order c.count_up_to-point.ensures.bound parts (omega arith)
+    ∙ ap (last_shown history.first) (sym (front_at items time point (time + 1) order c.count_up_to-point.ensures.bound parts (omega arith)
     (λ e is. let after = later_at items time point e parts is in omega (arith, after))))
 
 pub returns-clause-later : goal.returns-clause-later
@@ -27,6 +26,5 @@ returns-clause-lasts c order =
     let history = c.args.self.now in
     let point = c.count_up_to-point.result in
     subst (λ o. Lasts history c.args.time o) (sym c.time_behind.ensures)
-    (lasting_to history c.args.time point order c.count_up_to-point.ensures.bound
-        (c.count_up_to-point.ensures.part order)
+    (lasting_to history c.args.time point order c.count_up_to-point.ensures.bound (c.count_up_to-point.ensures.part order)
     (slice_get history.entries.items point) refl)

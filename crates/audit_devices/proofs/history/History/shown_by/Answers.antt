@@ -6,8 +6,7 @@ returns-in-Some c =
     let items = c.args.self.now.entries.items in
     let front = c.split_at.ensures.front ∙ ap (λ (xs : List Entry). take c.args.count xs) c.deref.ensures.value in
     let found : Some c.in-Some.entry.now ≡ last_or None (take c.args.count items) =
-    c.in-Some.ensures.value ∙ slice_get-last c.split_at.result.0.now ∙ ap (λ (xs : List Entry). last_or None xs)
-        front in
+    c.in-Some.ensures.value ∙ slice_get-last c.split_at.result.0.now ∙ ap (λ (xs : List Entry). last_or None xs) front in
     ap (λ (o : Option Entry). option_map_or (λ (e : Entry). e.shown) o c.args.self.now.first) found
 
 pub returns-in-None : goal.returns-in-None
@@ -15,6 +14,5 @@ returns-in-None c =
     let items = c.args.self.now.entries.items in
     let front = c.split_at.ensures.front ∙ ap (λ (xs : List Entry). take c.args.count xs) c.deref.ensures.value in
     let found : None ≡ last_or None (take c.args.count items) =
-    c.in-None.ensures.value ∙ slice_get-last c.split_at.result.0.now ∙ ap (λ (xs : List Entry). last_or None xs)
-        front in
+    c.in-None.ensures.value ∙ slice_get-last c.split_at.result.0.now ∙ ap (λ (xs : List Entry). last_or None xs) front in
     ap (λ (o : Option Entry). option_map_or (λ (e : Entry). e.shown) o c.args.self.now.first) found

@@ -9,8 +9,7 @@ returns-in-Some c =
     let count = c.args.count in
     let found : slice_get items count ≡ Some c.in-Some.entry.now =
     subst (λ (xs : List Entry). slice_get xs count ≡ Some c.in-Some.entry.now) c.deref.ensures.value
-    (got_at c.deref.result.now count c.in-Some.entry.now (ltb-true count (length c.deref.result.now)
-        (sym c.in-Some.ensures.lookup.0))
+    (got_at c.deref.result.now count c.in-Some.entry.now (ltb-true count (length c.deref.result.now) (sym c.in-Some.ensures.lookup.0))
     c.in-Some.ensures.lookup.1) in
     ap Some c.time.ensures ∙ sym (ap (λ (o : Option Entry). option_map (λ (e : Entry). time_at e.place) o) found)
 

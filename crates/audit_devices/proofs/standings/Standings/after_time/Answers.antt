@@ -14,8 +14,7 @@ returns-clause-later c s hs stands =
     let keeps = stands device c.index-history.result.now
     (got_at c.args.self.now.histories.items device.0 c.index-history.result.now c.requires.device c.index-history.ensures) in
     let ends = c.end_of.ensures in
-    let later = end_later c.after-next.result.1 c.args.until c.args.time c.requires.before
-        (c.after-next.ensures.later keeps.order) in
+    let later = end_later c.after-next.result.1 c.args.until c.args.time c.requires.before (c.after-next.ensures.later keeps.order) in
     omega (arith, ends, later)
 
 pub returns-clause-shows : goal.returns-clause-shows

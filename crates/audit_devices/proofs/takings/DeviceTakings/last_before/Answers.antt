@@ -13,11 +13,9 @@ returns-then-is_before c ascend =
     let test : Taking → Bool = is_taking_before c.args.time c.args.link c.args.cause in
     let last : Taking = c.in-Some.last.now in
     let found : Some last ≡ last_or None items =
-    c.in-Some.ensures.value ∙ slice_get-last c.deref.result.now ∙ ap (λ (xs : List Taking). last_or None xs)
-        c.deref.ensures.value in
+    c.in-Some.ensures.value ∙ slice_get-last c.deref.result.now ∙ ap (λ (xs : List Taking). last_or None xs) c.deref.ensures.value in
     let passes : test last ≡ true = sym c.is_before.ensures ∙ c.if-is_before.true in
-    sym (last_kept test items None None last (λ same. same) passes (sym found)) ∙ ap
-        (λ xs. last_or None (filter test xs)) (sym here)
+    sym (last_kept test items None None last (λ same. same) passes (sym found)) ∙ ap (λ xs. last_or None (filter test xs)) (sym here)
 
 pub returns : goal.returns
 returns c ascend =
@@ -28,17 +26,14 @@ returns c ascend =
     (got_at c.as_slice.result.now c.args.vl.0 c.in_ok-takings.takings.now c.in_ok-takings.ensures.lookup.3.0 c.in_ok-takings.ensures.lookup.1) in
     let point = c.partition_point-point.result in
     let test : Taking → Bool = is_taking_before c.args.time c.args.link c.args.cause in
-    let bound : point ≤ length items = subst (λ xs. point ≤ length xs) c.deref-2.ensures.value
-        c.partition_point-point.ensures.bound in
+    let bound : point ≤ length items = subst (λ xs. point ≤ length xs) c.deref-2.ensures.value c.partition_point-point.ensures.bound in
     let order : IsPartitionedBy test items = subst (λ (xs : List Taking). IsPartitionedBy test xs) here (ascend c.args.time c.args.link c.args.cause) in
     let parts : IsPartitionPoint (λ e. test e ≡ true) (λ e. test e ≡ false) items point =
-    subst (λ (xs : List Taking). IsPartitionPoint (λ e. test e ≡ true) (λ e. test e ≡ false) xs point)
-        c.deref-2.ensures.value
+    subst (λ (xs : List Taking). IsPartitionPoint (λ e. test e ≡ true) (λ e. test e ≡ false) xs point) c.deref-2.ensures.value
     (c.partition_point-point.ensures.partitioned test (always_returns_same _ _ _ (λ a r f k. search (rules, of_calls)))
     (subst (λ (xs : List Taking). IsPartitionedBy test xs) (sym c.deref-2.ensures.value) order)) in
     let front : c.split_at.result.0.now ≡ filter test items =
-    c.split_at.ensures.front ∙ ap (λ (xs : List Taking). take point xs) c.deref-3.ensures.value ∙ sym
-        (kept_front test items point bound parts) in
+    c.split_at.ensures.front ∙ ap (λ (xs : List Taking). take point xs) c.deref-3.ensures.value ∙ sym (kept_front test items point bound parts) in
     let last : c.copied.result ≡ slice_get c.split_at.result.0.now (length c.split_at.result.0.now - 1) = search rules in
     last
     ∙ slice_get-last c.split_at.result.0.now
