@@ -1,10 +1,10 @@
 use Rattle.drift_world.proofs.{Dues.acts_by, Words.{◌+◌, ◌<◌, ◌∙◌, ◌≡◌, DeviceId, Network, Some, ap, arith, length, refl, slice_get-get_or, subst, ℕ}}
-use Rattle.{run_law.specs.machines.Tasks.IsDueReading, std.proofs.Common.{get_or, slice_get}}
+use Rattle.{drift_world.specs.Stepping.IsTimedFor, run_law.specs.machines.Tasks.IsDueReading, std.proofs.Common.{get_or, slice_get}}
 use Rattle.world_state.specs.{declared.timers.Timer.Timer, timers.Times.unset}
 use Rattle.drift_world.proofs.state.State.rekey_act_from.Goals as goal
 
-pub returns-in-Due-then-keeps_part : goal.returns-in-Due-then-keeps_part
-returns-in-Due-then-keeps_part g c =
+pub returns-then-keeps_part : goal.returns-then-keeps_part
+returns-then-keeps_part g c =
     let w = c.args.self.now in
     let S = g.M.Machine.stands in
     let network = c.args.network.now in
@@ -20,7 +20,8 @@ returns-in-Due-then-keeps_part g c =
     let slot = length network.device + c.args.device in
     let timer : Timer = get_or w.timers slot unset in
     let at : slice_get w.timers slot ≡ Some timer = slice_get-get_or w.timers slot unset (omega (arith, slots, there)) in
-    let before = c.requires.before own.0 timer own.1 at in
+    let timed = subst (IsTimedFor g.C.Clock.reading S network w c.args.device) c.in-Due.is c.requires.before in
+    let before = timed own.0 timer own.1 at in
     record {
       sets = record { same = refl; sized = refl; others = λ slot apart. refl; later = λ all. all };
       timed = record {
@@ -31,7 +32,7 @@ returns-in-Due-then-keeps_part g c =
         act = timer.time;
         part = before.part;
         of_act = at ∙ ap (λ (r : ℕ). Some (let t : Timer = record { time = timer.time; rank = r } in t)) before.rank_is;
-        acts = acts_by S network has.0 device before.part c.args.before
+        acts = acts_by S network has.0 device before.part c.in-Due.before
             (λ node is. subst (λ d. IsDueReading network device node d) (c.is_same.ensures c.if-is_same.true)
             (c.due_of-due.ensures has.0 network device node has.1 is))
             before.by
