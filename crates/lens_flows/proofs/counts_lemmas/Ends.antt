@@ -1,7 +1,8 @@
 -- The greatest of two, and of all rows.
 use Rattle.{lens_flows.specs.counts.Greatest.{EndsAt, TellsGreatest, later_of}, net_plan.specs.declared.ids.{DeviceId.DeviceId, VlId.VlId}}
-use Rattle.{net_plan.specs.declared.network.Network.Network, std.proofs.Common.{◌+◌, ◌<◌, ◌≡◌, ◌≤◌, ◌⊎◌, arith, inl, inr, length, subst, sym, ℕ}}
-use Rattle.{run_law.specs.law.Safety.IsWindowEnd, std.{proofs.lemmas.{Bool.cases_lt, Option.slice_get_within}, specs.Prelude.{None, Option, Some, max}}}
+use Rattle.{net_plan.specs.declared.network.Network.Network, std.proofs.Common.{◌+◌, ◌<◌, ◌≡◌, ◌≤◌, ◌⊎◌, arith, inl, inr, subst, sym, ℕ}}
+use Rattle.lens_flows.specs.{declared.judge.flow.RowSpan.RowSpan, judge.Flows.{AreWithin, IsRowOf}}
+use Rattle.{run_law.specs.law.Safety.IsWindowEnd, std.{proofs.lemmas.Bool.cases_lt, specs.Prelude.{None, Option, Some, max}}}
 
 -- of the numbers of either kind
 greatest_both : (P Q R : ℕ → Type 0) (a b : Option ℕ) → ((n : ℕ) → P n → R n) → ((n : ℕ) → Q n → R n) → ((n : ℕ) → R n → P n ⊎ Q n)
@@ -30,8 +31,12 @@ greatest_both P Q R (Some m) (Some k) from_p from_q split great other = (
 abbrev pub EndsBefore : Network → VlId → DeviceId → ℕ → ℕ → Type 0
 EndsBefore network vl device place end = (k : ℕ) × (k < place) × EndsAt network vl device k end
 
-pub ends_none : (network : Network) (vl : VlId) (device : DeviceId) (n : ℕ) → EndsBefore network vl device 0 n → ⊥
-ends_none network vl device n (k, lt, at) = omega (arith, lt)
+row_of : {network : Network} {vl : VlId} {device : DeviceId} {place end : ℕ} → EndsAt network vl device place end → IsRowOf network vl place
+row_of at = record { row = at.entry.row; is = at.is.row; of_vl = at.of_vl }
+
+pub ends_none : (network : Network) (vl : VlId) (device : DeviceId) {rows : RowSpan} → AreWithin network vl rows → (n : ℕ)
+    → EndsBefore network vl device rows.from n → ⊥
+ends_none network vl device within n (k, lt, at) = let ge = (within.all k (row_of at)).0 in omega (arith, lt, ge)
 
 pub ends_more : (network : Network) (vl : VlId) (device : DeviceId) (place : ℕ) (last end new : Option ℕ) → new ≡ later_of last end
     → TellsGreatest (EndsBefore network vl device place) last → TellsGreatest (EndsAt network vl device place) end
@@ -53,12 +58,13 @@ greatest_same P Q None to back none = λ n q. none n (back n q)
 greatest_same P Q (Some m) to back great = (to m great.0, λ n q. great.1 n (back n q))
 
 -- of all rows
-pub ends_all : (network : Network) (vl : VlId) (device : DeviceId) (place : ℕ) (last : Option ℕ) → length network.row ≤ place
-    → TellsGreatest (EndsBefore network vl device place) last → TellsGreatest (IsWindowEnd network vl device) last
-ends_all network vl device place last all tells =
+pub ends_all : (network : Network) (vl : VlId) (device : DeviceId) {rows : RowSpan} (place : ℕ) (last : Option ℕ) → AreWithin network vl rows
+    → rows.to ≤ place → TellsGreatest (EndsBefore network vl device place) last → TellsGreatest (IsWindowEnd network vl device) last
+ends_all network vl device place last within all tells =
     greatest_same (EndsBefore network vl device place) (IsWindowEnd network vl device) last
     (λ n h. let at = h.2 in (at.entry, record { place = h.0; is = at.is; of_vl = at.of_vl; enters = at.enters }, at.end_is))
     (λ n h.
     let row = h.1 in
-    let within = slice_get_within network.row row.place h.0.row row.is.row in
-    (row.place, omega (arith, within, all), record { entry = h.0; is = row.is; of_vl = row.of_vl; enters = row.enters; end_is = h.2 })) tells
+    let ends : EndsAt network vl device row.place n = record { entry = h.0; is = row.is; of_vl = row.of_vl; enters = row.enters; end_is = h.2 } in
+    let lt = (within.all row.place (row_of ends)).1 in
+    (row.place, omega (arith, lt, all), ends)) tells

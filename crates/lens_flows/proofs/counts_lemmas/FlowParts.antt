@@ -148,12 +148,31 @@ no_end_system {network} {device} out to =
     let end : IsEndSystem network device = subst (IsEndSystem network) to.to to.is.end_system in
     false≢true (sym out ∙ end_role (device_at network device) end)
 
-pub no_rows : {network : Network} {vl : VlId} {device : DeviceId} {flow : Flow}
-    → ((place : ℕ) → IsRowOf network vl place → ⊥) → IsTo network vl device flow → ⊥
-no_rows {network} none to =
-    let enters = to.is.enters in
-    none enters.place (subst (λ v. IsRowOf network v enters.place) to.of_vl
-    (record { row = to.is.into.row; is = enters.is.row; of_vl = enters.of_vl }))
+-- a virtual link without rows has no flow
+pub no_flow_of : (network : Network) (vl : VlId) {flows : List Flow} → ((place : ℕ) → IsRowOf network vl place → ⊥)
+    → AreFlowsBefore network vl.0 0 flows → AreFlowsBefore network (vl.0 + 1) 0 flows
+no_flow_of network vl none are =
+    all_same (IsFlowOf network vl.0 0) (IsFlowOf network (vl.0 + 1) 0) IsFlowBefore are
+    (λ f is. record {
+      is = is.is;
+      before = elim is.before [
+        | inl lt ↦ inl (omega (arith, lt))
+        | inr at ↦ let lt = at.1 in absurd (omega (arith, lt))
+      ];
+    })
+    (λ f is. record {
+      is = is.is;
+      before = elim is.before [
+        | inl lt ↦ elim (cases_lt f.vl.0 vl.0) [
+          | inl less ↦ inl less
+          | inr more ↦
+              let enters = is.is.enters in
+              absurd (none enters.place (subst (λ v. IsRowOf network v enters.place) (id_of vl f.vl (omega (arith, lt, more)))
+              (record { row = is.is.into.row; is = enters.is.row; of_vl = enters.of_vl })))
+        ]
+        | inr at ↦ let lt = at.1 in absurd (omega (arith, lt))
+      ];
+    })
 
 pub no_window : {network : Network} {vl : VlId} {device : DeviceId} {flow : Flow}
     → ((n : ℕ) → IsWindowEnd network vl device n → ⊥) → IsTo network vl device flow → ⊥

@@ -32,8 +32,27 @@ fn push_flows(flows: &mut Vec<Flow>, network: &Network, vl: VlId) -> Result<(), 
     ensures { OnOk result (AreFlowsBefore network.now vl.0 0 flows.old.items
         → AreFlowsBefore network.now (vl.0 + 1) 0 flows.new.items) }
 {
+    match rows_of(network, vl) {
+        Some(rows) => push_receivers(flows, network, vl, rows),
+        None => Ok(()),
+    }
+}
+
+/// Adds the flows of the virtual link, whose rows stand there.
+fn push_receivers(
+    flows: &mut Vec<Flow>,
+    network: &Network,
+    vl: VlId,
+    rows: RowSpan,
+) -> Result<(), AllocError>
+    requires range { IsInRange network.now }
+    requires vl { HasVl network.now vl }
+    requires rows { AreWithin network.now vl rows }
+    ensures { OnOk result (AreFlowsBefore network.now vl.0 0 flows.old.items
+        → AreFlowsBefore network.now (vl.0 + 1) 0 flows.new.items) }
+{
     'devices: for place in 0..network.device.as_slice().len() {
-        push_flow(flows, network, vl, DeviceId(place as u32))?;
+        push_flow(flows, network, vl, rows, DeviceId(place as u32))?;
     }
     Ok(())
 }
@@ -43,14 +62,16 @@ fn push_flow(
     flows: &mut Vec<Flow>,
     network: &Network,
     vl: VlId,
+    rows: RowSpan,
     device: DeviceId,
 ) -> Result<(), AllocError>
     requires range { IsInRange network.now }
     requires vl { HasVl network.now vl }
+    requires rows { AreWithin network.now vl rows }
     ensures { OnOk result (AreFlowsBefore network.now vl.0 device.0 flows.old.items
         → AreFlowsBefore network.now vl.0 (device.0 + 1) flows.new.items) }
 {
-    match flow_to(network, vl, device) {
+    match flow_to(network, vl, rows, device) {
         Some(flow) => {
             flows.push(flow)?;
             Ok(())
@@ -59,26 +80,24 @@ fn push_flow(
     }
 }
 
-/// The flow of the virtual link to the device, if it is one.
-fn flow_to(network: &Network, vl: VlId, device: DeviceId) -> Option<Flow>
+/// The flow of the virtual link, whose rows stand there, to the device, if it is one.
+fn flow_to(network: &Network, vl: VlId, rows: RowSpan, device: DeviceId) -> Option<Flow>
     requires range { IsInRange network.now }
     requires vl { HasVl network.now vl }
+    requires rows { AreWithin network.now vl rows }
     ensures { IsFlowTo network.now vl device result }
 {
     if !is_end(network, device) {
         return None;
     }
-    match last_end(network, vl, device) {
-        Some(last) => match rows_of(network, vl) {
-            Some(rows) => Some(Flow {
-                vl,
-                of_vl: network.vl.as_slice()[vl.0 as usize],
-                device,
-                last,
-                rows,
-            }),
-            None => None,
-        },
+    match last_end(network, vl, rows, device) {
+        Some(last) => Some(Flow {
+            vl,
+            of_vl: network.vl.as_slice()[vl.0 as usize],
+            device,
+            last,
+            rows,
+        }),
         None => None,
     }
 }
@@ -117,14 +136,15 @@ fn with_row(network: &Network, vl: VlId, span: Option<RowSpan>, row: RowId) -> O
     }
 }
 
-/// Where the last window of the virtual link at the device ends, if a row of it leads there.
-fn last_end(network: &Network, vl: VlId, device: DeviceId) -> Option<u64>
-    requires { IsInRange network.now }
+/// Where the last window of the virtual link at the device ends, if one of its rows leads there.
+fn last_end(network: &Network, vl: VlId, rows: RowSpan, device: DeviceId) -> Option<u64>
+    requires range { IsInRange network.now }
+    requires rows { AreWithin network.now vl rows }
     ensures { TellsGreatest (IsWindowEnd network.now vl device) result }
 {
     let mut last = None;
-    'rows: for place in 0..network.row.as_slice().len() {
-        last = later_of(last, end_by(network, vl, device, RowId(place as u32)));
+    'rows: for place in rows.from..rows.to {
+        last = later_of(last, end_by(network, vl, device, RowId(place)));
     }
     last
 }

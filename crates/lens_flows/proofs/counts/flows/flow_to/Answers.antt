@@ -1,4 +1,4 @@
-use Rattle.{lens_flows.proofs.counts_lemmas.FlowParts.{no_end_system, no_rows, no_window}, std.proofs.Common.{◌∙◌, sym}}
+use Rattle.{lens_flows.proofs.counts_lemmas.FlowParts.{no_end_system, no_window}, std.proofs.Common.{◌∙◌, sym}}
 use Rattle.lens_flows.proofs.counts.flows.flow_to.Goals as goal
 
 pub returns-then-not-is_end : goal.returns-then-not-is_end
@@ -6,6 +6,3 @@ returns-then-not-is_end c flow to = no_end_system (sym c.is_end.ensures ∙ c.if
 
 pub returns-in-None : goal.returns-in-None
 returns-in-None c flow to = no_window c.in-None.ensures to
-
-pub returns-in-None-rows_of : goal.returns-in-None-rows_of
-returns-in-None-rows_of c flow to = no_rows c.in-None-rows_of.ensures to

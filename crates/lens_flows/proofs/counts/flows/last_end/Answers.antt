@@ -1,8 +1,14 @@
-use Rattle.{lens_flows.proofs.counts_lemmas.Ends.{ends_all, ends_more, ends_none}, std.proofs.Common.{ap, arith, length}}
+use Rattle.{lens_flows.proofs.{counts_lemmas.Ends.{ends_all, ends_more, ends_none}, judge_lemmas.Spans.span_short}, std.proofs.Common.arith}
 use Rattle.lens_flows.proofs.counts.flows.last_end.Goals as goal
 
 pub rows-init : goal.rows-init
-rows-init c = ends_none c.args.network.now c.args.vl c.args.device
+rows-init c = ends_none c.args.network.now c.args.vl c.args.device c.requires.rows
+
+pub end_by-requires-clause-row : goal.end_by-requires-clause-row
+end_by-requires-clause-row c =
+    let all = span_short c.requires.rows in
+    let lt = c.rows-test.true in
+    omega (arith, all, lt)
 
 pub rows-preserved : goal.rows-preserved
 rows-preserved c =
@@ -11,6 +17,5 @@ rows-preserved c =
 
 pub returns : goal.returns
 returns c =
-    let e = ap (λ rows. length rows) c.as_slice-place-end.ensures in
     let h = c.rows-test.false in
-    ends_all c.args.network.now c.args.vl c.args.device c.rows.place c.rows.last (omega (arith, h, e)) c.rows.invariant
+    ends_all c.args.network.now c.args.vl c.args.device c.rows.place c.rows.last c.requires.rows (omega (arith, h)) c.rows.invariant
