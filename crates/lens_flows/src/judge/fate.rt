@@ -35,6 +35,8 @@ impl Course<'_> {
             Some(to) => {
                 if !self.stays_in_step(flow.device, from, to) {
                     Fate::Receiver
+                } else if self.is_sent(flow, cycle, to) {
+                    Fate::Owed
                 } else if self.is_owed(flow, cycle, from) {
                     Fate::Owed
                 } else {
