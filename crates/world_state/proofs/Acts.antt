@@ -1,7 +1,7 @@
 -- What an act leaves as it was.
 use Rattle.{compression.specs.declared.compressed.Compressed.Compressed, sync_state.specs.declared.answers.Verdict.{TheVariants.Corrected, Verdict}}
 use Rattle.{net_plan.specs.declared.ids.DeviceId.DeviceId, run_law.specs.declared.steps.{Moment.Moment, Ripe.Ripe}, sync_state.specs.membership.Summary.Summary}
-use Rattle.{net_plan.specs.declared.network.Network.Network, std.proofs.Common.{◌<ℤ◌, ◌∙◌, ◌≡◌, ◌≤ℤ◌, None, Option, Some, ap, arith, refl, subst, sym, ℤ}}
+use Rattle.{net_plan.specs.declared.network.Network.Network, std.proofs.Common.{◌<ℤ◌, ◌∙◌, ◌≡◌, ◌≤ℤ◌, None, Option, Some, ap, arith, refl, ℤ}}
 use Rattle.{run_law.specs.{declared.steps.Act.Act, machines.Nodes.Node}, std.specs.Prelude.{IfSome, IsSomeAnd}, tte_units.specs.declared.units.Units.Units}
 use Rattle.run_law.specs.machines.{Answers.{IsActOf, after_correction, after_emission}, Calls.HasDue, Tasks.{IsDueReading, IsPending, Task, reading_for}}
 use Rattle.std.proofs.lemmas.Int.{ints}
@@ -35,7 +35,7 @@ module _ (network : Network) (device : DeviceId) (node : Node) where
   pub some_due : (due : Option Units) (reading : ℤ) → IsDueReading network device node due
       → IsSomeAnd due (λ at. at.0 ≤ℤ reading) → HasDue network device node reading
   some_due None reading is reached = absurd reached
-  some_due (Some at) reading is reached = (is.0.0, is.0.1, subst (λ z. z ≤ℤ reading) (sym is.0.2) reached)
+  some_due (Some at) reading is reached = (is.0.0, is.0.1, rw is.0.2 reached)
 
   -- it is not: nothing is
   pub none_due : (due : Option Units) (reading : ℤ) → IsDueReading network device node due
@@ -44,4 +44,4 @@ module _ (network : Network) (device : DeviceId) (node : Node) where
   none_due None reading is later task pending = absurd (is task pending)
   none_due (Some at) reading is later task pending =
       let least = is.1 task pending in
-      omega (arith, ints, later, least)
+      omega (arith, ints)

@@ -5,7 +5,7 @@ use Rattle.{run_law.specs.declared.note.NoteBody.NoteBody, world_law.specs.world
 use Rattle.{run_law.specs.records.Happenings.Happening, world_law.specs.world.World.{AtPort, OnWire}, world_state.specs.Giving.{ArePutTo, IsPutOn}}
 use Rattle.run_law.specs.records.Order.{IsIn}
 use Rattle.{run_law.specs.scenario.Scenarios.Scenario, std.specs.{List.filter_map, Prelude.{◌↔◌, IfNone, IfSome}}, world_state.specs.Views.{at_port, on_wire}}
-use Rattle.{std.proofs.Common.{◌∙◌, ◌∷◌, ◌≡◌, List, None, Option, Some, ap, arith, inl, inr, sym, ℕ}, world_state.specs.declared.contents.WayState.WayState}
+use Rattle.{std.proofs.Common.{◌∷◌, ◌≡◌, List, None, Option, Some, arith, inl, inr, ℕ}, world_state.specs.declared.contents.WayState.WayState}
 
 -- the wires after a frame is put to ports
 pub wires_kept : (n : ℕ) (network other : Network) (ups downs : List WayState) (body : NoteBody) (giving : Option Giving) (old new : List (Entry Content))
@@ -17,7 +17,7 @@ wires_kept n network other ups downs body (Some g) old new put none y = (
       let of = given_of (on_wire other) new y there in
       elim (put.real of.0 of.1) [
         | inl before ↦ is_given (on_wire other) old of.0 y before of.2
-        | inr to ↦ let no_wire : Some y ≡ None = sym of.2 ∙ ap (on_wire other) to.3 in absurd cc
+        | inr to ↦ absurd cc
       ],
   λ there. let of = given_of (on_wire other) old y there in is_given (on_wire other) new of.0 y (put.kept of.0 of.1) of.2,
 )
@@ -30,7 +30,7 @@ ports_kept (Some e) old new none put y = (
   λ there.
       let of = given_of at_port new y there in
       elim (in_permuted new (e ∷ old) of.0 (IsPermutation-sym _ _ put) of.1) [
-        | inl own ↦ let no_port : Some y ≡ None = sym of.2 ∙ ap at_port own ∙ none in absurd cc
+        | inl own ↦ absurd cc
         | inr rest ↦ is_given at_port old of.0 y rest of.2
       ],
   λ there. let of = given_of at_port old y there in is_given at_port new of.0 y (in_permuted (e ∷ old) new of.0 put (inr of.1)) of.2,

@@ -21,8 +21,8 @@ module _ (network : Network) (broken : List Bool) (ups : List WayState) (time : 
   settled_more [] b old mid new before between after are one put = (
     new,
     after,
-    subst (λ l. IsSomePut (record_of network broken ups b.number b.what) l new) are.0 one,
-    subst (λ l. IsPutOn (entry_of network ups time b.number b.what) l after) are.1 put,
+    rw are.0 at one,
+    rw are.1 at put,
     (refl, refl),
   )
   settled_more (f ∷ befell) b old mid new before between after are one put =
@@ -30,9 +30,9 @@ module _ (network : Network) (broken : List Bool) (ups : List WayState) (time : 
 
   -- one more is worked off
   pub take_next : (xs : List Befallen) (i : ℕ) (d : Befallen) → i < length xs → take (suc i) xs ≡ take i xs ++ get_or xs i d ∷ []
-  take_next [] i d lt = absurd (omega (arith, lt))
+  take_next [] i d lt = absurd (omega arith)
   take_next (x ∷ xs) zero d lt = refl
-  take_next (x ∷ xs) (suc i) d lt = ap (λ (l : List Befallen). x ∷ l) (take_next xs i d (omega (arith, lt)))
+  take_next (x ∷ xs) (suc i) d lt = rw (take_next xs i d (omega arith))
 
 same_at : {X : Type 0} (xs : List X) (i : ℕ) (a b : X) → i < length xs → a ≡ get_or xs i a → b ≡ get_or xs i b → a ≡ b
 same_at xs i a b lt is also = is ∙ sym (also ∙ get_or_from_slice_get xs i (get_or xs i a) b (slice_get-get_or xs i a lt))
@@ -45,15 +45,14 @@ pub loop_step : (network : Network) (broken : List Bool) (ups : List WayState) (
     → one ≡ record_of network broken ups b.number what → IsSomePut one mid new → put ≡ entry_of network ups time b.number what → IsPutOn put between after
     → AreSettledBy network broken ups time (take (i + 1) xs) old new before after
 loop_step network broken ups time xs ys i {b} {m} {what} old mid new before between after long lt agree is also of are one_is settles put_is puts =
-    let same : m ≡ b = same_at ys i m b (omega (arith, long, lt)) also is in
-    let whats : what ≡ b.what = of ∙ ap Befallen.what same in
+    let whats = of ∙ ap Befallen.what (same_at ys i m b (omega arith) also is) in
     let next : i + 1 ≡ suc i = omega arith in
-    let at : get_or xs i b ≡ b = sym (agree i b (omega arith)) ∙ sym is in
-    subst (λ l. AreSettledBy network broken ups time l old new before after)
-    (sym (ap (λ (n : ℕ). take n xs) next ∙ take_next network broken ups time xs i b lt ∙ ap (λ (y : Befallen). take i xs ++ y ∷ []) at))
-    (settled_more network broken ups time (take i xs) b old mid new before between after are
-    (subst (λ o. IsSomePut o mid new) (one_is ∙ ap (record_of network broken ups b.number) whats) settles)
-    (subst (λ o. IsPutOn o between after) (put_is ∙ ap (entry_of network ups time b.number) whats) puts))
+    let at = sym (agree i b (omega arith)) ∙ sym is in
+    rw (ap (λ (n : ℕ). take n xs) next ∙ take_next network broken ups time xs i b lt ∙ ap
+    (λ (y : Befallen). take i xs ++ y ∷ []) at) (settled_more network broken ups time (take i xs) b old mid new
+    before between after are
+    (rw (one_is ∙ ap (record_of network broken ups b.number) whats) at settles)
+    (rw (put_is ∙ ap (entry_of network ups time b.number) whats) at puts))
 
 -- ---- what an event puts under way
 
@@ -82,10 +81,11 @@ module _ {network : Network} (range : IsInRange network) (ups : List WayState) (
   sent_is : (link : LinkId) (octets : List ℕ) (l : Link) (w : WayState) (cut : Bool) (e : Entry Content) → slice_get network.link link.0 ≡ Some l → w.cut ≡ cut
       → sent_up network time number link octets l w ≡ Some e → IsSendOf network number e
   sent_is link octets l w true e found is sent =
-      absurd (let bad : None ≡ Some e = sym (ap (λ (b : Bool). if b then None else Some (up_entry network time number link octets l w)) is) ∙ sent in cc)
+      absurd (cc)
   sent_is link octets l w false e found is sent =
-      let same : up_entry network time number link octets l w ≡ e =
-      same_Some _ _ (sym (ap (λ (b : Bool). if b then None else Some (up_entry network time number link octets l w)) is) ∙ sent) in
+      let same =
+      same_Some _ _ (sym (ap (λ b. if b then None else Some (up_entry network time number link octets l w)) is) ∙
+      sent) in
       subst (IsSendOf network number) same
       (record {
         rank = refl;
@@ -127,19 +127,20 @@ module _ (network : Network) (range : IsInRange network) (broken : List Bool) (u
   put_sound number (Some e) old new of put are below lt fresh =
       let it = of e refl in (
         sound_with network old new e are put (it.rank ∙ sym it.kind) it.device it.link
-            (λ d there same. fresh d there (ap (λ (l : List ℕ). get_or l 1 0) same ∙ it.rank) (ap (λ (l : List ℕ). get_or l 4 0) same ∙ it.cause)),
+            (λ d there same. fresh d there (ap (λ l. get_or l 1 0) same ∙ it.rank)
+            (ap (λ l. get_or l 4 0) same ∙ it.cause)),
         λ d there. elim (in_permuted new (e ∷ old) d (IsPermutation-sym _ _ put) there) [
-          | inl is ↦ subst (λ n. n < given) (sym (ap (λ (x : Entry Content). x.place.cause) is ∙ it.cause)) lt
+          | inl is ↦ rw (ap (λ (x : Entry Content). x.place.cause) is ∙ it.cause) lt
           | inr rest ↦ below d rest
         ],
       )
 
   put_fresh : (number other : ℕ) (o : Option (Entry Content)) (old new : List (Entry Content))
       → ((e : Entry Content) → o ≡ Some e → IsSendOf network number e) → IsPutOn o old new → number < other → IsFreshOf old other → IsFreshOf new other
-  put_fresh number other None old new of put lt fresh = subst (λ l. IsFreshOf l other) (sym put) fresh
+  put_fresh number other None old new of put lt fresh = rw put fresh
   put_fresh number other (Some e) old new of put lt fresh = λ d there rank cause.
       elim (in_permuted new (e ∷ old) d (IsPermutation-sym _ _ put) there) [
-        | inl is ↦ let own = ap (λ (x : Entry Content). x.place.cause) is ∙ (of e refl).cause in omega (arith, own, cause, lt)
+        | inl is ↦ let own = ap (λ x. x.place.cause) is ∙ (of e refl).cause in omega arith
         | inr rest ↦ fresh d rest rank cause
       ]
 
@@ -158,8 +159,8 @@ module _ (network : Network) (range : IsInRange network) (broken : List Bool) (u
   pub ports_settled : (befell : List Befallen) (old new : List Settled) (before after : List (Entry Content))
       → AreSettledBy network broken ups time befell old new before after → (y : AtPort) → IsIn y (filter_map at_port after) ↔ IsIn y (filter_map at_port before)
   ports_settled [] old new before after so y = (
-    λ there. subst (λ (l : List (Entry Content)). IsIn y (filter_map at_port l)) so.1 there,
-    λ there. subst (λ (l : List (Entry Content)). IsIn y (filter_map at_port l)) (sym so.1) there,
+    λ there. rw so.1 at there,
+    λ there. rw so.1 there,
   )
   ports_settled (b ∷ befell) old new before after (mid, between, one, put, rest) y =
       let more = ports_settled befell mid new between after rest y in

@@ -2,21 +2,20 @@
 use Rattle.{net_plan.proofs.SameIds.same_device, run_law.specs.machines.Nodes.Node, std.{proofs.lemmas.Bool.{cases_eq, ne_eqb}, specs.List.slice_get}}
 use Rattle.{net_plan.specs.declared.event.What.TheVariants.{Break, On}, std.proofs.lemmas.Option.{get_or_from_slice_get, slice_get-get_or, slice_get_within}}
 use Rattle.{net_plan.specs.declared.{event.What.What, ids.DeviceId.DeviceId, network.Network.Network}, std.proofs.lemmas.List.{get_or-set_other, length-set}}
-use Rattle.{run_law.specs.machines.Answers.node_turned_on, tte_units.proofs.general_lemmas.Lists.set_same, world_law.specs.world.Outcomes.befallen_node}
+use Rattle.{tte_units.proofs.general_lemmas.Lists.set_same, world_law.specs.world.Outcomes.befallen_node}
 use Rattle.sync_state.specs.declared.state.State.TheVariants.{Off}
-use Rattle.std.{proofs.Common.{◌&&◌, ◌<◌, ◌∙◌, ◌≡◌, ◌≢◌, Bool, List, Some, ap, arith, inl, inr, length, not, set, subst, sym, ℕ}, specs.Prelude.if◌then◌else◌}
+use Rattle.std.{proofs.Common.{◌<◌, ◌∙◌, ◌≡◌, ◌≢◌, Bool, List, Some, ap, arith, inl, inr, length, not, set, subst, sym, ℕ}}
 use Rattle.world_state.specs.Keeping.{Meaning}
 
 pub set_there : {X : Type 0} (xs : List X) (i j : ℕ) (x : X) {y : X} → j ≢ i → slice_get xs j ≡ Some y → slice_get (set xs i x) j ≡ Some y
 set_there xs i j x {y} apart found =
-    slice_get-get_or (set xs i x) j y (let lt = slice_get_within xs j y found in omega (arith, lt, length-set xs i x))
+    slice_get-get_or (set xs i x) j y (let lt = slice_get_within xs j y found in omega (arith, length-set xs i x))
     ∙ ap Some (get_or-set_other xs i j x y apart ∙ get_or_from_slice_get xs j y y found)
 
 module _ (other : DeviceId) (turned : Bool) (device : DeviceId) (node : Node) (apart : device.0 ≢ other.0) where
   -- another device is as it was
   pub on_other : befallen_node turned (On other) device node ≡ node
-  on_other = ap (λ (b : Bool). if b && not node.broken then node_turned_on node else node)
-      (ne_eqb device.0 other.0 apart)
+  on_other = rw (ne_eqb device.0 other.0 apart)
 
   pub break_other : befallen_node turned (Break other) device node ≡ node
   break_other = grind (arith, not, ne_eqb)
@@ -33,7 +32,7 @@ one_befalls keeps what at machines after within others network device {machine} 
     elim (cases_eq device.0 at.0) [
       | inl same ↦ (
         after,
-        subst (λ (n : ℕ). slice_get (set machines at.0 after) n ≡ Some after) (sym same) (set_same machines at.0 after within),
+        rw same (set_same machines at.0 after within),
         own
             (same_device device at same),
       )

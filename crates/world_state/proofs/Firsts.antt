@@ -1,6 +1,6 @@
 -- Of what is under way one place is first.
 use Rattle.{run_law.proofs.runs.Places.either_way, std.specs.List.Sorted.IsPermutation, world_state.specs.declared.queue.Entry.Entry}
-use Rattle.{std.proofs.Common.{◌∷◌, ◌≡◌, List, arith, get_or, subst}, world_state.specs.{declared.queue.DueAt.DueAt, queue.Places.{IsFirst, numbers_of}}}
+use Rattle.{std.proofs.Common.{◌∷◌, ◌≡◌, List, arith, get_or}, world_state.specs.{declared.queue.DueAt.DueAt, queue.Places.{IsFirst, numbers_of}}}
 
 -- a place is known by its numbers
 pub by_numbers : (p q : DueAt) → numbers_of p ≡ numbers_of q → p ≡ q
@@ -13,5 +13,4 @@ one_first a b = grind (arith, either_way, by_numbers)
 pub in_words : {T : Type 0} (old new : List (Entry T)) (e : Entry T) {p : DueAt} {k : T} → e.place ≡ p → e.content ≡ k → IsPermutation old (e ∷ new)
     → IsPermutation old (record { place = p; content = k } ∷ new)
 in_words {T} old new e {k} place content same =
-    subst (λ (q : DueAt). IsPermutation old (record { place = q; content = k } ∷ new)) place
-    (subst (λ (c : T). IsPermutation old (record { place = e.place; content = c } ∷ new)) content same)
+    rw place at (rw content at same)

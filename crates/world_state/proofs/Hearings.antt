@@ -4,7 +4,7 @@ use Rattle.{run_law.specs.machines.Calls.{MayHear, StandsFor}, tte_units.specs.d
 use Rattle.{net_plan.specs.declared.ids.{LinkId.LinkId, VlId.VlId}, run_law.specs.declared.steps.Moment.Moment, world_state.proofs.Made.{made_signal, made_size}}
 use Rattle.{net_plan.specs.declared.network.Network.Network, world_state.specs.{Hearing.{AreOctetsOf, MayCome}, declared.contents.Timed.TheVariants.Made}}
 use Rattle.{device_rules.specs.Reading.MayHearSome, pcf_codec.specs.Spelling.Spells, std.specs.Prelude.Ok}
-use Rattle.{run_law.specs.control.Wires.{Signal, control, signal_of, timed}, std.proofs.Common.{◌∙◌, ◌≡◌, ◌≤◌, List, ap, arith, eq-eqb, length, refl, subst, sym, ℕ}}
+use Rattle.{run_law.specs.control.Wires.{Signal, control, signal_of, timed}, std.proofs.Common.{◌∙◌, ◌≡◌, ◌≤◌, List, ap, arith, eq-eqb, length, refl, ℕ}}
 use Rattle.run_law.specs.{declared.steps.Arrival.Arrival, machines.{Answers.{after_arrival, called}, Nodes.arriving}}
 use Rattle.run_law.specs.declared.steps.Arrival.TheVariants as arrivals
 use Rattle.world_state.specs.Keeping.{Meaning}
@@ -36,8 +36,8 @@ made_are {network} vl cycle {octets} range is =
     let size = made_size vl cycle range in
     record {
       is = ap signal_of is ∙ made_signal vl cycle range;
-      least = subst (λ o. 60 ≤ length o) (sym is) size.0;
-      most = subst (λ o. length o ≤ 1514) (sym is) size.1;
+      least = rw is size.0;
+      most = rw is size.1;
     }
 
 -- octets that were sent as a frame of the schedule

@@ -1,11 +1,11 @@
 -- The frames that senders make, on the wire.
-use Rattle.device_rules.{proofs.frames_lemmas.Made.{head_length, made_is}, specs.{Headings.heading_of, frames.Made.head_of}}
+use Rattle.device_rules.{proofs.frames_lemmas.Made.{made_is}, specs.{Headings.heading_of, frames.Made.head_of}}
 use Rattle.std.proofs.lemmas.List.{length-replicate}
-use Rattle.{net_plan.specs.Padding.padded, run_law.specs.{control.Wires.{control, signal_of, timed}, records.Frames.{tt_frame, tt_frame_by}}}
+use Rattle.{net_plan.specs.Padding.padded, run_law.specs.{control.Wires.{signal_of, timed}, records.Frames.{tt_frame, tt_frame_by}}}
 use Rattle.{net_plan.specs.{Ranges.{IsInRange, IsVlInRange}, declared.ids.VlId.VlId}, tte_units.proofs.general_lemmas.Lists.in_all}
 use Rattle.{net_plan.specs.declared.{network.Network.Network, tables.VirtualLink.VirtualLink}, world_state.specs.declared.contents.Timed.TheVariants.Made}
-use Rattle.{pcf_codec.{proofs.Numbers.read_behind, specs.EtherType.pcf_type}, std.{proofs.Common.{slice_get, sym, ℕ}, specs.Prelude.{Bool, if◌then◌else◌}}}
-use Rattle.{pcf_codec.specs.{Decoding.decoded, Fields.field}, std.{proofs.lemmas.Bool.ne_eqb, specs.Option.option_map_or}, world_state.specs.Views.octets_of}
+use Rattle.{pcf_codec.{proofs.Numbers.read_behind, specs.EtherType.pcf_type}, std.{proofs.Common.{slice_get, sym, ℕ}}}
+use Rattle.{pcf_codec.specs.{Fields.field}, std.{proofs.lemmas.Bool.ne_eqb, specs.Option.option_map_or}, world_state.specs.Views.octets_of}
 use Rattle.std.proofs.Common.{◌<◌, ◌==◌, ◌^◌, ◌∙◌, ◌≡◌, ◌≤◌, List, None, Option, Some, ap, append_assoc, arith, false, length, length-append, refl, replicate}
 
 -- of a virtual link of the network it is the frame of the law
@@ -20,7 +20,7 @@ type_shown network vl cycle less = grind (arith, replicate, length, length-appen
 
 -- octets with another EtherType are no protocol control frame
 pub plain_signal : (octets : List ℕ) → (field 12 2 octets == pcf_type) ≡ false → signal_of octets ≡ timed octets
-plain_signal octets other = ap (λ (b : Bool). if b then control (decoded octets) else timed octets) other
+plain_signal octets other = rw other
 
 -- so is what a sender makes
 pub made_type : (network : Network) (vl : VlId) (cycle : ℕ) (zeros : List ℕ) → IsInRange network → (field 12 2 zeros == pcf_type) ≡ false
@@ -46,7 +46,7 @@ padded_size size octets fits = grind (arith, length-append, replicate, length, l
 
 sized : (network : Network) (vl : VirtualLink) (cycle : ℕ) → 60 ≤ vl.length → length (tt_frame_by network vl cycle) ≡ vl.length
 sized network vl cycle least =
-    let head = head_length network vl cycle in padded_size vl.length (head_of network vl cycle) (omega (arith, head, least))
+    padded_size vl.length (head_of network vl cycle) (omega arith)
 
 -- what a sender makes has 60 octets to 1,514
 pub made_size : {network : Network} (vl : VlId) (cycle : ℕ) → IsInRange network
@@ -62,7 +62,7 @@ made_size {network} vl cycle range = by (slice_get network.vl vl.0) refl
         let in_range = in_all (IsVlInRange network) network.vl vl.0 v range.vls e in
         let size = sized network v cycle in_range.length_least in
         let least = in_range.length_least in
-        let most = in_range.length_most in (omega (arith, size, least), omega (arith, size, most))
+        let most = in_range.length_most in (omega arith, omega arith)
 
 -- ---- its heading
 

@@ -42,7 +42,7 @@ module _ {network : Network} {ups downs : List WayState} {body : NoteBody} {givi
               | inr rest ↦
                   elim (are.real e rest) [
                     | inl before ↦ inl before
-                    | inr by ↦ let lt = by.1 in inr (by.0, omega (arith, lt), by.2, by.3)
+                    | inr by ↦ inr (by.0, omega arith, by.2, by.3)
                   ]
             ];
         kept = λ e there. in_permuted (entry ∷ mid) new e same (inr (are.kept e there));
@@ -50,7 +50,7 @@ module _ {network : Network} {ups downs : List WayState} {body : NoteBody} {givi
             elim (cases_lt link.0 i) [
               | inl before ↦ in_permuted (entry ∷ mid) new _ same (inr (are.all link before gives))
               | inr here ↦
-                  let own : link.0 ≡ i = omega (arith, lt, here) in
+                  let own : link.0 ≡ i = omega arith in
                   in_permuted (entry ∷ mid) new _ same (inl (ap (entry_at_port network ups downs giving) (link_is link i own)))
             ];
       }
@@ -62,14 +62,14 @@ module _ {network : Network} {ups downs : List WayState} {body : NoteBody} {givi
         real = λ e there.
             elim (are.real e there) [
               | inl before ↦ inl before
-              | inr by ↦ let lt = by.1 in inr (by.0, omega (arith, lt), by.2, by.3)
+              | inr by ↦ inr (by.0, omega arith, by.2, by.3)
             ];
         kept = are.kept;
         all = λ link lt gives.
             elim (cases_lt link.0 i) [
               | inl before ↦ are.all link before gives
-              | inr here ↦ let own : link.0 ≡ i = omega (arith, lt, here) in absurd
-                  (not_given (subst (Gives network body giving.device) (link_is link i own) gives))
+              | inr here ↦ absurd
+                  (not_given (subst (Gives network body giving.device) (link_is link i (omega arith)) gives))
             ];
       }
 
@@ -78,12 +78,12 @@ module _ {network : Network} {ups downs : List WayState} {body : NoteBody} {givi
       → numbers_of d.place ≡ numbers_of (place_at_port network ups downs giving (record { 0 = i })) → ⊥
   apart_from below d there same =
       let at : (k : ℕ) → get_or (numbers_of d.place) k 0 ≡ get_or (numbers_of (place_at_port network ups downs giving (record { 0 = i }))) k 0
-      = λ k. ap (λ (l : List ℕ). get_or l k 0) same in
+      = λ k. ap (λ l. get_or l k 0) same in
       elim (are.real d there) [
-        | inl before ↦ let lt = below d before in let e : d.place.cause ≡ giving.number = at 4 in omega (arith, lt, e)
+        | inl before ↦ let lt = below d before in let e = at 4 in omega arith
         | inr by ↦
             let lt = by.1 in
-            let e : d.place.link ≡ i = at 3 in
-            let own : d.place.link ≡ by.0.0 = ap (λ (x : Entry Content). x.place.link) by.3 in
-            omega (arith, lt, e, own)
+            let e = at 3 in
+            let own : d.place.link ≡ by.0.0 = rw by.3 in
+            omega arith
       ]

@@ -3,8 +3,8 @@ use Rattle.{net_plan.specs.declared.ids.DeviceId.DeviceId, world_state.specs.{Ri
 use Rattle.{run_law.proofs.records.Members.{from_map, in_map as is_mapped}, world_state.specs.queue.Places.{IsFirst, first_entry, numbers_of}}
 use Rattle.{run_law.proofs.runs.Places.{in_left, in_parts, in_right}, std.specs.{List.Sorted.IsPermutation, Prelude.{IfSome, MatchOption, if◌then◌else◌}}}
 use Rattle.{run_law.specs.records.Order.{IsBefore, IsIn}, std.proofs.lemmas.{Bool.{both_ways, cases_lt}, Int.ints, Option.slice_get_within}}
-use Rattle.std.proofs.Common.{◌++◌, ◌<◌, ◌∙◌, ◌∷◌, ◌≡◌, ◌≤ℤ◌, Bool, List, None, Option, Some, [], ap, arith, false, inl, inr, is_some, length, map, not}
-use Rattle.std.{proofs.Common.{pos, refl, slice_get, slice_set, subst, suc, sym, true, zero, ℕ}, specs.Option.{option_and_then, option_map, option_map_or}}
+use Rattle.std.proofs.Common.{◌++◌, ◌<◌, ◌∙◌, ◌∷◌, ◌≡◌, Bool, List, None, Option, Some, [], ap, arith, false, inl, inr, is_some, length, map, not}
+use Rattle.std.{proofs.Common.{refl, slice_get, slice_set, subst, suc, sym, true, zero, ℕ}, specs.Option.{option_and_then, option_map, option_map_or}}
 use Rattle.std.proofs.lemmas.List.Sorted.{IsPermutation-append_left, IsPermutation-append_right, IsPermutation-middle, IsPermutation-sym, IsPermutation-trans}
 use Rattle.{world_law.proofs.giving.GivenParts.some_same, world_state.specs.{Timing.IsLeastPoint, queue.Queues.Queue}}
 use Rattle.world_state.proofs.Swaps.{push_cases, set_cases}
@@ -22,7 +22,7 @@ one_more_in [] k was is w at more = absurd cc
 one_more_in (q ∷ queues) zero was is w at more =
     let same : q ≡ was = cc in
     IsPermutation-append_left (frames_in queues) (w ∷ frames_of q) (frames_of is)
-    (subst (λ x. IsPermutation (w ∷ frames_of x) (frames_of is)) (sym same) more)
+    (rw same more)
 one_more_in (q ∷ queues) (suc k) was is w at more =
     IsPermutation-trans _ _ _ (IsPermutation-sym _ _ (IsPermutation-middle (frames_of q) w (frames_in queues)))
     (IsPermutation-append_right (frames_of q) _ _ (one_more_in queues k was is w at more))
@@ -34,7 +34,7 @@ one_fewer_in [] k was is w at fewer = absurd cc
 one_fewer_in (q ∷ queues) zero was is w at fewer =
     let same : q ≡ was = cc in
     IsPermutation-append_left (frames_in queues) (frames_of q) (w ∷ frames_of is)
-    (subst (λ x. IsPermutation (frames_of x) (w ∷ frames_of is)) (sym same) fewer)
+    (rw same fewer)
 one_fewer_in (q ∷ queues) (suc k) was is w at fewer =
     IsPermutation-trans _ _ _ (IsPermutation-append_right (frames_of q) _ _ (one_fewer_in queues k was is w at fewer))
     (IsPermutation-middle (frames_of q) w (frames_in (slice_set queues k is)))
@@ -45,13 +45,13 @@ pub same_in : (queues : List (Queue Waits)) (k : ℕ) (was is : Queue Waits) →
 same_in [] k was is at same = absurd cc
 same_in (q ∷ queues) zero was is at same =
     let one : q ≡ was = cc in
-    ap (λ (l : List Waits). l ++ frames_in queues) (ap (map content_of) same ∙ ap frames_of (sym one))
-same_in (q ∷ queues) (suc k) was is at same = ap (λ (l : List Waits). frames_of q ++ l) (same_in queues k was is at same)
+    ap (λ l. l ++ frames_in queues) (ap (map content_of) same ∙ ap frames_of (sym one))
+same_in (q ∷ queues) (suc k) was is at same = rw (same_in queues k was is at same)
 
 -- and an empty queue behind them adds none
 pub none_behind : (queues : List (Queue Waits)) (q : Queue Waits) → q.entries ≡ [] → frames_in (queues ++ q ∷ []) ≡ frames_in queues
-none_behind [] q empty = ap (λ (l : List (Entry Waits)). map content_of l ++ []) empty
-none_behind (r ∷ queues) q empty = ap (λ (l : List Waits). frames_of r ++ l) (none_behind queues q empty)
+none_behind [] q empty = rw empty
+none_behind (r ∷ queues) q empty = rw (none_behind queues q empty)
 
 -- ---- what is in them
 
@@ -75,13 +75,13 @@ of_queue (r ∷ queues) (suc k) {q} e at there = in_right e.content (frames_of r
 -- of one device's frames the earlier one has the earlier place
 earlier : (v w : Waits) → v.device.0 ≡ w.device.0 → IsBefore (ripe_numbers v) (ripe_numbers w)
     → IsBefore (numbers_of (queue_place v)) (numbers_of (queue_place w))
-earlier v w same (inl lt) = absurd (omega (arith, lt, same))
+earlier v w same (inl lt) = absurd (omega arith)
 earlier v w same (inr (e, inl lt)) = inl lt
 earlier v w same (inr (e, inr (f, rest))) = inr (f, inr (refl, rest))
 
 first_in : (entries : List (Entry Waits)) {e : Entry Waits} → first_entry entries ≡ Some e → IsIn e entries
 first_in [] is = absurd cc
-first_in (x ∷ entries) {e} is = let same : x ≡ e = cc in inl (sym same)
+first_in (x ∷ entries) {e} is = inl (sym cc)
 
 module _ (queues : List (Queue Waits)) (queued : AreQueued queues) (k : ℕ) where
   first_at : (q : Queue Waits) (o : Option (Entry Waits)) → slice_get queues k ≡ Some q → first_entry q.entries ≡ o → IfSome o (λ e. IsFirst q.entries e.place)
@@ -89,9 +89,9 @@ module _ (queues : List (Queue Waits)) (queued : AreQueued queues) (k : ℕ) whe
   first_at q None at is first = λ v there own.
       let from = in_queue queues v there in
       let its = queued from.0 from.1 from.2 from.3 from.4 in
-      let device : from.0 ≡ k = sym its.own ∙ sym (ap (λ (x : Waits). x.device.0) from.5) ∙ own in
-      let same : from.1 ≡ q = some_same from.1 q _ from.3 (ap (slice_get queues) device ∙ at) in
-      no_first q.entries from.2 is (subst (λ (x : Queue Waits). IsIn from.2 x.entries) same from.4)
+      let device : from.0 ≡ k = sym its.own ∙ sym (ap (λ x. x.device.0) from.5) ∙ own in
+      let same = some_same from.1 q _ from.3 (ap (slice_get queues) device ∙ at) in
+      no_first q.entries from.2 is (rw same at from.4)
     where
       no_first : (entries : List (Entry Waits)) (e : Entry Waits) → first_entry entries ≡ None → IsIn e entries → ⊥
       no_first [] e is there = there
@@ -104,17 +104,15 @@ module _ (queues : List (Queue Waits)) (queued : AreQueued queues) (k : ℕ) whe
         own = its.own;
         begun = λ v inside own.
             let from = in_queue queues v inside in
-            subst (λ (x : Waits). pos 0 ≤ℤ x.point.0) (sym from.5) (queued from.0 from.1 from.2 from.3 from.4).begun;
+            rw from.5 (queued from.0 from.1 from.2 from.3 from.4).begun;
         none = λ v inside own before.
             let from = in_queue queues v inside in
             let hers = queued from.0 from.1 from.2 from.3 from.4 in
-            let device : from.0 ≡ k = sym hers.own ∙ sym (ap (λ (x : Waits). x.device.0) from.5) ∙ own in
-            let same : from.1 ≡ q = some_same from.1 q _ from.3 (ap (slice_get queues) device ∙ at) in
-            let place : from.2.place ≡ queue_place v = hers.place ∙ ap queue_place (sym from.5) in
-            first.none from.2 (subst (λ (x : Queue Waits). IsIn from.2 x.entries) same from.4)
-            (subst (λ p. IsBefore (numbers_of p) (numbers_of e.place)) (sym place)
-            (subst (λ p. IsBefore (numbers_of (queue_place v)) (numbers_of p)) (sym its.place)
-            (earlier v e.content (own ∙ sym its.own) before)));
+            let device : from.0 ≡ k = sym hers.own ∙ sym (ap (λ x. x.device.0) from.5) ∙ own in
+            let same = some_same from.1 q _ from.3 (ap (slice_get queues) device ∙ at) in
+            let place = hers.place ∙ ap queue_place (sym from.5) in
+            first.none from.2 (rw same at from.4)
+            (rw place (rw its.place (earlier v e.content (own ∙ sym its.own) before)));
       }
 
   pub first_of_queue : {q : Queue Waits} → slice_get queues k ≡ Some q → IfSome (first_entry q.entries) (λ e. IsFirst q.entries e.place)
@@ -126,7 +124,7 @@ module _ (queues : List (Queue Waits)) (queued : AreQueued queues) (k : ℕ) whe
   no_queue none v there own =
       let from = in_queue queues v there in
       let its = queued from.0 from.1 from.2 from.3 from.4 in
-      let device : from.0 ≡ k = sym its.own ∙ sym (ap (λ (x : Waits). x.device.0) from.5) ∙ own in
+      let device : from.0 ≡ k = sym its.own ∙ sym (ap (λ x. x.device.0) from.5) ∙ own in
       absurd (some_none (sym from.3 ∙ ap (slice_get queues) device ∙ none))
     where
       some_none : {X : Type 0} {x : X} → Some x ≡ None → ⊥
@@ -138,7 +136,7 @@ pub set_queued : (queues : List (Queue Waits)) (k : ℕ) (is : Queue Waits) → 
     → ((e : Entry Waits) → IsIn e is.entries → IsQueued k e) → AreQueued (slice_set queues k is)
 set_queued queues k is queued all i q e there inside =
     elim (set_cases queues i k is q there) [
-      | inl same ↦ subst (λ n. IsQueued n e) (sym same.0) (all e (subst (λ (x : Queue Waits). IsIn e x.entries) same.1 inside))
+      | inl same ↦ rw same.0 (all e (rw same.1 at inside))
       | inr other ↦ queued i q e other inside
     ]
 
@@ -157,8 +155,8 @@ has_first queues k None is some = absurd (both_ways _ refl some)
 has_first queues k (Some q) is some = slice_get_within queues k q is
 
 pub has_room : (queues : List (Queue Waits)) (k : ℕ) (o : Option (Queue Waits)) → slice_get queues k ≡ o
-    → 0 < option_map_or (λ (q : Queue Waits). q.room) o 0 → k < length queues
-has_room queues k None is room = absurd (omega (arith, room))
+    → 0 < option_map_or (λ q. q.room) o 0 → k < length queues
+has_room queues k None is room = absurd (omega arith)
 has_room queues k (Some q) is room = slice_get_within queues k q is
 
 -- ---- which are reached, and the least point

@@ -1,6 +1,6 @@
 -- A list with another element at a place, with one more at its end, and without an element.
 use Rattle.{run_law.specs.records.Order.IsIn, std.specs.List.Sorted.IsPermutation, world_law.specs.world.Calls.IsSet}
-use Rattle.std.proofs.Common.{◌++◌, ◌<◌, ◌∷◌, ◌≡◌, ◌⊎◌, List, Some, [], ap, inl, inr, length, refl, slice_get, slice_set}
+use Rattle.std.proofs.Common.{◌++◌, ◌<◌, ◌∷◌, ◌≡◌, ◌⊎◌, List, Some, [], inl, inr, length, refl, slice_get, slice_set}
 use Rattle.std.proofs.Common.{suc, zero, ℕ}
 use Rattle.world_state.proofs.queue_lemmas.Bags.{in_permuted}
 use Rattle.{std.proofs.lemmas.List.Sorted.IsPermutation-sym, tte_units.proofs.general_lemmas.Lists.{set_aside, set_same as set_there}}
@@ -16,7 +16,7 @@ set_cases (x ∷ xs) zero zero is q there = inl (refl, cc)
 set_cases (x ∷ xs) (suc i) zero is q there = inr there
 set_cases (x ∷ xs) zero (suc k) is q there = inr there
 set_cases (x ∷ xs) (suc i) (suc k) is q there =
-    elim (set_cases xs i k is q there) [ inl s ↦ inl (ap (λ n. suc n) s.0, s.1) | inr o ↦ inr o ]
+    elim (set_cases xs i k is q there) [ inl s ↦ inl (rw s.0, s.1) | inr o ↦ inr o ]
 
 -- with one more at the end, it stood there, or is that one
 pub push_cases : {X : Type 0} (xs : List X) (i : ℕ) (x : X) {y : X} → slice_get (xs ++ x ∷ []) i ≡ Some y

@@ -1,7 +1,7 @@
 -- What is under way without the first, and with one more.
 use Rattle.{net_plan.specs.declared.network.Network.Network, run_law.proofs.records.Order.{given_of, is_given}, tte_units.proofs.general_lemmas.Lists.differ}
 use Rattle.{run_law.specs.records.Order.IsIn, std.{proofs.lemmas.Option.same_Some, specs.{Prelude.◌↔◌, Str.bytes_eq}}, world_law.specs.world.Moves.IsWithout}
-use Rattle.std.proofs.{Common.{◌<◌, ◌∙◌, ◌∷◌, ◌≡◌, List, None, Some, [], ap, false, inl, inr, length, map, refl, subst, sym, ℕ}, lemmas.Bool.false_from_ne_true}
+use Rattle.std.proofs.{Common.{◌<◌, ◌∙◌, ◌∷◌, ◌≡◌, List, None, Some, [], ap, false, inl, inr, length, map, refl, sym, ℕ}, lemmas.Bool.false_from_ne_true}
 use Rattle.{std.{proofs.lemmas.Cmp.nat_list_eq_equiv, specs.List.Sorted.IsPermutation}, world_state.specs.{declared.queue.Entry.Entry, queue.Places.numbers_of}}
 use Rattle.{std.proofs.lemmas.List.Sorted.{IsPermutation-map, IsPermutation-sym}, world_law.specs.world.World.{AtPort, OnWire, port_place, wire_place}}
 use Rattle.std.proofs.lemmas.{Map.Keys.{IsDistinct-IsPermutation, IsDistinct-cons, IsDistinct-head, IsDistinct-tail}, Slice.Eq.bytes_eq-Decides}
@@ -16,14 +16,14 @@ pub port_numbers : (place : DueAt) (content : Content) (x : AtPort) → port_at 
     → port_place x ≡ numbers_of place
 port_numbers place (Wire signal) x is kind = absurd cc
 port_numbers place (Port frame given) x is kind =
-    ap port_place (sym (same_Some _ _ is)) ∙ ap (λ (r : ℕ). place.at ∷ r ∷ place.device ∷ place.link ∷ place.cause ∷ []) (sym kind)
+    ap port_place (sym (same_Some _ _ is)) ∙ (rw (sym kind))
 
 -- and of what is on a wire
 pub wire_numbers : (network : Network) (place : DueAt) (content : Content) (x : OnWire) → wire_at network place content ≡ Some x
     → place.rank ≡ rank_of content → wire_place x ≡ numbers_of place
 wire_numbers network place (Port frame given) x is kind = absurd cc
 wire_numbers network place (Wire signal) x is kind =
-    ap wire_place (sym (same_Some _ _ is)) ∙ ap (λ (r : ℕ). place.at ∷ r ∷ place.device ∷ place.link ∷ place.cause ∷ []) (sym kind)
+    ap wire_place (sym (same_Some _ _ is)) ∙ (rw (sym kind))
 
 all_numbers : (k : List ℕ) (es : List (Entry Content)) → AllByRecursion (λ y. bytes_eq k y ≡ false) (map place_numbers es) → (e : Entry Content) → IsIn e es
     → numbers_of e.place ≡ k → ⊥
@@ -75,7 +75,7 @@ module _ (network : Network) (old new : List (Entry Content)) (taken : Entry Con
       λ there.
           let of = given_of (on_wire network) old y there in
           elim (in_permuted _ _ of.0 same of.1) [
-            | inl e ↦ let no_wire : Some y ≡ None = sym of.2 ∙ ap (on_wire network) e ∙ none in absurd cc
+            | inl e ↦ absurd cc
             | inr rest ↦ is_given (on_wire network) new of.0 y rest of.2
           ],
     )
@@ -106,7 +106,7 @@ module _ (network : Network) (old new : List (Entry Content)) (taken : Entry Con
       λ there.
           let of = given_of at_port old y there in
           elim (in_permuted _ _ of.0 same of.1) [
-            | inl e ↦ let no_port : Some y ≡ None = sym of.2 ∙ ap at_port e ∙ none in absurd cc
+            | inl e ↦ absurd cc
             | inr rest ↦ is_given at_port new of.0 y rest of.2
           ],
     )
@@ -130,12 +130,12 @@ sound_with network old new e are same kind device link apart =
     record {
       kinds = λ d there.
           elim (back d there) [
-            | inl is ↦ subst (λ (x : Entry Content). x.place.rank ≡ rank_of x.content) (sym is) kind
+            | inl is ↦ rw is kind
             | inr rest ↦ are.kinds d rest
           ];
       placed = λ d there.
           elim (back d there) [
-            | inl is ↦ subst (λ (x : Entry Content). (x.place.device < length network.device) × (x.place.link < length network.link)) (sym is) (device, link)
+            | inl is ↦ rw is (device, link)
             | inr rest ↦ are.placed d rest
           ];
       apart = IsDistinct-IsPermutation bytes_eq nat_list_eq_equiv.symm _ _ (IsPermutation-map place_numbers _ _ same)

@@ -5,9 +5,9 @@ use Rattle.std.{proofs.lemmas.Bool.{both_ways, eqb-false, ne_eqb}, specs.List.{A
 use Rattle.std.proofs.lemmas.List.Sorted.{Contains-permutation, IsPermutation-map, IsPermutation-refl, IsPermutation-sym, length_permutation}
 
 pub in_contained : {X : Type 0} (xs : List X) (k : ℕ) {x : X} → k < length xs → get_or xs k x ≡ x → IsIn x xs
-in_contained [] k lt e = absurd (omega (arith, lt))
+in_contained [] k lt e = absurd (omega arith)
 in_contained (y ∷ xs) zero lt e = inl (sym e)
-in_contained (y ∷ xs) (suc k) {x} lt e = inr (in_contained xs k (omega (arith, lt)) e)
+in_contained (y ∷ xs) (suc k) {x} lt e = inr (in_contained xs k (omega arith) e)
 
 -- what is in a list is in one with the same elements
 pub in_permuted : {X : Type 0} (xs ys : List X) (x : X) → IsPermutation xs ys → IsIn x xs → IsIn x ys
@@ -29,17 +29,14 @@ module _ {X Y : Type 0} (h : X → Option Y) where
       → filter_map h xs ≡ map (λ x. unwrap_or (h x) d) xs
   as_map d [] some = refl
   as_map d (x ∷ xs) some =
-      ap (λ o. cons_option o (filter_map h xs)) (some_is (h x) d (some x (inl refl)))
-      ∙ ap (λ ys. unwrap_or (h x) d ∷ ys) (as_map d xs (λ y there. some y (inr there)))
+      rw (some_is (h x) d (some x (inl refl)))
+      (rw (as_map d xs (λ y there. some y (inr there))))
 
   by_default : (xs ys : List X) → IsPermutation xs ys → ((x : X) → IsIn x xs → is_some (h x) ≡ true) → Y
       → IsPermutation (filter_map h xs) (filter_map h ys)
   by_default xs ys same some d =
-      let here = as_map d xs some in
       let there = as_map d ys (λ y inside. some y (in_permuted ys xs y (IsPermutation-sym xs ys same) inside)) in
-      subst (λ l. IsPermutation l (filter_map h ys)) (sym here)
-      (subst (λ l. IsPermutation (map (λ x. unwrap_or (h x) d) xs) l) (sym there)
-      (IsPermutation-map (λ x. unwrap_or (h x) d) xs ys same))
+      rw (as_map d xs some) (rw there (IsPermutation-map (λ x. unwrap_or (h x) d) xs ys same))
 
   from_first : (xs ys : List X) (o : Option Y) → is_some o ≡ true
       → (Y → IsPermutation (filter_map h xs) (filter_map h ys)) → IsPermutation (filter_map h xs) (filter_map h ys)
@@ -60,8 +57,8 @@ module _ {X Y : Type 0} (h : X → Option Y) where
 
 pub same_map : {X Y : Type 0} (g h : X → Option Y) (xs : List X) → ((x : X) → IsIn x xs → g x ≡ h x) → filter_map g xs ≡ filter_map h xs
 same_map g h [] same = refl
-same_map g h (x ∷ xs) same = ap (λ o. cons_option o (filter_map g xs)) (same x (inl refl))
-    ∙ ap (cons_option (h x)) (same_map g h xs (λ y there. same y (inr there)))
+same_map g h (x ∷ xs) same = rw (same x (inl refl))
+    (ap (cons_option (h x)) (same_map g h xs (λ y there. same y (inr there))))
 
 -- ---- numbers that differ
 

@@ -2,7 +2,7 @@
 use Rattle.{run_law.proofs.records.Order.{given_of, is_given}, world_state.{proofs.queue_lemmas.Bags.in_contained, specs.declared.queue.Slotted.Slotted}}
 use Rattle.{run_law.{proofs.runs.Places.in_parts, specs.records.Order.IsIn}, std.proofs.{Common.{take, ℕ}, Math.Seq.take-suc, lemmas.List.get_or_default}}
 use Rattle.{slab.specs.Slab.{Slab, get}, std.specs.Prelude.IfSome}
-use Rattle.std.proofs.Common.{◌++◌, ◌+◌, ◌<◌, ◌∙◌, ◌∷◌, ◌≡◌, Bor, List, None, Option, Some, [], ap, arith, get_or, inl, inr, length, refl, subst, suc, sym}
+use Rattle.std.proofs.Common.{◌+◌, ◌<◌, ◌∙◌, ◌∷◌, ◌≡◌, Bor, List, None, Option, Some, [], ap, arith, get_or, inl, inr, length, refl, subst, suc, sym}
 use Rattle.{std.specs.{Option.{option_copied, option_map}, declared.cmp.Reverse.Reverse}, world_state.specs.declared.queue.{DueAt.DueAt, Entry.Entry}}
 use Rattle.world_state.specs.queue.{Finding.{HoldsAt, HoldsNoneAt, IsPlaceFor, IsSlotFor, NoSlotFor}, Queues.{entries_in, entry_at, entry_of}}
 
@@ -16,10 +16,10 @@ pub none_more : (places : List (Reverse Slotted)) (i : ℕ) (d : Reverse Slotted
 none_more places i d rank cause lt other none =
     let one = get_or places i d in
     let next : suc i ≡ i + 1 = omega arith in
-    let more : take i places ++ one ∷ [] ≡ take (i + 1) places = sym (take-suc places i d lt) ∙ ap (λ (k : ℕ). take k places) next in
-    subst (λ l. NoSlotFor l rank cause) more (λ r there fits. elim (in_parts r (take i places) (one ∷ []) there) [
+    let more = sym (take-suc places i d lt) ∙ ap (λ k. take k places) next in
+    rw (sym more) (λ r there fits. elim (in_parts r (take i places) (one ∷ []) there) [
       | inl before ↦ none r before fits
-      | inr (inl same) ↦ other (subst (λ (s : Reverse Slotted). IsPlaceFor rank cause s.0.place) same fits)
+      | inr (inl same) ↦ other (rw same at fits)
       | inr (inr nothing) ↦ absurd nothing
     ])
 
@@ -28,7 +28,7 @@ module _ {T : Type 0} where
   content_is place None is = absurd cc
   content_is place (Some content) {e} is =
       let same : entry_at place content ≡ e = cc in
-      (ap (λ (f : Entry T). Some f.content) same, ap Entry.place same)
+      (ap (λ f. Some f.content) same, ap Entry.place same)
 
   -- what a slot of the place has is due there
   pub holds_at : (s : Slab T) {items : List (Reverse Slotted)} {rank cause slot : ℕ} {content : T} → IsSlotFor items rank cause slot
@@ -47,8 +47,7 @@ module _ {T : Type 0} where
   pub holds_none : (s : Slab T) (items : List (Reverse Slotted)) (rank cause : ℕ) → NoSlotFor items rank cause → HoldsNoneAt (entries_in s items) rank cause
   holds_none s items rank cause none e there fits =
       let of = given_of (entry_of s) items e there in
-      let place = (content_is of.0.0.place (get s of.0.0.slot) of.2).1 in
-      none of.0 of.1 (subst (IsPlaceFor rank cause) (sym place) fits)
+      none of.0 of.1 (subst (IsPlaceFor rank cause) (sym ((content_is of.0.0.place (get s of.0.0.slot) of.2).1)) fits)
 
   -- what a slab gives of the slot is due there
   pub found_in : (s : Slab T) {items : List (Reverse Slotted)} {rank cause slot : ℕ} → IsSlotFor items rank cause slot → (o : Option (Bor T))

@@ -12,17 +12,18 @@ module _ {T : Type 0} where
   -- the first of what is due is what is due at the top
   pub head_is : {s : Slab T} (items : List (Reverse Slotted)) {top : Reverse Slotted} → IsSound s items → 0 < length items → top ≡ get_or items 0 top
       → first_entry (entries_in s items) ≡ entry_of s top
-  head_is [] sound lt is = absurd (omega (arith, lt))
+  head_is [] sound lt is = absurd (omega arith)
   head_is {s} (x ∷ items) sound lt is = head_of (entry_of s x) (entries_in s items) (some_entry s x (sound.filled x (inl refl))) ∙ ap (entry_of s) (sym is)
 
   if_head : {entries : List (Entry T)} (o : Option (Entry T)) {place : DueAt} → first_entry entries ≡ o → IsFirst entries place
-      → option_map (λ (e : Entry T). e.place) o ≡ Some place → IfSome (first_entry entries) (λ e. IsFirst entries e.place)
+      → option_map (λ e. e.place) o ≡ Some place → IfSome (first_entry entries) (λ e. IsFirst entries e.place)
   if_head None is first same = absurd cc
   if_head {entries} (Some e) {place} is first same =
       let at : place ≡ e.place = cc in
-      subst (λ (o : Option (Entry T)). IfSome o (λ e. IsFirst entries e.place)) (sym is) (subst (IsFirst entries) at first)
+      rw is (subst (IsFirst entries) at first)
 
-  place_mapped : (place : DueAt) (o : Option T) → is_some o ≡ true → option_map (λ (e : Entry T). e.place) (option_map (entry_at place) o) ≡ Some place
+  place_mapped : (place : DueAt) (o : Option T) → is_some o ≡ true → option_map (λ e. e.place)
+      (option_map (entry_at place) o) ≡ Some place
   place_mapped place None some = absurd (both_ways _ refl some)
   place_mapped place (Some content) some = refl
 

@@ -1,20 +1,20 @@
 -- What is before another place compares as less.
-use Rattle.std.proofs.{Common.{◌<◌, ◌==◌, ◌∙◌, ◌≡◌, ◌⊎◌, Bool, ap, arith, cond, false, inl, inr, ℕ}, lemmas.Bool.{both_ways, eq-eqb, le-ltb, lt-ltb}}
-use Rattle.std.specs.{Ordering.{is_lt, nat_cmp, ordering_then}, declared.cmp.{Ordering.{Ordering, TheVariants.{Equal, Greater, Less}}, Reverse.Reverse}}
+use Rattle.std.proofs.{Common.{◌<◌, ◌≡◌, ◌⊎◌, arith, false, inl, inr, ℕ}, lemmas.Bool.{both_ways, eq-eqb, le-ltb, lt-ltb}}
+use Rattle.std.specs.{Ordering.{is_lt, nat_cmp, ordering_then}, declared.cmp.{Ordering.{Ordering, TheVariants.{Equal, Less}}, Reverse.Reverse}}
 use Rattle.run_law.specs.records.Order.{IsBefore}
 use Rattle.world_state.specs.{queue.Places.numbers_of, queue.Queues.{compared, reversed}, declared.queue.{DueAt.DueAt, Slotted.Slotted}}
 
 less : (x y : ℕ) → x < y → nat_cmp x y ≡ Less
-less x y lt = ap (λ (b : Bool). cond b Less (cond (x == y) Equal Greater)) (lt-ltb x y lt)
+less x y lt = rw (lt-ltb x y lt)
 
 equal : (x y : ℕ) → x ≡ y → nat_cmp x y ≡ Equal
-equal x y e = ap (λ (b : Bool). cond b Less (cond (x == y) Equal Greater)) (le-ltb x y (omega (arith, e)))
-    ∙ ap (λ (b : Bool). cond b Equal Greater) (eq-eqb x y e)
+equal x y e = rw (le-ltb x y (omega arith))
+    (rw (eq-eqb x y e))
 
 -- by the first number, or by the others
 then_less : (x y : ℕ) (more : Ordering) (P : Type 0) → (x < y) ⊎ ((x ≡ y) × P) → (P → more ≡ Less) → ordering_then (nat_cmp x y) more ≡ Less
-then_less x y more P (inl lt) rest = ap (λ (o : Ordering). ordering_then o more) (less x y lt)
-then_less x y more P (inr h) rest = ap (λ (o : Ordering). ordering_then o more) (equal x y h.0) ∙ rest h.1
+then_less x y more P (inl lt) rest = rw (less x y lt)
+then_less x y more P (inr h) rest = rw (equal x y h.0) (rest h.1)
 
 last_less : (x y : ℕ) → (x < y) ⊎ ((x ≡ y) × ⊥) → nat_cmp x y ≡ Less
 last_less x y (inl lt) = less x y lt
@@ -27,4 +27,4 @@ before_is_less p q b =
 
 -- what the first is not less than is not before it
 pub not_before : (x y : Reverse Slotted) → is_lt (reversed x y) ≡ false → IsBefore (numbers_of y.0.place) (numbers_of x.0.place) → ⊥
-not_before x y late b = both_ways _ late (ap (λ (o : Ordering). is_lt (ordering_then o (nat_cmp y.0.slot x.0.slot))) (before_is_less y.0.place x.0.place b))
+not_before x y late b = both_ways _ late (rw (before_is_less y.0.place x.0.place b))

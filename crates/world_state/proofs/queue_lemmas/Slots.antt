@@ -1,12 +1,12 @@
 -- Places in a heap with their slots: one is put in, and the first is taken out.
 use Rattle.{run_law.proofs.records.Order.{given_of, is_given}, tte_units.proofs.general_lemmas.Naturals.flips, world_state.specs.declared.queue.DueAt.DueAt}
-use Rattle.{run_law.specs.records.Order.{IsBefore, IsIn}, std.specs.declared.cmp.Reverse.Reverse, world_state.specs.declared.queue.Entry.Entry}
+use Rattle.{run_law.specs.records.Order.{IsIn}, std.specs.declared.cmp.Reverse.Reverse, world_state.specs.declared.queue.Entry.Entry}
 use Rattle.{slab.specs.Slab.{Slab, Updates, get}, std.specs.{List.Sorted.IsPermutation, Option.option_map, Ordering.is_lt}}
-use Rattle.std.proofs.Common.{◌∙◌, ◌∷◌, ◌≡◌, ◌≢◌, List, None, Option, Some, ap, false, inl, inr, is_some, length, map, nat_eq, refl, subst, sym, true, ℕ}
+use Rattle.std.proofs.Common.{◌∙◌, ◌∷◌, ◌≡◌, ◌≢◌, List, None, Option, Some, ap, false, inl, inr, is_some, length, map, nat_eq, refl, sym, true, ℕ}
 use Rattle.std.{proofs.lemmas.{Bool.both_ways, List.Sorted.{IsPermutation-map, IsPermutation-sym}}, specs.BinaryHeap.{IsUpperBound, KeepsHeap, PopsGreatest}}
 use Rattle.std.{proofs.lemmas.Map.Keys.{IsDistinct-IsPermutation, IsDistinct-cons, IsDistinct-head, IsDistinct-tail}, specs.List.{IsDistinct, cons_option}}
 use Rattle.world_state.proofs.queue_lemmas.{Bags.{all_apart, all_in, each_apart, in_permuted, length_map, permuted_map, same_map}, Orders.not_before}
-use Rattle.world_state.specs.{declared.queue.Slotted.Slotted, queue.{Places.{IsFirst, numbers_of}, Queues.{IsSound, entries_in, entry_at, entry_of, reversed}}}
+use Rattle.world_state.specs.{declared.queue.Slotted.Slotted, queue.{Places.{IsFirst}, Queues.{IsSound, entries_in, entry_at, entry_of, reversed}}}
 
 abbrev pub slot_of : Reverse Slotted → ℕ
 slot_of r = r.0.slot
@@ -31,7 +31,7 @@ module _ {T : Type 0} where
   -- the place of an entry is that of its slot
   place_of_entry : (s : Slab T) (r : Reverse Slotted) {e : Entry T} → entry_of s r ≡ Some e → e.place ≡ r.0.place
   unfolding place_or
-  place_of_entry s r is = ap (λ (o : Option (Entry T)). place_or o r.0.place) (sym is) ∙ place_mapped r.0.place (get s r.0.slot)
+  place_of_entry s r is = ap (λ o. place_or o r.0.place) (sym is) ∙ place_mapped r.0.place (get s r.0.slot)
 
   pub length_entries : {s : Slab T} {items : List (Reverse Slotted)} → IsSound s items → length (entries_in s items) ≡ length items
   length_entries {s} {items} sound = length_map (entry_of s) items (λ r there. some_entry s r (sound.filled r there))
@@ -52,7 +52,7 @@ module _ {T : Type 0} where
         none = λ other inside before.
             let of = given_of (entry_of s) items other inside in
             not_before top of.0 (all_in (λ y. is_lt (reversed top y) ≡ false) items bound of.0 of.1)
-            (subst (λ p. IsBefore (numbers_of p) (numbers_of top.0.place)) (place_of_entry s of.0 of.2) before);
+            (rw (place_of_entry s of.0 of.2) at before);
       }
 
   -- ---- one is put in
@@ -64,7 +64,7 @@ module _ {T : Type 0} where
     no_other r there e = both_ways _ (ap is_some (ap (get old) e ∙ vacant)) (sound.filled r there)
 
     still_filled : (r : Reverse Slotted) → IsIn r (record { 0 = record { place = place; slot = slot } } ∷ items) → is_some (get new r.0.slot) ≡ true
-    still_filled r (inl e) = ap is_some (ap (λ (r : Reverse Slotted). get new r.0.slot) e ∙ updates.changed)
+    still_filled r (inl e) = ap is_some (ap (λ r. get new r.0.slot) e ∙ updates.changed)
     still_filled r (inr there) = ap is_some (updates.others r.0.slot (no_other r there)) ∙ sound.filled r there
 
     pub put_is_sound : KeepsHeap reversed items after → IsSound new after
@@ -78,11 +78,11 @@ module _ {T : Type 0} where
 
     pub put_entries : IsPermutation (entry_at place content ∷ entries_in old items) (entries_in new after)
     put_entries =
-        subst (λ (l : List (Entry T)). IsPermutation l (entries_in new after))
-        (ap (λ (o : Option T). cons_option (option_map (entry_at place) o) (entries_in new items)) updates.changed
+        rw (ap (λ (o : Option T). cons_option (option_map (entry_at place) o) (entries_in new items)) updates.changed
         ∙ ap (λ (l : List (Entry T)). entry_at place content ∷ l)
-        (same_map (entry_of new) (entry_of old) items (λ r there. ap (option_map (entry_at r.0.place)) (updates.others r.0.slot (no_other r there)))))
-        (permuted_map (entry_of new) _ after same (λ r there. some_entry new r (still_filled r there)))
+        (same_map (entry_of new) (entry_of old) items (λ r there. ap (option_map (entry_at r.0.place))
+        (updates.others r.0.slot (no_other r there))))) at (permuted_map (entry_of new) _ after same
+        (λ r there. some_entry new r (still_filled r there)))
 
   -- ---- the first is taken out
 
@@ -105,8 +105,8 @@ module _ {T : Type 0} where
 
     pub taken_entries : IsPermutation (entries_in old items) (entry_at top.0.place content ∷ entries_in new after)
     taken_entries =
-        subst (λ (l : List (Entry T)). IsPermutation (entries_in old items) l)
-        (ap (λ (o : Option T). cons_option (option_map (entry_at top.0.place) o) (entries_in old after)) held
+        rw (ap (λ (o : Option T). cons_option (option_map (entry_at top.0.place) o) (entries_in old after)) held
         ∙ ap (λ (l : List (Entry T)). entry_at top.0.place content ∷ l)
-        (same_map (entry_of old) (entry_of new) after (λ r there. ap (option_map (entry_at r.0.place)) (sym (updates.others r.0.slot (others_apart r there))))))
-        (permuted_map (entry_of old) items _ same (λ r there. some_entry old r (sound.filled r there)))
+        (same_map (entry_of old) (entry_of new) after (λ r there. ap (option_map (entry_at r.0.place))
+        (sym (updates.others r.0.slot (others_apart r there)))))) at (permuted_map (entry_of old) items _ same
+        (λ r there. some_entry old r (sound.filled r there)))

@@ -1,7 +1,7 @@
 use Rattle.{drift_clock.specs.RateSteps.RateStep, std.proofs.lemmas.List.Elements.All-set, world_state.{proofs.Befalls.set_there, specs.Applying.clock_after}}
 use Rattle.{net_plan.specs.declared.event.What.TheVariants.Rate, std.proofs.lemmas.{Bool.{cases_eq, eq-eqb, ne_eqb}, Int.ints, Option.get_or_from_slice_get}}
 use Rattle.{net_plan.specs.declared.ids.DeviceId.DeviceId, tte_units.{proofs.general_lemmas.Lists.set_same, specs.declared.{rates.Ppb.Ppb, units.Units.Units}}}
-use Rattle.std.proofs.Common.{◌<◌, ◌∙◌, ◌≡◌, ◌≤ℤ◌, ◌≤◌, Bool, List, None, Some, ap, arith, get_or, if◌then◌else◌, inl, inr, length, pos, set, subst, sym, ℕ, ℤ}
+use Rattle.std.proofs.Common.{◌<◌, ◌∙◌, ◌≡◌, ◌≤ℤ◌, ◌≤◌, Bool, List, None, Some, ap, arith, get_or, if◌then◌else◌, inl, inr, length, pos, set, sym, ℕ, ℤ}
 use Rattle.{std.{proofs.lemmas.List.length-set, specs.{List.slice_get, Option.option_map_or}}, tte_units.specs.Amount.amount}
 use Rattle.world_state.proofs.applying.set_rate.Goals as goal
 
@@ -13,9 +13,9 @@ rated {C} after_step time other rate clocks {was} {after} within value made devi
     let chosen : Bool → C = λ b. option_map_or (λ s. after_step clock s.at s.rate) (if b then Some step else None) clock in
     elim (cases_eq device.0 other.0) [
       | inl same ↦
-          let own : was ≡ clock = value ∙ get_or_from_slice_get clocks other.0 clock was (subst (λ (n : ℕ). slice_get clocks n ≡ Some clock) same found) in
+          let own = value ∙ get_or_from_slice_get clocks other.0 clock was (rw same at found) in
           ap (slice_get (set clocks other.0 after)) same ∙ set_same clocks other.0 after within
-          ∙ ap Some (made ∙ ap (λ x. after_step x (amount time) rate.0) own ∙ sym (ap chosen (eq-eqb device.0 other.0 same)))
+          ∙ ap Some (made ∙ (rw own (sym (ap chosen (eq-eqb device.0 other.0 same)))))
       | inr apart ↦ set_there clocks other.0 device.0 after apart found ∙ ap Some (sym (ap chosen (ne_eqb device.0 other.0 apart)))
     ]
 
@@ -24,8 +24,8 @@ rate-requires g c =
     let at = c.in-Rate.device in
     record {
       stepped =
-          subst (λ x. pos (g.C.Clock.last_step x) ≤ℤ c.args.time.0) (sym c.index_mut.ensures.value)
-          (c.requires.stepped at.0 c.index_mut.result.now (c.requires.there at c.in-Rate.rate c.in-Rate.is));
+          rw c.index_mut.ensures.value (c.requires.stepped at.0 c.index_mut.result.now
+          (c.requires.there at c.in-Rate.rate c.in-Rate.is));
       limit = c.requires.limit;
       magnitude = c.requires.slow at c.in-Rate.rate c.in-Rate.is;
     }
@@ -38,10 +38,11 @@ returns-in-Rate g c =
     let within = c.requires.there at c.in-Rate.rate c.in-Rate.is in
     let before = c.requires.stepped at.0 c.index_mut.result.now within in
     let late : g.C.Clock.last_step after ≤ amount c.args.time =
-    subst (λ x. g.C.Clock.last_step x ≤ amount c.args.time) (sym c.rate.ensures) (g.met.C.Clock.steps_by c.index_mut.result.now _ c.in-Rate.rate.0) in
+    rw c.rate.ensures (g.met.C.Clock.steps_by c.index_mut.result.now _ c.in-Rate.rate.0) in
     record {
       each = λ device clock found.
           rated g.C.Clock.after_step c.args.time at c.in-Rate.rate clocks within c.index_mut.ensures.value c.rate.ensures device found ∙ ap (λ w. Some (clock_after g.C.Clock.after_step device c.args.time w clock)) (sym c.in-Rate.is);
       length = length-set clocks at.0 after;
-      stepped = All-set (λ x. pos (g.C.Clock.last_step x) ≤ℤ c.args.time.0) clocks at.0 after (omega (arith, ints, late, before)) c.requires.stepped;
+      stepped = All-set (λ x. pos (g.C.Clock.last_step x) ≤ℤ c.args.time.0) clocks at.0 after (omega (arith, ints))
+          c.requires.stepped;
     }

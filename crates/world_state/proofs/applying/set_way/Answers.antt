@@ -1,13 +1,13 @@
-use Rattle.{std.proofs.Common.{◌∙◌, ◌≡◌, Some, ap, arith, inl, inr, length, set, subst, sym, ℕ}, world_state.specs.declared.contents.WayState.WayState}
-use Rattle.{std.{proofs.lemmas.Bool.cases_eq, specs.List.slice_get}, world_state.specs.Applying.way_after}
+use Rattle.{std.proofs.Common.{◌∙◌, Some, ap, arith, inl, inr, length, sym}}
+use Rattle.{std.{proofs.lemmas.Bool.cases_eq}}
 use Rattle.{std.proofs.lemmas.Option.get_or_from_slice_get, tte_units.proofs.general_lemmas.Lists.set_same, world_state.proofs.Befalls.set_there}
 use Rattle.world_state.proofs.applying.set_way.Goals as goal
 
 pub index-was-requires : goal.index-was-requires
-index-was-requires c = let len = c.args.ways.now.ok.0 in omega (arith, len, c.in-Some.ensures.there (length c.args.ways.now.items) c.requires)
+index-was-requires c = omega (arith, c.in-Some.ensures.there (length c.args.ways.now.items) c.requires)
 
 pub index_mut-requires : goal.index_mut-requires
-index_mut-requires c = let len = c.args.ways.now.ok.0 in omega (arith, len, c.in-Some.ensures.there (length c.args.ways.now.items) c.requires)
+index_mut-requires c = omega (arith, c.in-Some.ensures.there (length c.args.ways.now.items) c.requires)
 
 pub returns-in-Some-clause-each : goal.returns-in-Some-clause-each
 returns-in-Some-clause-each c = λ link was found.
@@ -16,9 +16,8 @@ returns-in-Some-clause-each c = λ link was found.
     elim (cases_eq link.0 l) [
       | inl same ↦
           let own = c.index-was.ensures ∙ get_or_from_slice_get items l was c.index-was.result.now
-          (subst (λ (n : ℕ). slice_get items n ≡ Some was) same found) in
-          subst (λ (n : ℕ). slice_get (set items l c.way_after.result) n ≡ Some (way_after (record { 0 = n }) c.args.way c.args.what.now was)) (sym same)
-          (set_same items l c.way_after.result (c.in-Some.ensures.there (length items) c.requires)
-          ∙ ap Some (c.way_after.ensures ∙ ap (λ (w : WayState). way_after (record { 0 = l }) c.args.way c.args.what.now w) own))
+          (rw same at found) in
+          rw same (set_same items l c.way_after.result (c.in-Some.ensures.there (length items) c.requires)
+          ∙ ap Some (c.way_after.ensures ∙ (rw own)))
       | inr apart ↦ set_there items l link.0 c.way_after.result apart found ∙ ap Some (sym (c.in-Some.ensures.others link c.args.way was apart))
     ]

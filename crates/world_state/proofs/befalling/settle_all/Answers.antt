@@ -5,22 +5,13 @@ pub loop-index-preserved : goal.loop-index-preserved
 loop-index-preserved c =
     let i = c.loop-index.index in
     let inv = c.loop-index.invariant in
-    let ys = c.loop-index.befell.items in
-    let xs = c.args.befell.now.items in
-    let more = c.loop-index-test.true in
-    let len = c.len-index-end.ensures in
-    let own = c.args.befell.now.ok.0 in
-    let wide = inv.3 in
-    let long = inv.4 in
-    let put_room = c.put_on.ensures.room in
-    let put_len = c.put_some.ensures.len in
-    let put_capacity = c.put_some.ensures.capacity in (
+    let ys = c.loop-index.befell.items in (
       length-set ys i _ ∙ inv.0,
-      λ k d le. get_or-set_other ys i k _ d (λ e. omega (arith, e, le)) ∙ inv.1 k d (omega (arith, le)),
-      loop_step c.args.network.now c.args.broken.now c.args.ups.now c.args.time xs ys i
+      λ k d le. get_or-set_other ys i k _ d (λ e. omega arith) ∙ inv.1 k d (omega arith),
+      loop_step c.args.network.now c.args.broken.now c.args.ups.now c.args.time c.args.befell.now.items ys i
           c.args.settled.now.items c.loop-index.settled.items c.put_some.new.settled.items c.args.under_way.now.entries c.loop-index.under_way.entries
-          c.put_on.new.under_way.entries inv.0 (omega (arith, more, len, own)) inv.1 c.index.ensures
+          c.put_on.new.under_way.entries inv.0 (omega arith) inv.1 c.index.ensures
           c.index_mut.ensures.value c.replace-what.ensures.value inv.2 c.record_of.ensures c.put_some.ensures.is c.entry_of.ensures c.put_on.ensures.put,
-      omega (arith, wide, put_room),
-      omega (arith, long, put_len, put_capacity),
+      omega arith,
+      omega arith,
     )

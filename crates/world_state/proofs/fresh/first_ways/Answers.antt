@@ -1,4 +1,4 @@
-use Rattle.std.proofs.Common.{◌++◌, ◌∙◌, ◌∷◌, ◌≡◌, [], ap, false, rules, ℕ}
+use Rattle.std.proofs.Common.{◌++◌, ◌∙◌, ◌∷◌, ◌≡◌, [], false, rules}
 use Rattle.world_state.{proofs.Mapped.{mapped_all, mapped_push}, specs.{Beginning.first_way, declared.contents.WayState.WayState}}
 use Rattle.world_state.proofs.fresh.first_ways.Goals as goal
 
@@ -8,7 +8,7 @@ loop-link-preserved c =
     let grown : c.push.new.self.items ≡ c.loop-link.ways.items ++ way ∷ [] = search rules in
     grown ∙ mapped_push first_way c.loop-link.link-index
     c.as_slice-link-items.ensures c.loop-link-test.true c.link-item.is c.loop-link.invariant
-    (ap (λ (n : ℕ). record { delay = n; hold = 0; cut = false }) c.amount.ensures.value)
+    (rw c.amount.ensures.value)
 
 pub returns : goal.returns
 returns c =

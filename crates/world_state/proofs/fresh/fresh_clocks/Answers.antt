@@ -1,20 +1,20 @@
-use Rattle.{net_plan.specs.declared.tables.Device.Device, std.proofs.lemmas.List.replicate_more, tte_units.specs.Amount.amount}
-use Rattle.std.proofs.{Common.{◌++◌, ◌∙◌, ◌∷◌, ◌≡◌, ◌≤◌, [], ap, arith, length, replicate, rules, ℕ}, lemmas.List.Elements.{All-replicate, All-same}}
+use Rattle.{std.proofs.lemmas.List.replicate_more, tte_units.specs.Amount.amount}
+use Rattle.std.proofs.{Common.{◌++◌, ◌∙◌, ◌∷◌, ◌≡◌, ◌≤◌, [], ap, arith, length, replicate, rules}, lemmas.List.Elements.{All-replicate, All-same}}
 use Rattle.world_state.proofs.fresh.fresh_clocks.Goals as goal
 
 pub loop-preserved : goal.loop-preserved
 loop-preserved g c =
     let fresh = g.C.Clock.fresh (amount c.args.network.now.grain) in
     let grown : c.push.new.self.items ≡ c.loop.clocks.items ++ c.fresh.result ∷ [] = search rules in
-    grown ∙ ap (λ l. l ++ c.fresh.result ∷ []) c.loop.invariant ∙ ap (λ x. replicate c.loop.index fresh ++ x ∷ []) c.fresh.ensures
-    ∙ replicate_more c.loop.index fresh
+    grown ∙ (rw c.loop.invariant ((rw c.fresh.ensures
+    (replicate_more c.loop.index fresh))))
 
 pub returns-clause-each : goal.returns-clause-each
 returns-clause-each g c =
-    let fresh = g.C.Clock.fresh (amount c.args.network.now.grain) in
-    let same : length c.as_slice-items.result.now ≡ length c.args.network.now.device = ap (λ xs. length {A = Device} xs) c.as_slice-items.ensures in
-    let all : c.loop.index ≡ length c.args.network.now.device = omega (arith, same, c.loop.auto.index-end, c.loop-test.false) in
-    c.loop.invariant ∙ ap (λ (n : ℕ). replicate n fresh) all
+    let same : length c.as_slice-items.result.now ≡ length c.args.network.now.device = rw c.as_slice-items.ensures in
+    let all : c.loop.index ≡ length c.args.network.now.device =
+    omega (arith, c.loop.auto.index-end, c.loop-test.false) in
+    c.loop.invariant ∙ ap (λ n. replicate n (g.C.Clock.fresh (amount c.args.network.now.grain))) all
 
 pub returns-clause-unstepped : goal.returns-clause-unstepped
 returns-clause-unstepped g c =

@@ -1,6 +1,6 @@
-use Rattle.{net_plan.specs.declared.tables.Link.Link, std.proofs.{Common.{◌+◌, ◌≡◌, List, ap, arith, get_or, length, refl, rules, subst, sym}, lemmas.Bool.both_ways}}
+use Rattle.{std.proofs.{Common.{◌≡◌, ap, arith, length, refl, rules}, lemmas.Bool.both_ways}}
 use Rattle.world_state.proofs.{PutTo.{apart_from, given_by_ends, more_put, no_link, none_put, nothing_put}, giving.put_ports.Goals.{else-is_given, then-is_given}}
-use Rattle.world_state.{proofs.UnderWays.sound_with, specs.{Giving.{ArePutTo, entry_at_port}, Sound.AreUnderWay}}
+use Rattle.world_state.{proofs.UnderWays.sound_with, specs.{Giving.{entry_at_port}}}
 use Rattle.world_state.proofs.giving.put_ports.Goals as goal
 
 pub loop-index-preserved : goal.loop-index-preserved
@@ -15,31 +15,29 @@ loop-index-preserved c =
     let link = c.index-links-index.result in
     let links = c.as_slice-links.ensures in
     let within = c.loop-index-test.true in
-    let many : length c.as_slice-links.result.now ≡ length a.network.now.link = ap (λ (l : List Link). length l) links in
-    let here = given_by_ends a.network.now c.ends_of-ends.result a.giving.now.device i (omega (arith, within, many))
-    (subst (λ (l : List Link). link ≡ get_or l i link) links c.index-links-index.is) in
+    let many : length c.as_slice-links.result.now ≡ length a.network.now.link = rw links in
+    let here = given_by_ends a.network.now c.ends_of-ends.result a.giving.now.device i (omega arith)
+    (rw links at c.index-links-index.is) in
     elim c.if-is_given.branch [
       | then-is_given w ↦
           let new = w.put_port.new.under_way.entries in
           let more = w.put_port.ensures.room in
           let then_room = ap (λ q. q.room) w.under_way-is in (
-            omega (arith, room, more, then_room),
-            subst (λ q. ArePutTo (i + 1) a.network.now a.ups.now a.downs.now a.body.now a.giving.now old q.entries) (sym w.under_way-is)
-                (more_put are new
+            omega arith,
+            rw w.under_way-is (more_put are new
                 ((c.ends_of-ends.ensures (record { 0 = i })).1 (here.1 (c.is_given.ensures.0 w.if-is_given.true))) w.put_port.ensures.entries),
             λ below was.
-                subst (λ q. AreUnderWay a.network.now q.entries) (sym w.under_way-is)
-                (sound_with a.network.now mid new (entry_at_port a.network.now a.ups.now a.downs.now a.giving.now (record { 0 = i }))
+                rw w.under_way-is (sound_with a.network.now mid new
+                (entry_at_port a.network.now a.ups.now a.downs.now a.giving.now (record { 0 = i }))
                 (sound below was) w.put_port.ensures.entries refl c.requires.device (search rules)
                 (apart_from are below)),
           )
       | else-is_given w ↦
           let then_room = ap (λ q. q.room) w.under_way-is in (
-            omega (arith, room, then_room),
-            subst (λ q. ArePutTo (i + 1) a.network.now a.ups.now a.downs.now a.body.now a.giving.now old q.entries) (sym w.under_way-is)
-                (none_put are
+            omega arith,
+            rw w.under_way-is (none_put are
                 (λ given. both_ways _ w.if-is_given.false (c.is_given.ensures.1 (here.0 ((c.ends_of-ends.ensures (record { 0 = i })).0 given))))),
-            λ below was. subst (λ q. AreUnderWay a.network.now q.entries) (sym w.under_way-is) (sound below was),
+            λ below was. rw w.under_way-is (sound below was),
           )
     ]
 

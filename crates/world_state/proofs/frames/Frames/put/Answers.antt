@@ -1,6 +1,6 @@
-use Rattle.std.proofs.{Common.{◌<◌, ◌∷◌, inl, inr, length, refl, slice_get, slice_set, subst, sym}, lemmas.List.Sorted.{IsPermutation-map, IsPermutation-sym}}
-use Rattle.std.{proofs.lemmas.Option.slice_get_read, specs.List.Sorted.IsPermutation}
-use Rattle.world_state.{proofs.Queues.{content_of, has_room, one_more_in, set_queued}, specs.Frames.{IsQueued, Waiting, frames_in, room_of}}
+use Rattle.std.proofs.{Common.{◌∷◌, inl, inr, length, refl, slice_get, subst, sym}, lemmas.List.Sorted.{IsPermutation-map, IsPermutation-sym}}
+use Rattle.std.{proofs.lemmas.Option.slice_get_read}
+use Rattle.world_state.{proofs.Queues.{content_of, has_room, one_more_in, set_queued}, specs.Frames.{IsQueued}}
 use Rattle.world_state.{proofs.queue_lemmas.Bags.in_permuted, specs.declared.{contents.Waits.Waits, queue.Entry.Entry}}
 use Rattle.world_state.proofs.frames.Frames.put.Goals as goal
 
@@ -12,7 +12,7 @@ invariant_of-self c =
     let was = c.index_mut.result.now in
     let is = c.put.new.self in
     let put : Entry Waits = record { place = c.place_of.result; content = one } in
-    let lt = has_room qs d (slice_get qs d) refl (subst (λ w. 0 < room_of w d) (sym c.self.view_is) c.requires.room) in
+    let lt = has_room qs d (slice_get qs d) refl (rw (sym c.self.view_is) at c.requires.room) in
     let at = slice_get_read qs (length qs) d was refl lt c.index_mut.ensures.value in
     set_queued qs d is c.self.invariant (λ e there.
     elim (in_permuted is.entries (put ∷ was.entries) e (IsPermutation-sym _ _ c.put.ensures.entries) there) [
@@ -28,7 +28,7 @@ returns c =
     let was = c.index_mut.result.now in
     let is = c.put.new.self in
     let put : Entry Waits = record { place = c.place_of.result; content = one } in
-    let lt = has_room qs d (slice_get qs d) refl (subst (λ w. 0 < room_of w d) (sym c.self.view_is) c.requires.room) in
+    let lt = has_room qs d (slice_get qs d) refl (rw (sym c.self.view_is) at c.requires.room) in
     let at = slice_get_read qs (length qs) d was refl lt c.index_mut.ensures.value in
-    subst (λ (w : Waiting). IsPermutation (one ∷ w.items) (frames_in (slice_set qs d is))) c.self.view_is
-    (one_more_in qs d was is one at (IsPermutation-map content_of (put ∷ was.entries) is.entries c.put.ensures.entries))
+    rw (sym c.self.view_is) (one_more_in qs d was is one at (IsPermutation-map content_of (put ∷ was.entries) is.entries
+    c.put.ensures.entries))

@@ -1,8 +1,8 @@
-use Rattle.std.proofs.Common.{◌∙◌, ◌∷◌, ◌≡◌, IfSome, Option, Some, ap, inr, is_some, length, refl, slice_get, slice_set, subst, sym, true}
-use Rattle.std.{proofs.lemmas.{List.Sorted.{IsPermutation-map, IsPermutation-sym}, Option.slice_get_read}, specs.List.Sorted.IsPermutation}
+use Rattle.std.proofs.Common.{◌∙◌, ◌∷◌, ap, inr, length, refl, slice_get, sym}
+use Rattle.std.{proofs.lemmas.{List.Sorted.{IsPermutation-map, IsPermutation-sym}, Option.slice_get_read}}
 use Rattle.std.specs.Option.{option_and_then, option_map}
-use Rattle.world_state.{proofs.Queues.{content_of, has_first, one_fewer_in, set_queued}, specs.Frames.{Waiting, first_frame, first_of, frames_in}}
-use Rattle.world_state.{proofs.queue_lemmas.Bags.in_permuted, specs.declared.{contents.Waits.Waits, queue.Entry.Entry}}
+use Rattle.world_state.{proofs.Queues.{content_of, has_first, one_fewer_in, set_queued}, specs.Frames.{first_frame}}
+use Rattle.world_state.{proofs.queue_lemmas.Bags.in_permuted}
 use Rattle.world_state.proofs.frames.Frames.take_first.Goals as goal
 
 pub invariant_of-self : goal.invariant_of-self
@@ -11,21 +11,19 @@ invariant_of-self c =
     let d = c.args.device.0 in
     let was = c.index_mut.result.now in
     let is = c.take_first.new.self in
-    let lt = has_first qs d (slice_get qs d) refl (subst (λ w. is_some (first_of w d) ≡ true) (sym c.self.view_is) c.requires.some) in
+    let lt = has_first qs d (slice_get qs d) refl (rw (sym c.self.view_is) at c.requires.some) in
     let at = slice_get_read qs (length qs) d was refl lt c.index_mut.ensures.value in
-    let taken = subst (λ (o : Option (Entry Waits)). IfSome o (λ e. IsPermutation was.entries (e ∷ is.entries))) c.unwrap.ensures
-    c.take_first.ensures.entries in
+    let taken = rw c.unwrap.ensures at c.take_first.ensures.entries in
     set_queued qs d is c.self.invariant (λ e there. c.self.invariant d was e at (in_permuted _ _ e (IsPermutation-sym _ _ taken) (inr there)))
 
 pub returns-clause-is : goal.returns-clause-is
 returns-clause-is c =
     let qs = c.self.inside.queues.items in
     let d = c.args.device.0 in
-    let was = c.index_mut.result.now in
-    let lt = has_first qs d (slice_get qs d) refl (subst (λ w. is_some (first_of w d) ≡ true) (sym c.self.view_is) c.requires.some) in
-    let at = slice_get_read qs (length qs) d was refl lt c.index_mut.ensures.value in
-    subst (λ w. first_of w d ≡ Some c.unwrap.result.content) c.self.view_is
-    (ap (option_and_then first_frame) at ∙ ap (option_map content_of) (sym c.take_first.ensures.head ∙ c.unwrap.ensures))
+    let lt = has_first qs d (slice_get qs d) refl (rw (sym c.self.view_is) at c.requires.some) in
+    let at = slice_get_read qs (length qs) d c.index_mut.result.now refl lt c.index_mut.ensures.value in
+    rw (sym c.self.view_is) (ap (option_and_then first_frame) at ∙ ap (option_map content_of)
+    (sym c.take_first.ensures.head ∙ c.unwrap.ensures))
 
 pub returns-clause-items : goal.returns-clause-items
 returns-clause-items c =
@@ -33,9 +31,8 @@ returns-clause-items c =
     let d = c.args.device.0 in
     let was = c.index_mut.result.now in
     let is = c.take_first.new.self in
-    let lt = has_first qs d (slice_get qs d) refl (subst (λ w. is_some (first_of w d) ≡ true) (sym c.self.view_is) c.requires.some) in
+    let lt = has_first qs d (slice_get qs d) refl (rw (sym c.self.view_is) at c.requires.some) in
     let at = slice_get_read qs (length qs) d was refl lt c.index_mut.ensures.value in
-    let taken = subst (λ (o : Option (Entry Waits)). IfSome o (λ e. IsPermutation was.entries (e ∷ is.entries))) c.unwrap.ensures
-    c.take_first.ensures.entries in
-    subst (λ (w : Waiting). IsPermutation w.items (c.unwrap.result.content ∷ frames_in (slice_set qs d is))) c.self.view_is
-    (one_fewer_in qs d was is c.unwrap.result.content at (IsPermutation-map content_of was.entries (c.unwrap.result ∷ is.entries) taken))
+    let taken = rw c.unwrap.ensures at c.take_first.ensures.entries in
+    rw (sym c.self.view_is) (one_fewer_in qs d was is c.unwrap.result.content at (IsPermutation-map content_of
+    was.entries (c.unwrap.result ∷ is.entries) taken))

@@ -1,8 +1,8 @@
-use Rattle.{std.proofs.Common.{◌∙◌, subst}, world_state.{proofs.Hearings.heard_sound, specs.Keeping.keeps}}
+use Rattle.{std.proofs.Common.{◌∙◌}, world_state.{proofs.Hearings.heard_sound}}
 use Rattle.world_state.proofs.kept.Kept.hear_heading.Goals as goal
 
 pub returns-in-Sound : goal.returns-in-Sound
 returns-in-Sound g c = λ octets are network device node is may arrives.
-    let it = subst (λ m. keeps g.M.Machine.stands m network device node) c.in-Sound.is is in
+    let it = rw c.in-Sound.is at is in
     let heard = c.hear_heading.ensures octets are network device node it.0 may arrives in
     (heard.0, (heard.1, heard_sound node c.args.moment c.hear_heading.result ∙ it.1))

@@ -1,5 +1,5 @@
-use Rattle.std.proofs.Common.{IfSome, arith, refl, subst, sym}
-use Rattle.world_state.{proofs.queue_lemmas.{Bags.in_contained, Heads.{head_first, head_is}, Slots.top_is_first}, specs.queue.Places.{IsFirst, first_entry}}
+use Rattle.std.proofs.Common.{arith, refl, sym}
+use Rattle.world_state.{proofs.queue_lemmas.{Bags.in_contained, Heads.{head_first, head_is}, Slots.top_is_first}}
 use Rattle.world_state.proofs.queue.UnderWay.peek.Goals as goal
 
 pub returns-in-Some-clause-first : goal.returns-in-Some-clause-first
@@ -8,8 +8,7 @@ returns-in-Some-clause-first g c =
     let top = c.in-Some.first.now in
     let some = c.in-Some.ensures.variant.0 refl in
     let len = b.heap.data.ok.0 in
-    let there = in_contained b.heap.data.items 0 (omega (arith, some, len)) (sym c.in-Some.ensures.lookup) in
+    let there = in_contained b.heap.data.items 0 (omega arith) (sym c.in-Some.ensures.lookup) in
     let first = top_is_first top c.self.invariant there (c.in-Some.ensures.greatest c.self.invariant.heap) in
-    subst (λ q. IfSome (first_entry q.entries) (λ e. IsFirst q.entries e.place)) c.self.view_is
-    (head_first top c.self.invariant (c.self.invariant.filled top there)
-    (head_is b.heap.data.items c.self.invariant (omega (arith, some, len)) c.in-Some.ensures.lookup) first)
+    rw (sym c.self.view_is) (head_first top c.self.invariant (c.self.invariant.filled top there)
+    (head_is b.heap.data.items c.self.invariant (omega arith) c.in-Some.ensures.lookup) first)

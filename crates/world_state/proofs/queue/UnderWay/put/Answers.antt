@@ -4,7 +4,6 @@ use Rattle.world_state.proofs.queue.UnderWay.put.Goals as goal
 
 pub invariant_of-self : goal.invariant_of-self
 invariant_of-self g c =
-    let b = c.self.inside in
     let i = c.insert_reserved-slot in
     let p = c.push_reserved in
     put_is_sound i.new.self p.new.heap.data.items c.args.place i.result c.args.content c.self.invariant i.ensures.was_vacant
@@ -13,7 +12,6 @@ invariant_of-self g c =
 
 pub returns-clause-entries : goal.returns-clause-entries
 returns-clause-entries g c =
-    let b = c.self.inside in
     let i = c.insert_reserved-slot in
     let p = c.push_reserved in
     subst (λ q. IsPermutation (entry_at c.args.place c.args.content ∷ q.entries) (entries_in i.new.self p.new.heap.data.items)) c.self.view_is

@@ -5,7 +5,6 @@ use Rattle.world_state.proofs.queue.UnderWay.take_first.Goals as goal
 
 pub invariant_of-self-2 : goal.invariant_of-self-2
 invariant_of-self-2 g c =
-    let b = c.self.inside in
     let top = c.in_ok-first.field-0 in
     let r = c.remove-content in
     taken_is_sound r.new.self c.pop.new.self.data.items top c.self.invariant r.ensures.value r.ensures.updates
@@ -13,7 +12,6 @@ invariant_of-self-2 g c =
 
 pub returns-clause-first : goal.returns-clause-first
 returns-clause-first g c =
-    let b = c.self.inside in
     let top = c.in_ok-first.field-0 in
     let there = in_permuted _ _ top (IsPermutation-sym _ _ c.in_ok-first.ensures.permutation) (inl refl) in
     subst (λ q. IsFirst q.entries top.0.place) c.self.view_is
@@ -21,7 +19,6 @@ returns-clause-first g c =
 
 pub returns-clause-entries : goal.returns-clause-entries
 returns-clause-entries g c =
-    let b = c.self.inside in
     let top = c.in_ok-first.field-0 in
     let r = c.remove-content in
     subst (λ q. IsPermutation q.entries (entry_at top.0.place r.result ∷ entries_in r.new.self c.pop.new.self.data.items)) c.self.view_is
