@@ -4,7 +4,7 @@ use Rattle.drift_world.proofs.Words.{◌*◌, ◌+◌, ◌-◌, ◌<◌, ◌∙�
 use Rattle.drift_world.proofs.Words.{List, Meaning, Network, None, Ok, OnOk, Option, Result, Settled, Some, Turn, WayState, [], ap, arith, cases_lt, false}
 use Rattle.drift_world.proofs.Words.{if◌then◌else◌, in_all, inl, inr, ints, keeps, le-ltb, length, length_permutation, lt-ltb, nat_lt, pos}
 use Rattle.{drift_world.proofs.Words.{reading_for, refl, subst, suc, sym, true, zero, ℕ}, world_state.specs.Befalling.AreSettledBy}
-use Rattle.drift_world.specs.Nearing.{IsLess, IsNoFarther, Nears, acting, burden, distance, due_work}
+use Rattle.drift_world.specs.Nearing.{IsLess, Nears, acting, burden, distance, due_work}
 use Rattle.drift_world.{proofs.Parts.part_most, specs.{Acting.IsIdleAt, Parts.part_rank, declared.part.Part.Part}}
 use Rattle.world_state.specs.declared.{queue.Entry.Entry, timers.Timer.Timer}
 use Rattle.{drift_world.specs.Turns.IsActive, std.proofs.{Common.{drop, slice_get}, lemmas.List.length-drop}}
@@ -250,14 +250,6 @@ on_both (Err e) P Q R p q f = tt
 
 module _ {C M : Type 0} (network : Network) (until : ℕ) (old : State C M) where
   -- what nears a state with more room nears the state before it
-  -- a turn of a state that is no farther than another
-  pub no_farther : (new : State C M) (turn : Turn) → Nears network until old new turn
-      → IsNoFarther network until old new turn
-  no_farther new Gives nears = tt
-  no_farther new Ends nears = tt
-  no_farther new GoesOn nears =
-      let lt : distance network until new < distance network until old = nears in omega (arith, lt)
-
   pub nears_behind : (mid new : State C M) (turn : Turn) → distance network until mid ≤ distance network until old
       → Nears network until mid new turn → Nears network until old new turn
   nears_behind mid new Gives le nears = tt

@@ -125,11 +125,11 @@ impl<C: Clock, M: TellsKind + Drop> State<C, M> {
         ensures passed { IsPassed C.last_step C.reading M.stands network.now until self.old self.new result }
         ensures nearer { IsNoFarther network.now until self.old self.new result }
     {
-        if !self.is_calm() {
-            return Turn::GoesOn;
-        }
         let time = least_of(place, due, until);
-        self.pass_up(network, time, until)
+        if self.time < time && self.is_calm() {
+            return self.pass_on(network, time, until);
+        }
+        Turn::GoesOn
     }
 
     /// The first of three fronts goes on: of what is settled, of what is under way, and of the timers. Their ranks tell
@@ -191,23 +191,6 @@ impl<C: Clock, M: TellsKind + Drop> State<C, M> {
             return false;
         };
         rank_of(first) <= source.rank()
-    }
-
-    /// Time passes, as nothing is under way before this time, if it is later.
-    #[inline(always)]
-    fn pass_up(&mut self, network: &Network, time: u64, until: u64) -> Turn
-        requires may { MayTurn C.last_step C.reading M.stands network.now until self.old }
-        requires within { time ≤ until }
-        requires nothing { HasNothingBefore C.reading M.stands network.now self.old (time ∷ []) }
-        requires empty { self.old.settled.items ≡ [] }
-        ensures passed { IsPassed C.last_step C.reading M.stands network.now until self.old self.new result }
-        ensures nearer { IsNoFarther network.now until self.old self.new result }
-    {
-        if self.time < time {
-            self.pass_on(network, time, until)
-        } else {
-            Turn::GoesOn
-        }
     }
 
     /// Time passes, as nothing is under way before this time.
