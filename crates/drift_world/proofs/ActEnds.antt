@@ -3,7 +3,7 @@ use Rattle.drift_world.proofs.{ActTurns.{IsTurn, comes_first as comes_then, othe
 use Rattle.drift_world.proofs.{Timings.rekeyed_by, Turning.{comes_first, kept_timers, rekeyed_step, runs_on}}
 use Rattle.drift_world.proofs.Words.{◌++◌, ◌+◌, ◌<◌, ◌↔◌, ◌∙◌, ◌∷◌, ◌≡◌, DeviceId, IsIn, IsWell, Meaning, Network, Note}
 use Rattle.drift_world.proofs.Words.{IsSound, Some, StandsOn, StandsWith, Waits, [], ap, arith, length, numbers_end, refl, sym, units_of, ℕ}
-use Rattle.drift_world.specs.{Acting.{ActGives, IsLeft}, Nearing.IsLess, Parts.{IsLaterThan, part_rank}, Stepping.{IsActTimed, IsRekeyed, MayRekey, SetsOnly}}
+use Rattle.drift_world.specs.{Acting.{ActGives, IsLeft}, Nearing.IsLess, Parts.{IsLaterThan, part_rank}, Stepping.{IsActTimed, MayRekey, SetsOnly}}
 use Rattle.drift_world.specs.{Turns.{GivesAt, IsKept, IsStep, MayWork}, declared.{next.Turn.TheVariants.Gives, part.Part.Part, state.State.State}}
 use Rattle.drift_world.specs.declared.{part.ToDo.{ToDo, TheVariants.{Next, Now}}, source.Source.TheVariants.Act}
 use Rattle.std.proofs.Common.{slice_get}
@@ -85,7 +85,7 @@ module _ {C M : Type 0} {last_step : C → ℕ} {reading : C → ℕ → ℕ} {s
         → IsIn w gave.waiting.items ↔ IsIn w first.waiting.items
     gave_waits w lt =
         let few = may.range.few_devices in
-        let aside = act.waiting w (omega (arith, lt, few)) in
+        let aside = act.waiting w (omega arith) in
         let before = waits w in
         (λ i. before.0 (aside.0 i), λ i. aside.1 (before.1 i))
 
@@ -111,18 +111,18 @@ module _ {C M : Type 0} {last_step : C → ℕ} {reading : C → ℕ → ℕ} {s
         let there = may.foremost.there.of in
         let time = gave_time in
         let clocks = ap State.clocks act.same ∙ ap State.clocks turn.same in
-        let keyed : IsRekeyed reading stands network device gave new =
+        let keyed =
         set_act there (may.well.timed.each device there) clocks gave_time
-        (λ w at. gave_waits w (omega (arith, at, there))) gave_timers timed sets in
+        (λ w at. gave_waits w (omega arith)) gave_timers timed sets in
         kept_timers (note ∷ []) may.well sound
         (record {
           clocks = clocks;
           ended = ap State.ended act.same ∙ ap State.ended turn.same;
-          later = omega (arith, time);
+          later = omega arith;
         })
         gives sets.same
         (rekeyed_by may.well.timed there
-        (λ i ne. ap (λ (c : _). slice_get c.items i) clocks)
+        (λ i ne. ap (λ c. slice_get c.items i) clocks)
         (λ i ne. machines i ne ∙ turn.machines i ne) (λ w ne lt. gave_waits w lt) gave_time gave_timers keyed)
 
     pub gave_says : {new : State C M} → SetsOnly (λ slot. slot ≡ length network.device + device.0) gave new
@@ -132,5 +132,5 @@ module _ {C M : Type 0} {last_step : C → ℕ} {reading : C → ℕ → ℕ} {s
           act.time ∙ ap units_of (sym now),
           now ∙ ap State.time turn.same,
           ap State.given sets.same ∙ ap State.given act.same
-              ∙ ap (λ (t : State C M). t.given + 1) turn.same,
+              ∙ ap (λ t. t.given + 1) turn.same,
         )

@@ -6,14 +6,13 @@ use Rattle.drift_world.proofs.Words.{Joining, List, Network, Node, None, Off, Op
 use Rattle.drift_world.proofs.Words.{if◌then◌else◌, inl, inr, is_cut, length, map, moment_of, octets_from, octets_of}
 use Rattle.drift_world.proofs.Words.{rank, refl, settled_at, slice_get_within, stored_as, subst, sym, true, way_from, ℕ}
 use Rattle.{net_plan.specs.declared.ids.RowId.RowId, run_law.specs.{machines.Answers.IsActOf, records.Frames.tt_frame}, world_law.proofs.rows.AtHand.sender_or}
-use Rattle.{run_law.{specs.declared.steps.Act.Act}, schedule_tables.specs.Entries.IsEntry, world_law.specs.world.Moves.IsPutIn}
+use Rattle.{run_law.{specs.declared.steps.Act.Act}, schedule_tables.specs.Entries.IsEntry}
 use Rattle.{std.{proofs.lemmas.Bool.ne_eqb, specs.Option.option_map}, world_state.proofs.Made.made_octets}
 use Rattle.{schedule_tables.specs.declared.entry.Entry.Entry, sync_state.specs.declared.answers.Verdict.Verdict, world_state.specs.declared.hands.AtHand.AtHand}
 use Rattle.sync_state.specs.declared.answers.Verdict.TheVariants.{Cleared, Corrected}
 use Rattle.{sync_state.specs.declared.state.State.{State as Standing}, world_state.specs.declared.{contents.Timed.TheVariants.Made, outcomes.Outcomes.Outcomes}}
 use Rattle.world_law.{proofs.steps_lemmas.acting.{Held.{IsHeldFrame, held_frame}, Stage.StageAt}, specs.steps.Acting.{AreActBodies, first_bodies, joining_bodies}}
-use Rattle.world_state.specs.Acting.{AreOutcomes, IsHeldIn, bodies_of, body_of, corrected_by, dispatched_by, emitted_by, first_by, joined_by}
-use Rattle.{run_law.specs.declared.note.NoteBody.NoteBody, world_law.specs.world.Outcomes.judged_as}
+use Rattle.world_state.specs.Acting.{AreOutcomes, IsHeldIn, bodies_of, body_of, corrected_by, dispatched_by, first_by, joined_by}
 use Rattle.run_law.specs.declared.note.NoteBody.TheVariants as kinds
 use Rattle.run_law.specs.declared.steps.Act.TheVariants as acts
 use Rattle.run_law.specs.declared.steps.Ripe.TheVariants as ripe
@@ -25,7 +24,7 @@ module _ (other network : Network) (now : ℕ) (hs : List Happening) where
   all_at zs = map (settled_at network now) zs
 
   pub order_then : (o : Option Settled) (old new : List Settled) → IsSomePut o old new → InOrder (all_at old) → InOrder (all_at new)
-  order_then None old new put order = subst (λ (l : List Settled). InOrder (all_at l)) (sym put) order
+  order_then None old new put order = rw put order
   order_then (Some z) old new put order =
       order_put order (is_put_in network now put.1 order)
 
@@ -34,18 +33,17 @@ module _ (other network : Network) (now : ℕ) (hs : List Happening) where
   one_by None old new put order own = ap all_at put
   one_by (Some z) old new put order own = (
     all_at new,
-    subst (λ h. IsPutIn h (all_at old) (all_at new)) own (is_put_in network now put.1 order),
+    rw own at (is_put_in network now put.1 order),
     refl,
   )
 
   pub both_put : (first second : Option Settled) (old mid new : List Settled) → IsSomePut first old mid → IsSomePut second mid new → InOrder (all_at old)
       → IsOwn other network now hs first → IsOwn other network now hs second → ArePutIn other hs now (body_of first ++ body_of second) (all_at old) (all_at new)
   both_put None second old mid new one two order own also =
-      subst (λ (l : List Settled). ArePutIn other hs now (body_of second) (all_at l) (all_at new)) one
-      (one_by second mid new two (order_then None old mid one order) also)
+      rw one at (one_by second mid new two (order_then None old mid one order) also)
   both_put (Some z) second old mid new one two order own also = (
     all_at mid,
-    subst (λ h. IsPutIn h (all_at old) (all_at mid)) own (is_put_in network now one.1 order),
+    rw own at (is_put_in network now one.1 order),
     one_by second mid new two (order_then (Some z) old mid one order) also,
   )
 
@@ -125,7 +123,7 @@ module _ (s : Scenario) (hs : List Happening) (now : ℕ) (device : DeviceId) (w
 
   told_own : octets_of s.network hand.octets ≡ octets_now → (b : Bool) → IsOwn s.network s.network now hs (Some (told b))
   told_own octets true = refl
-  told_own octets false = ap (λ (l : List ℕ). let h : Happening = record (settled_at s.network now (told false)) { octets = l } in h) octets
+  told_own octets false = rw octets
 
   told_fine : (b : Bool) → IsFine 4 (Some (told b))
   told_fine true = (tt, omega arith)
@@ -143,8 +141,8 @@ module _ (s : Scenario) (hs : List Happening) (now : ℕ) (device : DeviceId) (w
           hand.cause,
           is,
           at,
-          ap (λ o. body_of o ++ body_of outcomes.second) first
-              ∙ ap (λ o. body_of (Some (told cut)) ++ body_of o) second ∙ told_body cut,
+          rw first
+              (ap (λ o. body_of (Some (told cut)) ++ body_of o) second ∙ told_body cut),
         );
         first = subst (IsOwn s.network s.network now hs) (sym first) (told_own octets cut);
         second = subst (IsOwn s.network s.network now hs) (sym second) tt;
@@ -164,7 +162,7 @@ stored_in network (k ∷ stored) h (inl is) = inl (ap (stored_as network) is)
 stored_in network (k ∷ stored) h (inr rest) = inr (stored_in network stored h rest)
 
 not_zero : (n : ℕ) (a b : List ℕ) → 1 ≤ n → b ≡ (if n == 0 then a else b)
-not_zero n a b le = sym (ap (λ (c : Bool). if c then a else b) (ne_eqb n 0 (λ e. omega (arith, e, le))))
+not_zero n a b le = sym (rw (ne_eqb n 0 (λ e. omega arith)))
 
 -- the frame that is held
 of_held : {s : Scenario} {hs : List Happening} (stored : List Holding) {now : ℕ} {device : DeviceId} (was : Standing)
@@ -183,10 +181,10 @@ of_held {s} {hs} stored {now} {device} was adjustment row {cycle} {entry} outcom
     let i = stored_in s.network stored h there in
     let cause : hand.cause ≡ h.number = ap AtHand.cause same in
     let octets : octets_of s.network hand.octets ≡ octets_from hs hand.cause =
-    ap (λ (a : AtHand). octets_of s.network a.octets) same ∙ held.octets e i of_device of_vl ∙ ap (octets_from hs) (sym cause) in
-    let some : 1 ≤ hand.cause = subst (λ n. 1 ≤ n) (sym cause) (held.some e i of_device of_vl) in
+    ap (λ a. octets_of s.network a.octets) same ∙ held.octets e i of_device of_vl ∙ ap (octets_from hs) (sym cause) in
+    let some : 1 ≤ hand.cause = rw cause (held.some e i of_device of_vl) in
     of_dispatch s hs now device was adjustment row cycle entry hand outcomes is
-    (subst (λ n. HasAtHand s.network hs device entry now n cycle) (sym cause) (held.hand e i of_device of_vl))
+    (rw cause (held.hand e i of_device of_vl))
     (octets ∙ not_zero hand.cause (tt_frame s.network entry.row.vl cycle) (octets_from hs hand.cause) some) first second
 
 -- a dispatch
@@ -209,7 +207,7 @@ of_row {stands} {s} {hs} {coming} stored {now} {device} {machine} {node} was adj
           let cut = is_cut s entry.row.link (way_from s.network device entry.row.link) now in
           of_dispatch s hs now device was adjustment row cycle entry hand outcomes p.1.own.1.is (inl (sender, refl))
           (made_is cycle p.1.own.1.is)
-          (d.0.is ∙ ap (λ (o : Option AtHand). option_map (dispatched_by cut device entry cycle) o) (d.0.of_hand.sender sender)) d.1
+          (d.0.is ∙ ap (λ o. option_map (dispatched_by cut device entry cycle) o) (d.0.of_hand.sender sender)) d.1
       | inr other ↦
           of_held stored was adjustment row outcomes d.0.hand p.1.own.1.is
           (held_frame stands s hs coming now device machine node row cycle (map (stored_as s.network) stored) r more st are p first.due other)
@@ -236,10 +234,9 @@ pub proper : {M : Type 0} {stands : Meaning M} {s : Scenario}
 proper stored after was adjustment (acts.Send frame) outcomes st are acted is =
     grind (arith, same_outcomes, settled_at, first_fine)
 proper {s} {hs} stored {now} {device} after was adjustment (acts.Emit sent heard) outcomes st are acted is =
-    same_outcomes {s = s} {hs = hs} {now = now} {device = device} {was = was} {adjustment = adjustment} {act = acts.Emit sent heard} outcomes {b = emitted_by s.network (length hs + 1) device sent heard} is
+    same_outcomes outcomes is
     (record {
-      bodies = ap (λ (l : List NoteBody). kinds.Compressed device sent.opened sent.at sent.cycle sent.members (judged_as heard) ∷ l)
-          (joining (length hs + 1) device heard);
+      bodies = rw (joining (length hs + 1) device heard);
       first = refl;
       second = joining_own s.network now hs (length hs + 1) device heard;
       first_fine = (tt, omega arith);

@@ -7,14 +7,14 @@ use Rattle.drift_world.specs.{Acting.{AreAbove, IsDueAt, IsIdle, IsLeft}, Parts.
 use Rattle.drift_world.specs.declared.part.{Part.Part, ToDo.{ToDo, TheVariants.{Next, Now}}}
 use Rattle.{drift_world.proofs.Fits.{all_put_some, have_octets}, world_state.specs.declared.outcomes.Outcomes.Outcomes}
 use Rattle.{run_law.specs.{declared.steps.Act.Act, machines.{Answers.IsActOf, Calls.MayAct}}, std.specs.List.slice_get}
-use Rattle.drift_world.proofs.Words.{◌+◌, ◌<◌, ◌≡◌, ◌≤◌, ComesFirst, DeviceId, Happening, HasActed, IsAt, IsBefore, IsHeld, IsIn, IsOf, IsOwn, IsSomePut, Meaning}
-use Rattle.drift_world.proofs.Words.{◌∙◌, ◌∷◌, IfSome, Kept, List, Moment, Network, Node, None, Note, Option, Scenario, Settled, Some, Stands, StandsFor, Units, [], ap, arith}
+use Rattle.drift_world.proofs.Words.{◌+◌, ◌<◌, ◌≡◌, ◌≤◌, ComesFirst, DeviceId, Happening, HasActed, IsAt, IsBefore, IsIn, IsOf, IsSomePut, Meaning}
+use Rattle.drift_world.proofs.Words.{◌∙◌, ◌∷◌, IfSome, Kept, List, Moment, Network, Node, None, Note, Option, Scenario, Settled, Some, Stands, StandsFor, Units, [], arith}
 use Rattle.drift_world.proofs.Words.{chain, false, happenings, inl, inr, keeps, length, map, moment_of, pos, rank, same_Some}
 use Rattle.drift_world.proofs.Words.{◌++◌, NoteBody, TurnsIn}
-use Rattle.drift_world.proofs.Words.{settled_at, slice_get_within, stored_as, subst, sym, true, world_of, ℕ}
+use Rattle.drift_world.proofs.Words.{settled_at, slice_get_within, subst, sym, true, world_of, ℕ}
 use Rattle.run_law.{proofs.runs.Places.before_behind, specs.records.Order.behind}
 use Rattle.world_law.proofs.{rows.Dispatching.lawful, steps_lemmas.growing.FromZero.kept_from_zero}
-use Rattle.world_law.specs.world.{Calls.{IsSet, IsStateOf}, World.{AreStored, IsKept}}
+use Rattle.world_law.specs.world.{Calls.{IsSet, IsStateOf}, World.{IsKept}}
 use Rattle.{std.specs.Prelude.All, world_law.specs.{source.Sources.task_place, steps.Acting.{Acts, place_of_act, rank_of_act, task_of}}}
 use Rattle.{sync_state.specs.declared.state.State.{State as Standing}, world_state.specs.Acting.{AreOutcomes, HasItsRow, bodies_of, body_of}}
 use Rattle.world_law.proofs.steps_lemmas.acting.{First.{act_more, act_rest, act_stands}, Kept.may_act_now}
@@ -26,9 +26,9 @@ use Rattle.run_law.specs.declared.steps.Act.TheVariants as acts
 
 -- a place behind another of one device is not before where its part begins
 not_before_own : (now r d : ℕ) (more : List ℕ) → IsBefore (now ∷ r ∷ d ∷ more) (now ∷ r ∷ d ∷ []) → ⊥
-not_before_own now r d more (inl lt) = omega (arith, lt)
-not_before_own now r d more (inr (e, inl lt)) = omega (arith, lt)
-not_before_own now r d more (inr (e, inr (f, inl lt))) = omega (arith, lt)
+not_before_own now r d more (inl lt) = omega arith
+not_before_own now r d more (inr (e, inl lt)) = omega arith
+not_before_own now r d more (inr (e, inr (f, inl lt))) = omega arith
 not_before_own now r d more (inr (e, inr (f, inr (g, b)))) = b
 
 head_is : {x y : NoteBody} {xs ys : List NoteBody} → x ∷ xs ≡ y ∷ ys → x ≡ y
@@ -38,12 +38,11 @@ head_is e = cc
 first_high : (first second : Option Settled) → IfSome first (λ z. 6 < rank z.body) → IsFine 7 second → (body : NoteBody)
     (others : List NoteBody) → body_of first ++ body_of second ≡ body ∷ others → 6 < rank body
 first_high (Some z) second late fine body others e =
-    subst (λ b. 6 < rank b) (head_is e) late
+    rw (head_is e) at late
 first_high None (Some z) late fine body others e =
-    let same : z.body ≡ body = head_is e in
-    let high = fine.1 in
-    subst (λ b. 6 < rank b) same (omega (arith, high))
-first_high None None late fine body others e = absurd (let bad : [] ≡ body ∷ others = e in cc)
+    let same = head_is e in
+    rw (sym same) (omega (arith, fine.1))
+first_high None None late fine body others e = absurd (let bad = e in cc)
 
 -- what an act dispatches is a row of the network
 pub its_row : (network : Network) (device : DeviceId) (node : Node) (moment : Moment) (act : Act) (new : Node) → IsActOf network device node moment act new
@@ -89,10 +88,9 @@ module _ {C M : Type 0} (reading : C → ℕ → ℕ) (stands : Meaning M) (netw
       → IsKept (keeps stands) s (happenings s.network notes) (map (settled_at network state.time) state.settled.items)
       old.frontier state.time device machine
   kept_at s notes old =
-      let m = old.devices device (subst (λ (n : Network). device.0 < length n.device) old.same lt) in
-      let same : m.0 ≡ machine = same_Some m.0 machine (sym m.1 ∙ there) in
-      elim (subst (λ x. IsHeld (keeps stands) s (happenings s.network notes)
-      (map (settled_at network state.time) state.settled.items) old.frontier state.time device x) same m.2) [
+      let m = old.devices device (rw old.same at lt) in
+      let same = same_Some m.0 machine (sym m.1 ∙ there) in
+      elim (rw same at m.2) [
         | inl k ↦ k
         | inr out ↦ let task = task_now s notes old out.node out.is in absurd (no_task s.network device out.node task.0 out.shows task.1)
       ]
@@ -158,15 +156,15 @@ module _ {C M : Type 0} (reading : C → ℕ → ℕ) (stands : Meaning M) (netw
   parted s notes old act after acted z i =
       let is = of_rank s notes old act after acted in
       let made = made_of (settled_at network state.time) state.settled.items z i in
-      let high = each_of (λ (x : Settled). part_rank part < rank x.body) state.settled.items made.0 above made.1 in
-      subst (λ (h : Happening). rank_of_act act < rank h.note.body) made.2 (let lt : rank_of_act act < rank made.0.body = omega (arith, is, high) in lt)
+      let high = each_of (λ x. part_rank part < rank x.body) state.settled.items made.0 above made.1 in
+      rw (sym made.2) (let lt : rank_of_act act < rank made.0.body = omega (arith, is, high) in lt)
 
   pub row_within : (at : IsAt reading stands network state (part_place part state.time device)) (act : Act) (after : Kept M)
       → HasActed (keeps stands) at.s.network device (moment_of at.s device state.time) act machine after → HasItsRow (length network.row) act
   row_within at act after acted =
       let new = acted_at at.s at.notes at.is act after acted in
-      subst (λ (n : Network). HasItsRow (length n.row) act) (sym at.is.same)
-      (its_row at.s.network device (kept_at at.s at.notes at.is).node (moment_of at.s device state.time) act new.0 new.1)
+      rw at.is.same (its_row at.s.network device (kept_at at.s at.notes at.is).node (moment_of at.s device state.time)
+      act new.0 new.1)
 
   staged : (s : Scenario) (notes : List Note) (old : Old s notes) → First_ s notes old → (act : Act) (after : Kept M)
       → HasActed (keeps stands) s.network device (moment_of s device state.time) act machine after
@@ -174,7 +172,7 @@ module _ {C M : Type 0} (reading : C → ℕ → ℕ) (stands : Meaning M) (netw
       (rank_of_act act) (act_rest s.network device act)
   staged s notes old first act after acted =
       let at = stage_of reading (keeps stands) s (world_of network state) notes old device machine after act
-      (subst (λ (n : Network). device.0 < length n.device) old.same lt)
+      (rw old.same at lt)
       (comes s notes old act after first acted) (parted s notes old act after acted) there (task_now s notes old) acted in
       (at.0, at.2)
 
@@ -184,13 +182,13 @@ module _ {C M : Type 0} (reading : C → ℕ → ℕ) (stands : Meaning M) (netw
       → AreOutcomes s state.stored.items state.time (state.given + 1) device was adjustment act outcomes
       → AreProper s (happenings s.network notes) state.time device was adjustment act outcomes
   proper_at s notes old first act after was adjustment outcomes acted are =
-      let number : state.given + 1 ≡ length (happenings s.network notes) + 1 = ap (λ n. n + 1) (old.given ∙ length_is s notes) in
+      let number : state.given + 1 ≡ length (happenings s.network notes) + 1 = rw (old.given ∙ length_is s notes) in
       let st = staged s notes old first act after acted in
       let new = acted st.0 st.1.is (may_act_now s device st.0 state.time st.1.work.ready st.1.steady st.1.limit) st.1.task in
       proper state.stored.items new.0 was adjustment
       act outcomes st.1
-      (subst (λ n. AreStored (happenings s.network notes) (map (stored_as n) state.stored.items)) old.same old.stored) new.1
-      (subst (λ n. AreOutcomes s state.stored.items state.time n device was adjustment act outcomes) number are)
+      (rw old.same at old.stored) new.1
+      (rw number at are)
 
   -- what is settled stays fit
   pub octets_then : {s : Scenario} {hs : List Happening} {was : Standing} {adjustment : Units} {act : Act} {outcomes : Outcomes} (mid new : List Settled)
@@ -203,15 +201,16 @@ module _ {C M : Type 0} (reading : C → ℕ → ℕ) (stands : Meaning M) (netw
   -- where the first of its records does not stand where it is done, all that is settled stays of a higher rank
   pub above_then : {s : Scenario} {hs : List Happening} {was : Standing} {adjustment : Units} {act : Act} {outcomes : Outcomes} (mid new : List Settled)
       → AreProper s hs state.time device was adjustment act outcomes → IfSome outcomes.first (λ z. 6 < rank z.body)
-      → IsSomePut outcomes.first state.settled.items mid → IsSomePut outcomes.second mid new → All (λ (z : Settled). part_rank part < rank z.body) new
+      → IsSomePut outcomes.first state.settled.items mid → IsSomePut outcomes.second mid new → All
+      (λ z. part_rank part < rank z.body) new
   above_then {outcomes} mid new own late one two =
       let most = part_most part in
-      all_put_some (λ (z : Settled). part_rank part < rank z.body) outcomes.second mid new two
-      (λ z e. let fine = (subst (IsFine 7) e own.second_fine).1 in omega (arith, fine, most))
-      (all_put_some (λ (z : Settled). part_rank part < rank z.body) outcomes.first state.settled.items mid one
+      all_put_some (λ z. part_rank part < rank z.body) outcomes.second mid new two
+      (λ z e. let fine = (subst (IsFine 7) e own.second_fine).1 in omega arith)
+      (all_put_some (λ z. part_rank part < rank z.body) outcomes.first state.settled.items mid one
       (λ z e.
-      let high : 6 < rank z.body = subst (λ (o : Option Settled). IfSome o (λ x. 6 < rank x.body)) e late in
-      omega (arith, high, most)) above)
+      let high : 6 < rank z.body = rw e at late in
+      omega arith) above)
 
   -- what the device has to do then is of no earlier part
   no_sooner_then : (s : Scenario) (notes : List Note) (old : Old s notes) (act : Act) (after : Kept M) {new : Node}
@@ -222,11 +221,11 @@ module _ {C M : Type 0} (reading : C → ℕ → ℕ) (stands : Meaning M) (netw
       let k = kept_at s notes old in
       let law = lawful reading (keeps stands) s (world_of network state) notes old device in
       let same = of_rank s notes old act after acted in
-      let grows = left_no_sooner {device = device} {node = k.node} {moment = moment_of s device state.time} act {new = new} {left = left} old.range old.rules
+      let grows = left_no_sooner act old.range old.rules
       (kept_from_zero (keeps stands) s (happenings s.network notes)
       (map (settled_at network state.time) state.settled.items) old.frontier state.time device machine k law)
       (may_act_now s device k.node state.time k.ready (old.steady device) old.limit) is first in
-      omega (arith, same, grows)
+      omega arith
 
   pub later_then : IsAt reading stands network state (part_place part state.time device) → (act : Act) (after : Kept M) (left : ToDo)
       → ((s : Scenario) (notes : List Note) → Old s notes → HasActed (keeps stands) s.network device (moment_of s device state.time) act machine after)
@@ -248,8 +247,8 @@ module _ {C M : Type 0} (reading : C → ℕ → ℕ) (stands : Meaning M) (netw
   acted_turns {after} was is before adjustment act outcomes machines set s notes old first acted stood stands_then are =
       record {
         order = settled_in_order old;
-        first_is = subst (λ n. IsOwn s.network n state.time (happenings s.network notes) outcomes.first) (sym old.same) own.first;
-        second_is = subst (λ n. IsOwn s.network n state.time (happenings s.network notes) outcomes.second) (sym old.same) own.second;
+        first_is = rw old.same own.first;
+        second_is = rw old.same own.second;
         by = acted_turn reading (keeps stands) s (world_of network state) notes device after (bodies_of outcomes) machines
             old acts_are set;
       }
@@ -259,7 +258,7 @@ module _ {C M : Type 0} (reading : C → ℕ → ℕ) (stands : Meaning M) (netw
 
       acts_are : Acts reading (keeps stands) s (world_of network state) notes old device after (bodies_of outcomes)
       acts_are = record {
-        of_it = subst (λ (n : Network). device.0 < length n.device) old.same lt;
+        of_it = rw old.same at lt;
         act = act;
         first = comes s notes old act after first acted;
         apart = parted s notes old act after acted;

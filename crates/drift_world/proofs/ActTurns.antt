@@ -2,8 +2,8 @@
 use Rattle.drift_world.{proofs.{Fits.{have_octets, sound_same}, Words.{subst, sym, world_of, ℕ}}, specs.Acting.{ActsOn, AreAbove, IsDueAt, IsFrom, IsLeft, StandsFrom}}
 use Rattle.drift_world.proofs.{AtSource.each_of, Foremost.{higher, not_earlier}, Parts.{first_no_sooner, one_rank}, Showings.shows_of, Sources.made_of}
 use Rattle.drift_world.specs.{Parts.{IsLaterThan, IsNoSoonerLeft, part_place, part_rank}, declared.part.{Part.Part, ToDo.{ToDo, TheVariants.{Next, Now}}}}
-use Rattle.drift_world.proofs.Words.{◌+◌, ◌<◌, ◌↔◌, ◌∙◌, ◌≡◌, ◌≤◌, Bool, ChangesOnly, ComesFirst, DeviceId, Happening, HasActed, IsAt, IsBefore, IsDueNow, IsHeld, IsIn, IsSound, Kept, Meaning}
-use Rattle.drift_world.proofs.Words.{List, Network, NoSourceBefore, Node, Note, Scenario, Settled, Some, Stands, World, [], ap, arith, cases_eq, chain}
+use Rattle.drift_world.proofs.Words.{◌+◌, ◌<◌, ◌∙◌, ◌≡◌, ◌≤◌, ChangesOnly, ComesFirst, DeviceId, Happening, IsAt, IsBefore, IsDueNow, IsHeld, IsIn, IsSound, Kept, Meaning}
+use Rattle.drift_world.proofs.Words.{List, Network, NoSourceBefore, Node, Note, Scenario, Some, Stands, World, [], ap, arith, cases_eq, chain}
 use Rattle.drift_world.proofs.Words.{◌∷◌, false, happenings, inl, inr, keeps, length, length-map, map, moment_of, numbers_end, option_map_or, own_place, place_of, rank}
 use Rattle.drift_world.proofs.Words.{refl, settled_at}
 use Rattle.run_law.specs.records.Ranks.{key}
@@ -46,8 +46,20 @@ pub same_then : {C M : Type 0} (first : State C M) {now new : State C M}
     → new ≡ record first { machines = new.machines; early = new.early; settled = new.settled; spare = new.spare }
 same_then {C} {M} first {new} same is =
     let early : new.early ≡ false = ap State.early is in
-    is ∙ ap (λ (x : State C M). let y : State C M = record x { machines = new.machines; early = false; settled = new.settled; spare = new.spare } in y) same
-    ∙ ap (λ (b : Bool). let y : State C M = record first { machines = new.machines; early = b; settled = new.settled; spare = new.spare } in y) (sym early)
+    is ∙ ap (λ x. let y : State C M = record x {
+      machines = new.machines;
+      early = false;
+      settled = new.settled;
+      spare =
+          new.spare;
+    } in y) same
+    ∙ ap (λ b. let y : State C M = record first {
+      machines = new.machines;
+      early = b;
+      settled = new.settled;
+      spare =
+          new.spare;
+    } in y) (sym early)
 
 -- nothing of other devices has changed
 pub others_then : {C M : Type 0} (device : ℕ) (first new : State C M)
@@ -59,7 +71,7 @@ others_then {C} {M} device first new same machines = record {
   ended = ap State.ended same;
   machines = machines;
   waiting = λ w other.
-      subst (λ (x : State C M). IsIn w x.waiting.items ↔ IsIn w first.waiting.items) (sym same) ((λ there. there), (λ there. there));
+      rw same ((λ there. there), (λ there. there));
 }
 
 module _ {C M : Type 0} (last_step : C → ℕ) (reading : C → ℕ → ℕ) (stands : Meaning M) (network : Network) (part : Part)
@@ -89,7 +101,7 @@ module _ {C M : Type 0} (last_step : C → ℕ) (reading : C → ℕ → ℕ) (s
       → IsAt reading stands network first (part_place part first.time device) → device.0 < length network.device → IsNoSoonerLeft part left
   from_then (Next due) is from at lt = tt
   from_then (Now other) is from at lt =
-      let m = at.is.devices device (subst (λ (n : Network). device.0 < length n.device) at.is.same lt) in
+      let m = at.is.devices device (rw at.is.same at lt) in
       let of = shows_of first at.is in
       let node = node_at at.s at.notes at.is m.0 m.2 in
       first_no_sooner part (is at.s m.0 node.0 of m.1 node.1) (from at.s m.0 node.0 of m.1 node.1)
@@ -117,7 +129,7 @@ module _ {C M : Type 0} (last_step : C → ℕ) (reading : C → ℕ → ℕ) (s
   same_world : (now mid : State C M) → mid.settled.items ≡ now.settled.items
       → world_of network now ≡ world_of network (record now { settled = mid.settled; spare = mid.spare })
   same_world now mid same =
-      ap (λ (l : List Settled). let w : World C (Kept M) = record (world_of network now) { settled = map (settled_at network now.time) l } in w) (sym same)
+      rw (sym same)
 
   -- a world stands, and the device's acts come first
   abbrev IsStillIn : Scenario → List Note → World C (Kept M) → Type 0
@@ -155,15 +167,14 @@ module _ {C M : Type 0} (last_step : C → ℕ) (reading : C → ℕ → ℕ) (s
   pub turn_with : (now : State C M) {mid : State C M} (left : ToDo) (acts : ℕ) → mid ≡ record now { settled = mid.settled; spare = mid.spare }
       → mid.settled.items ≡ now.settled.items → Turn now left acts → Turn mid left acts
   turn_with now {mid} left acts is same turn =
-      subst (λ (x : State C M). Turn x left acts) (sym is)
-      (record {
+      rw is (record {
         few = turn.few;
         sound = sound_with now mid same turn.sound;
-        same = ap (λ (x : State C M). let y : State C M = record x { settled = mid.settled; spare = mid.spare } in y) turn.same;
+        same = rw turn.same;
         machines = turn.machines;
         is_left = left_with now mid left same turn.is_left;
         later = turn.later;
-        above = subst (λ (l : List Settled). All (λ (z : Settled). part_rank part < rank z.body) l) (sym same) turn.above;
+        above = rw same turn.above;
         begun = λ due. turn.begun (due_with now mid due);
         still = λ s notes old f. still_with s now mid same (turn.still s notes old f);
         times = turn.times;
@@ -209,14 +220,14 @@ module _ {C M : Type 0} (last_step : C → ℕ) (reading : C → ℕ → ℕ) (s
         new = then.0;
         none = λ w source not_yet before. elim (either_way w frontier) [
           | inl lt ↦ not_yet lt
-          | inr (inl e) ↦ then.1 (subst (λ q. IsBefore q (part_place part first.time device)) e before)
+          | inr (inl e) ↦ then.1 (rw e at before)
           | inr (inr gt) ↦ then.1 (chain frontier w (part_place part first.time device) gt before)
         ];
         after = λ z there before.
             let made = made_of (settled_at network new.time) new.settled.items z there in
-            let high = each_of (λ (x : Settled). part_rank part < rank x.body) new.settled.items made.0 acted.above made.1 in
+            let high = each_of (λ x. part_rank part < rank x.body) new.settled.items made.0 acted.above made.1 in
             let now_is : new.time ≡ first.time = ap State.time acted.same ∙ time in
-            not_earlier new.time first.time (own_place made.0) (part_rank part ∷ device.0 ∷ []) (omega (arith, now_is))
+            not_earlier new.time first.time (own_place made.0) (part_rank part ∷ device.0 ∷ []) (omega arith)
             (λ e. higher (rank made.0.body) (part_rank part) (key (option_map_or (λ frame. frame.members.0) made.0.frame 0) made.0.body) (device.0 ∷ []) high)
             (subst (λ h. IsBefore (place_of h) (part_place part first.time device)) (sym made.2) before);
       }
@@ -235,14 +246,13 @@ module _ {C M : Type 0} (last_step : C → ℕ) (reading : C → ℕ → ℕ) (s
   times_then {now} {new} left acts turn due acted lt s notes old f machine last there there_last =
       let was = turn.still s notes old f in
       let time = now_time now left acts turn in
-      let mid = was.new.devices device (subst (λ (n : Network). device.0 < length n.device) was.new.same lt) in
+      let mid = was.new.devices device (rw was.new.same at lt) in
       let act = acted.acted s notes mid.0 was.new mid.1 in
-      let same : act.1 ≡ last = some_same act.1 last (slice_get new.machines.items device.0) act.2 there_last in
+      let same = some_same act.1 last (slice_get new.machines.items device.0) act.2 there_last in
       acts_add_up (keeps stands) s.network device (moment_of s device first.time) act.0 acts machine mid.0 last old.range old.rules
       (turn.times s notes old f machine mid.0 there mid.1)
-      (subst (λ t. IsDueNow (keeps stands) s.network device (moment_of s device t) mid.0) time (due_now now due was.new mid.1))
-      (subst (λ x. HasActed (keeps stands) s.network device (moment_of s device first.time) act.0 mid.0 x) same
-      (subst (λ t. HasActed (keeps stands) s.network device (moment_of s device t) act.0 mid.0 act.1) time act.3))
+      (rw time at (due_now now due was.new mid.1))
+      (rw same at (rw time at act.3))
 
   -- it acts at most so often
   few_then : {now new : State C M} (left : ToDo) (acts : ℕ) (turn : Turn now left acts) → Due now
@@ -250,7 +260,7 @@ module _ {C M : Type 0} (last_step : C → ℕ) (reading : C → ℕ → ℕ) (s
       → device.0 < length network.device → IsAt reading stands network first (part_place part first.time device) → acts + 1 ≤ 259
   few_then {now} {new} left acts turn due acted lt at =
       let s = at.s in
-      let own = subst (λ (n : Network). device.0 < length n.device) at.is.same lt in
+      let own = rw at.is.same at lt in
       let machine = at.is.devices device own in
       let was = turn.still s at.notes at.is at.first in
       let mid = was.new.devices device own in
@@ -282,6 +292,6 @@ module _ {C M : Type 0} (last_step : C → ℕ) (reading : C → ℕ → ℕ) (s
 pub left_later : (part : Part) (left : ToDo) → (left ≡ Now part → ⊥) → IsNoSoonerLeft part left → IsLaterThan part left
 left_later part (Next at) not later = tt
 left_later part (Now other) not later = elim (cases_eq (part_rank part) (part_rank other)) [
-  | inr apart ↦ omega (arith, apart, later)
-  | inl same ↦ absurd (not (ap (λ (p : Part). Now p) (one_rank other part (sym same))))
+  | inr apart ↦ omega arith
+  | inl same ↦ absurd (not (rw (one_rank other part (sym same))))
 ]

@@ -1,7 +1,7 @@
 -- How the clocks of a network go on by an event: what they read up to then stays, and from then on they read what the
 -- event makes of them.
 use Rattle.{drift_clock.{proofs.Histories.up_to-all, specs.{RateSteps.up_to, Readings.value_after}}, net_plan.specs.declared.event.Event.Event}
-use Rattle.drift_world.proofs.Words.{◌++◌, ◌∷◌, ◌≡◌, ◌≤◌, DeviceId, IsIn, IsLawful, List, Network, None, Option, RateStep, Some, [], amount, ap, arith}
+use Rattle.drift_world.proofs.Words.{◌++◌, ◌∷◌, ◌≡◌, ◌≤◌, DeviceId, IsIn, IsLawful, List, Network, None, Option, RateStep, Some, [], amount, arith}
 use Rattle.drift_world.{proofs.Words.{cases_lt, clock_after, inl, inr, le-leb, option_map_or, rate_steps, reading_of, refl, ℕ, ℤ}, specs.Running.clock_of}
 use Rattle.{run_law.proofs.scenario.Rated.{Holds, step_at}, std.proofs.lemmas.List.{Elements.{filter-append, filter_map-append}, Sums.fold-append}}
 use Rattle.{run_law.specs.scenario.Rates.step_by, std.{proofs.lemmas.Bool.lt-leb, specs.List.All}}
@@ -33,12 +33,13 @@ clock_more {C} fresh after_step network past event device = grind (arith, amount
 all_one : (t time : ℕ) (o : Option RateStep) (steps : List RateStep) → time ≤ t → Holds o (λ s. s.at ≡ time) → All (λ s. s.at ≤ t) steps
     → All (λ s. s.at ≤ t) (Rattle.std.specs.List.cons_option o steps)
 all_one t time None steps le at all = all
-all_one t time (Some step) steps le at all = Rattle.std.proofs.lemmas.List.Elements.All-cons (λ (s : RateStep). s.at ≤ t) step steps (omega (arith, le, at)) all
+all_one t time (Some step) steps le at all = Rattle.std.proofs.lemmas.List.Elements.All-cons (λ s. s.at ≤ t) step steps
+    (omega arith) all
 
 -- up to a time all steps have come, where all events have
 pub all_come : (events : List Event) (device : DeviceId) (t : ℕ) → ((e : Event) → IsIn e events → amount e.time ≤ t)
     → All (λ s. s.at ≤ t) (rate_steps events device)
-all_come [] device t past = Rattle.std.proofs.lemmas.List.Elements.All-nil (λ (s : RateStep). s.at ≤ t)
+all_come [] device t past = Rattle.std.proofs.lemmas.List.Elements.All-nil (λ s. s.at ≤ t)
 all_come (e ∷ es) device t past =
     all_one t (amount e.time) (step_by device (amount e.time) e.what) (rate_steps es device) (past e (inl refl))
     (step_at device (amount e.time) e.what) (all_come es device t (λ d i. past d (inr i)))
@@ -50,8 +51,7 @@ module _ {C : Type 0} (fresh : ℕ → C) (after_step : C → ℕ → ℤ → C)
       → reading_of fresh after_step reading network events device t
       ≡ reading (clock_of fresh after_step network events device) t
   reads_value network events device t past =
-      ap (λ l. reading (value_after after_step (fresh (amount network.grain)) l) t)
-      (up_to-all t (rate_steps events device) (all_come events device t past))
+      rw (up_to-all t (rate_steps events device) (all_come events device t past))
 
   -- ---- up to the event
 

@@ -1,6 +1,6 @@
 -- A world stands also where its lists have what they had in another order.
 use Rattle.drift_world.proofs.Words.{◌++◌, ◌↔◌, ◌∙◌, ◌≡◌, AtPort, Happening, IsIn, List, Meaning, Note, NoteBody, OnWire}
-use Rattle.drift_world.proofs.Words.{Scenario, Stands, StandsAt, World, behind, inl, inr, refl, subst, sym, ℕ}
+use Rattle.drift_world.proofs.Words.{Scenario, Stands, StandsAt, World, behind, inl, inr, refl, ℕ}
 use Rattle.world_law.specs.{steps.Turns.{IsTurn, TurnsBy}, world.Moves.{AreGiven, ArePut}}
 
 module _ {C M : Type 0} (reading : C → ℕ → ℕ) (stands : Meaning M) (s : Scenario) (world : World C M)
@@ -127,5 +127,4 @@ module _ {C M : Type 0} (reading : C → ℕ → ℕ) (stands : Meaning M) (s : 
           let base : World C M = record mid { settled = new.settled } in
           let it = turn.then_stands base more (IsTurn.puts late (record { none = g.none; put = g.put; same = refl })) in
           let so = with_lists reading stands s base (notes ++ more) wires ports on at it.0 in
-          subst (λ (w : World C M). StandsAt reading stands s w (notes ++ more) (behind place)) (sym g.same)
-          (so.0, so.1 ∙ it.1)
+          rw g.same (so.0, so.1 ∙ it.1)

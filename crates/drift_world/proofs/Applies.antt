@@ -21,34 +21,35 @@ module _ (network : Network) (f g : DeviceId → ℕ → ℕ) (past : List Event
       → last_set (scenario network g (past ++ event ∷ [])) setting init now ≡ unwrap_or (setting event.what)
       (last_set (scenario network f past) setting init now)
   set_more setting init =
-      ap (λ (l : List Event). unwrap_or (last_or None (filter_map (λ e. setting e.what) l)) init)
-      (filter_yes (λ e. nat_le (amount e.time) now) past event (le-leb (amount event.time) now (omega (arith, at))))
-      ∙ ap (λ l. unwrap_or (last_or None l) init) (filter_map-append (λ e. setting e.what) (events_up_to (scenario network f past) now) (event ∷ []))
-      ∙ last_more None (filter_map (λ e. setting e.what) (events_up_to (scenario network f past) now)) (setting event.what) init
+      rw (filter_yes (λ e. nat_le (amount e.time) now) past event (le-leb (amount event.time) now (omega arith)))
+      (ap (λ l. unwrap_or (last_or None l) init) (filter_map-append (λ e. setting e.what)
+      (events_up_to (scenario network f past) now) (event ∷ []))
+      ∙ last_more None (filter_map (λ e. setting e.what) (events_up_to (scenario network f past) now))
+      (setting event.what) init)
 
   way_more : (link : LinkId) (way : Way) (was : WayState) → way_as was ≡ way_now (scenario network f past) now link way
       → way_as (way_after link way event.what was) ≡ way_now (scenario network g (past ++ event ∷ [])) now link way
   way_more link way was is =
-      ap (λ (w : WayNow). let r : WayNow = record {
+      ap (λ w. let r : WayNow = record {
         delay = unwrap_or (wire_set link way event.what) w.delay;
         hold = unwrap_or (hold_set link way event.what) w.hold;
         cut = unwrap_or
             (cut_set link way event.what) w.cut;
       } in r) is
-      ∙ ap (λ (n : ℕ). let r : WayNow = record {
+      ∙ ap (λ n. let r : WayNow = record {
         delay = n;
         hold = unwrap_or (hold_set link way event.what)
             (last_set (scenario network f past) (hold_set link way) 0 now);
         cut = unwrap_or (cut_set link way event.what)
             (last_set (scenario network f past) (cut_set link way) false now);
       } in r) (sym (set_more (wire_set link way) (wire_of network link)))
-      ∙ ap (λ (n : ℕ). let r : WayNow = record {
+      ∙ ap (λ n. let r : WayNow = record {
         delay = last_set (scenario network g (past ++ event ∷ [])) (wire_set link way) (wire_of network link) now;
         hold = n;
         cut = unwrap_or (cut_set link way event.what) (last_set (scenario network f past) (cut_set link way) false now);
       } in r)
       (sym (set_more (hold_set link way) 0))
-      ∙ ap (λ (b : Bool). let r : WayNow = record {
+      ∙ ap (λ b. let r : WayNow = record {
         delay = last_set (scenario network g (past ++ event ∷ [])) (wire_set link way) (wire_of network link) now;
         hold = last_set
             (scenario network g (past ++ event ∷ [])) (hold_set link way) 0 now;
@@ -71,8 +72,8 @@ module _ (network : Network) (f g : DeviceId → ℕ → ℕ) (past : List Event
       → AreWays (scenario network g (past ++ event ∷ [])) now (map way_as new_ups) (map way_as new_downs)
   ways_more ups downs new_ups new_downs many_ups many_downs are each_up each_down =
       record {
-        up = λ link lt. one_way link Up ups new_ups (omega (arith, lt, many_ups)) (are.up link lt) (each_up link);
-        down = λ link lt. one_way link Down downs new_downs (omega (arith, lt, many_downs)) (are.down link lt) (each_down link);
+        up = λ link lt. one_way link Up ups new_ups (omega arith) (are.up link lt) (each_up link);
+        down = λ link lt. one_way link Down downs new_downs (omega arith) (are.down link lt) (each_down link);
       }
 
   -- ---- what waits
@@ -88,7 +89,7 @@ module _ (network : Network) (f g : DeviceId → ℕ → ℕ) (past : List Event
     λ there. let k = out_of items e there in (
       k.0,
       broken_more network f g past event now e.device at
-          ∙ ap (λ (b : Bool). b || breaks_at e.device.0 event.what) (sound e k.0) ∙ k.1,
+          ∙ ap (λ b. b || breaks_at e.device.0 event.what) (sound e k.0) ∙ k.1,
     ),
     λ h. into items e h.0 (neither _ _ (sym (broken_more network f g past event now e.device at) ∙ h.1)).1,
   )
@@ -113,18 +114,19 @@ module _ (network : Network) (f g : DeviceId → ℕ → ℕ) (past : List Event
       out_of [] e there = absurd there
       out_of (w ∷ items) e there =
           elim (from_if (breaks_at w.device.0 event.what) e w (filter (λ w. not (breaks_at w.device.0 event.what)) items) there) [
-            | inl h ↦ (inl h.0, ap (λ (x : Waiting). breaks_at x.device.0 event.what) h.0 ∙ h.1)
+            | inl h ↦ (inl h.0, rw h.0 h.1)
             | inr rest ↦ let k = out_of items e rest in (inr k.0, k.1)
           ]
 
       into : (items : List Waits) (e : Waiting) → IsIn e (map waiting_as items) → breaks_at e.device.0 event.what ≡ false
           → IsIn e (map waiting_as (filter (λ w. not (breaks_at w.device.0 event.what)) items))
       into [] e there stays = absurd there
-      into (w ∷ items) e (inl same) stays = kept_if (breaks_at w.device.0 event.what) e w _ (ap (λ (x : Waiting). breaks_at x.device.0 event.what) (sym same)
+      into (w ∷ items) e (inl same) stays = kept_if (breaks_at w.device.0 event.what) e w _
+          (ap (λ x. breaks_at x.device.0 event.what) (sym same)
           ∙ stays) (inl same)
       into (w ∷ items) e (inr rest) stays = rest_if (breaks_at w.device.0 event.what) e w _ (into items e rest stays)
 
 pub any_mapped : (device : DeviceId) (items : List Befallen)
     → list_any (λ b. turns_on device b.what) (map befell_as items) ≡ list_any (λ b. turns_on device b.what) items
 any_mapped device [] = refl
-any_mapped device (b ∷ items) = ap (λ (x : Bool). turns_on device b.what || x) (any_mapped device items)
+any_mapped device (b ∷ items) = rw (any_mapped device items)

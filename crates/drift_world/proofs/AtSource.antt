@@ -21,18 +21,18 @@ pub ranks : (source : Source) → IsSourceRank (source_rank source)
 ranks (Act part device) =
     let least = part_least part in
     let most = part_most part in
-    record { least = omega (arith, least); no_change = λ e. omega (arith, e, most); either = inl (omega (arith, most)) }
-ranks (Clock device) = record { least = omega arith; no_change = λ e. omega (arith, e); either = inr (omega arith) }
-ranks (Later time) = record { least = omega arith; no_change = λ e. omega (arith, e); either = inr (omega arith) }
-ranks other = record { least = omega arith; no_change = λ e. omega (arith, e); either = inl (omega arith) }
+    record { least = omega arith; no_change = λ e. omega arith; either = inl (omega arith) }
+ranks (Clock device) = record { least = omega arith; no_change = λ e. omega arith; either = inr (omega arith) }
+ranks (Later time) = record { least = omega arith; no_change = λ e. omega arith; either = inr (omega arith) }
+ranks other = record { least = omega arith; no_change = λ e. omega arith; either = inl (omega arith) }
 
 none : (r : ℕ) → 8 < r → r < 14 → (r ≤ 8) ⊎ (14 ≤ r) → ⊥
-none r low high (inl le) = omega (arith, low, le)
-none r low high (inr ge) = omega (arith, high, ge)
+none r low high (inl le) = omega arith
+none r low high (inr ge) = omega arith
 
 -- a record of such a rank stands where its source does
 pub at_rank : (body : NoteBody) → IsSourceRank (rank body) → is_at_source body ≡ true
-at_rank (kinds.Event line what) r = let least = r.least in absurd (omega (arith, least))
+at_rank (kinds.Event line what) r = let least = r.least in absurd (omega arith)
 at_rank (kinds.State device state cause why) r = absurd (r.no_change refl)
 at_rank (kinds.Lost device link cause) r = absurd (none 9 (omega arith) (omega arith) r.either)
 at_rank (kinds.TtSent device link cause vl cycle) r = absurd (none 10 (omega arith) (omega arith) r.either)
@@ -55,7 +55,7 @@ rank_most other = omega arith
 pub each_of : {X : Type 0} (P : X → Type 0) (xs : List X) (x : X) → All P xs → IsIn x xs → P x
 each_of P [] x all i = absurd i
 each_of P (y ∷ ys) x all (inl same) = subst P (sym same) (all zero y (omega arith))
-each_of P (y ∷ ys) x all (inr i) = each_of P ys x (λ k d within. all (suc k) d (omega (arith, within))) i
+each_of P (y ∷ ys) x all (inr i) = each_of P ys x (λ k d within. all (suc k) d (omega arith)) i
 
 -- nothing that is settled stands where its source does
 pub is_late : {C M : Type 0} {reading : C → ℕ → ℕ} (stands : Meaning M) {network : Network}
@@ -66,7 +66,7 @@ pub is_late : {C M : Type 0} {reading : C → ℕ → ℕ} (stands : Meaning M) 
 is_late stands {network} state {z} {s} {notes} whole old =
     let shown = settled_at network state.time z in
     let there : IsIn shown (map (settled_at network state.time) state.settled.items) =
-    subst (λ (l : List Settled). IsIn shown (map (settled_at network state.time) l)) (sym whole) (inl refl) in
+    rw whole (inl refl) in
     late_of old.are shown there
 
 -- ---- where the first of what is settled is of a higher rank, all is
@@ -74,11 +74,11 @@ is_late stands {network} state {z} {s} {notes} whole old =
 each_above : (network : Network) (now low : ℕ) (settled : List Settled) → InOrder (map (settled_at network now) settled)
     → ((z : Settled) (others : List Settled) → settled ≡ z ∷ others → low < rank z.body) → (y : Settled) → IsIn y settled → low < rank y.body
 each_above network now low [] order first y i = absurd i
-each_above network now low (x ∷ xs) order first y (inl e) = subst (λ (z : Settled). low < rank z.body) (sym e) (first x xs refl)
+each_above network now low (x ∷ xs) order first y (inl e) = rw e (first x xs refl)
 each_above network now low (x ∷ xs) order first y (inr i) =
     let lt = first x xs refl in
     elim (cases_lt (rank y.body) (rank x.body)) [
-      | inr ge ↦ omega (arith, lt, ge)
+      | inr ge ↦ omega arith
       | inl less ↦ absurd (order.0 (settled_at network now y) (is_mapped (settled_at network now) xs y i) (inr (refl, inl less)))
     ]
 
@@ -88,5 +88,5 @@ pub all_above : {C M : Type 0} {reading : C → ℕ → ℕ} (stands : Meaning M
     → ((z : Settled) (others : List Settled) → state.settled.items ≡ z ∷ others → low < rank z.body)
     → AreAbove low state
 all_above stands {network} state low old first =
-    all_of (λ (z : Settled). low < rank z.body) state.settled.items
+    all_of (λ z. low < rank z.body) state.settled.items
     (each_above network state.time low state.settled.items (settled_in_order old) first)

@@ -50,7 +50,6 @@ module _ (s : Scenario) {now : ℕ} (x : Happening) {number : ℕ} (giving : Giv
     -- whatever waits by it is this one
     only : (e : Waiting) → e.cause ≡ number → IsAwaitedFor s x e → (e ≡ waiting_as one) × (e.device ≡ giving.device) × (e.link ≡ link)
     only e cause_is for =
-        let bodies : Arrived e.device e.link for.from for.clock ≡ Arrived giving.device link cause clock = sym for.arrived ∙ is in
         let device : e.device ≡ giving.device = cc in
         let links : e.link ≡ link = cc in
         let clocks : for.clock ≡ clock = cc in
@@ -63,7 +62,7 @@ module _ (s : Scenario) {now : ℕ} (x : Happening) {number : ℕ} (giving : Giv
 
     arrival_waits : (b : Bool) → (not giving.broken && waits_for s.network giving.device link) ≡ b
         → IsOneMore (if b then Some one else None) old new → AreAwaited s x number (map waiting_as old) (map waiting_as new)
-    arrival_waits false e more = subst (λ (l : List Waits). AreAwaited s x number (map waiting_as old) (map waiting_as l)) (sym more)
+    arrival_waits false e more = subst (λ l. AreAwaited s x number (map waiting_as old) (map waiting_as l)) (sym more)
         (none_awaited s x number (map waiting_as old) (λ w for sound.
         let o = only (record w { cause = number }) refl (record {
           from = for.from;
@@ -77,8 +76,8 @@ module _ (s : Scenario) {now : ℕ} (x : Happening) {number : ℕ} (giving : Giv
         let wait : waits_for s.network giving.device link ≡ true =
         ap (λ d. waits_for s.network d link) (sym o.1) ∙ ap (waits_for s.network w.device) (sym o.2) ∙ for.waits in
         let both : (not giving.broken && waits_for s.network giving.device link) ≡ true =
-        ap (λ (c : Bool). not c && waits_for s.network giving.device link) whole ∙ wait in
-        let no_bool : true ≡ false = sym both ∙ e in absurd cc))
+        ap (λ c. not c && waits_for s.network giving.device link) whole ∙ wait in
+        absurd cc))
     arrival_waits true e more =
         let parts = split giving.broken (waits_for s.network giving.device link) e in
         let mapped : IsPermutation (waiting_as one ∷ map waiting_as old) (map waiting_as new) = IsPermutation-map waiting_as (one ∷ old) new more in
@@ -86,18 +85,19 @@ module _ (s : Scenario) {now : ℕ} (x : Happening) {number : ℕ} (giving : Giv
           real = λ w there.
               elim (in_permuted _ _ w (IsPermutation-sym _ _ mapped) there) [
                 | inr before ↦ inl before
-                | inl own ↦ inr (subst (λ (v : Waiting). (v.cause ≡ number) × IsAwaitedFor s x v × (is_broken s v.device (time_of x) ≡ false)) (sym own) (
-                  numbered,
-                  record {
-                    from = cause;
-                    clock = clock;
-                    arrived = is;
-                    of_frame = frame;
-                    waits = parts.1;
-                    at_point = ap (λ r. point_of (pos r) clock s.network.dmax.0) reads_so;
-                  },
-                  sym broken_so ∙ parts.0,
-                ))
+                | inl own ↦ inr (subst (λ v. (v.cause ≡ number) × IsAwaitedFor s x v
+                    × (is_broken s v.device (time_of x) ≡ false)) (sym own) (
+                      numbered,
+                      record {
+                        from = cause;
+                        clock = clock;
+                        arrived = is;
+                        of_frame = frame;
+                        waits = parts.1;
+                        at_point = ap (λ r. point_of (pos r) clock s.network.dmax.0) reads_so;
+                      },
+                      sym broken_so ∙ parts.0,
+                    ))
               ];
           kept = λ w there. in_permuted _ _ w mapped (inr there);
           all = λ w cause_is for sound. in_permuted _ _ w mapped (inl (only w cause_is for).0);
@@ -114,7 +114,7 @@ module _ (s : Scenario) {now : ℕ} (x : Happening) {number : ℕ} (giving : Giv
             arrival_waits is _ refl
             (subst (λ b. IsOneMore (awaited_by s.network giving.broken b (Some giving.frame) giving.reading giving.number) old new) is more)
         | inr a ↦
-            subst (λ (l : List Waits). AreAwaited s x number (map waiting_as old) (map waiting_as l))
-            (sym (subst (λ o. IsOneMore o old new) (a.none s.network giving.broken (Some giving.frame) giving.reading giving.number) more))
+            subst (λ l. AreAwaited s x number (map waiting_as old) (map waiting_as l))
+            (sym (rw (a.none s.network giving.broken (Some giving.frame) giving.reading giving.number) at more))
             (none_awaited s x number (map waiting_as old) (λ w for sound. a.apart w.device w.link for.from for.clock for.arrived))
       ]

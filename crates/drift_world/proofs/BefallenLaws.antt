@@ -50,10 +50,10 @@ module _ (s : Scenario) where
   with_it : (o : Option (Entry Content)) (ws : List OnWire) (old new : List (Entry Content)) → IsOn o ws → IsPutOn o old new → (y : OnWire)
       → IsIn y (filter_map (on_wire s.network) new) ↔ (IsIn y (filter_map (on_wire s.network) old) ⊎ IsIn y ws)
   with_it None ws old new on put y = (
-    λ there. inl (subst (λ (l : List (Entry Content)). IsIn y (filter_map (on_wire s.network) l)) put there),
+    λ there. inl (rw put at there),
     λ h. elim h [
-      | inl there ↦ subst (λ (l : List (Entry Content)). IsIn y (filter_map (on_wire s.network) l)) (sym put) there
-      | inr more ↦ absurd (subst (λ l. IsIn y l) on more)
+      | inl there ↦ rw put there
+      | inr more ↦ absurd (rw on at more)
     ],
   )
   with_it (Some e) ws old new on put y = (
@@ -61,17 +61,18 @@ module _ (s : Scenario) where
         let of = given_of (on_wire s.network) new y there in
         elim (in_permuted new (e ∷ old) of.0 (IsPermutation-sym _ _ put) of.1) [
           | inl own ↦
-              let same : y ≡ on.0 = same_Some _ _ (sym of.2 ∙ ap (on_wire s.network) own ∙ on.1) in
-              inr (subst (λ l. IsIn y l) (sym on.2) (inl same))
+              let same = same_Some _ _ (sym of.2 ∙ ap (on_wire s.network) own ∙ on.1) in
+              inr (rw on.2 (inl same))
           | inr rest ↦ inl (is_given (on_wire s.network) old of.0 y rest of.2)
         ],
     λ h. elim h [
       | inl there ↦
           let of = given_of (on_wire s.network) old y there in
           is_given (on_wire s.network) new of.0 y (in_permuted (e ∷ old) new of.0 put (inr of.1)) of.2
-      | inr more ↦ elim (subst (λ l. IsIn y l) on.2 more) [
+      | inr more ↦ elim (rw on.2 at more) [
         | inl same ↦
-            is_given (on_wire s.network) new e y (in_permuted (e ∷ old) new e put (inl refl)) (on.1 ∙ ap (λ (v : OnWire). Some v) (sym same))
+            is_given (on_wire s.network) new e y (in_permuted (e ∷ old) new e put (inl refl))
+            (on.1 ∙ ap (λ v. Some v) (sym same))
         | inr none ↦ absurd none
       ]
     ],
@@ -93,18 +94,11 @@ module _ (s : Scenario) where
     sent_as : (link : LinkId) (octets : List ℕ) (l : Link) (w : WayState) (cut : Bool) → w.cut ≡ cut → w.delay ≡ delay_at s link Up now
         → IsOn (sent_up s.network now number link octets l w) (if cut then [] else sent_on s now number link octets l ∷ [])
     sent_as link octets l w true is delay =
-        subst (λ o. IsOn o []) (sym (ap (λ (b : Bool). if b then None else Some (entry_up link octets l w)) is)) refl
+        rw (ap (λ (b : Bool). if b then None else Some (entry_up link octets l w)) is) refl
     sent_as link octets l w false is delay =
-        subst (λ o. IsOn o (sent_on s now number link octets l ∷ []))
-        (sym (ap (λ (b : Bool). if b then None else Some (entry_up link octets l w)) is)) (
+        rw (ap (λ (b : Bool). if b then None else Some (entry_up link octets l w)) is) (
           sent_on s now number link octets l,
-          ap (λ (d : ℕ). let y : OnWire = record {
-            at = now + time_on_port s.network link (signal_of octets) + d;
-            device = l.parent;
-            link = link;
-            cause = number;
-            signal = signal_of octets;
-          } in Some y) delay,
+          rw delay,
           refl,
         )
 
@@ -114,13 +108,11 @@ module _ (s : Scenario) where
 
     by_link : (link : LinkId) (octets : List ℕ) (o : Option Link) → link_at s.network link ≡ o
         → IsOn (option_and_then (λ l. option_and_then (sent_up s.network now number link octets l) (slice_get ups link.0)) o)
-        (if is_cut s link Up now then [] else option_map_or (λ (l : Link). sent_on s now number link octets l ∷ []) o [])
+        (if is_cut s link Up now then [] else option_map_or (λ l. sent_on s now number link octets l ∷ []) o [])
     by_link link octets None found = no_wires (is_cut s link Up now)
     by_link link octets (Some l) found =
         let up = way_up ups downs ways link (slice_get_within s.network.link link.0 l found) in
-        subst (λ (o : Option WayState). IsOn (option_and_then (sent_up s.network now number link octets l) o)
-        (if is_cut s link Up now then [] else sent_on s now number link octets l ∷ [])) (sym up.found)
-        (sent_as link octets l up.way (is_cut s link Up now) (ap WayNow.cut up.is) (ap WayNow.delay up.is))
+        rw up.found (sent_as link octets l up.way (is_cut s link Up now) (ap WayNow.cut up.is) (ap WayNow.delay up.is))
 
     event_on : (what : What) → IsOn (entry_of s.network ups now number what) (wires_of s now number what)
     event_on (events.Send link octets) = by_link link octets (link_at s.network link) refl
@@ -134,7 +126,7 @@ module _ (s : Scenario) (hs : List Happening) (now : ℕ) where
 
   -- what is settled stays in order
   order_some : (o : Option Settled) (old new : List Settled) → IsSomePut o old new → InOrder (map shown old) → InOrder (map shown new)
-  order_some None old new put order = subst (λ (l : List Settled). InOrder (map shown l)) (sym put) order
+  order_some None old new put order = rw put order
   order_some (Some z) old new put order = order_put order (is_put_in s.network now put.1 order)
 
   module _ (broken : List Bool) (ups downs : List WayState) (ways : AreWays s now (map way_as ups) (map way_as downs)) (number : ℕ) (old new : List Settled)
@@ -144,7 +136,7 @@ module _ (s : Scenario) (hs : List Happening) (now : ℕ) where
         → ArePutIn s.network hs now (bodies_of s now number (events.On device)) (map shown old) (map shown new)
     on_put device found put =
         some_put_in s.network s.network now hs (kinds.State device Integrating number whys.On) (bare (kinds.State device Integrating number whys.On)) old new
-        (is_broken s device now) (subst (λ (o : Option Bool). IsSomePut (option_and_then (turned_on number device) o) old new) found put) order refl
+        (is_broken s device now) (rw found at put) order refl
 
     lost_put : (link : LinkId) (l : Link) (cut : Bool) → IsSomePut (if cut then Some (bare (kinds.Lost l.child link number)) else None) old new
         → ArePutIn s.network hs now (if cut then kinds.Lost l.child link number ∷ [] else []) (map shown old) (map shown new)
@@ -154,15 +146,15 @@ module _ (s : Scenario) (hs : List Happening) (now : ℕ) where
 
     send_put : (link : LinkId) (o : Option Link) → link_at s.network link ≡ o
         → IsSomePut (option_and_then (λ l. option_and_then (lost_on number link l) (slice_get ups link.0)) o) old new
-        → ArePutIn s.network hs now (option_map_or (λ (way : Link). if is_cut s link Up now then kinds.Lost way.child link number ∷ [] else []) o [])
+        → ArePutIn s.network hs now (option_map_or (λ way. if is_cut s link Up now then kinds.Lost way.child link
+        number ∷ [] else []) o [])
         (map shown old) (map shown new)
     send_put link None found put = ap (map shown) put
     send_put link (Some l) found put =
         let up = way_up ups downs ways link (slice_get_within s.network.link link.0 l found) in
-        let first = subst (λ (o : Option WayState). IsSomePut (option_and_then (lost_on number link l) o) old new) up.found put in
+        let first = rw up.found at put in
         lost_put link l (is_cut s link Up now)
-        (subst (λ (b : Bool). IsSomePut (if b then Some (bare (kinds.Lost l.child link number)) else None) old new)
-        (ap WayNow.cut up.is) first)
+        (rw (ap WayNow.cut up.is) at first)
 
     event_put : (what : What) → ((device : DeviceId) → what ≡ events.On device → slice_get broken device.0 ≡ Some (is_broken s device now))
         → IsSomePut (record_of s.network broken ups number what) old new
@@ -237,14 +229,14 @@ module _ {C M : Type 0} {reading : C → ℕ → ℕ} {stands : Meaning (Kept M)
       let within = numbered_within (happenings s.network notes) b.number it.h it.of_time.there in
       let long = length_is s notes in
       let given = old.given in
-      omega (arith, within, long, given)
+      omega arith
 
   -- and nothing under way is on a wire by them
   pub fresh_of : AreUnderWay s.network state.under_way.entries → (b : Befallen) → IsIn b state.befell.items → IsFreshOf state.under_way.entries b.number
   fresh_of are b i d there rank cause = by d.content refl (sym (are.kinds d there) ∙ rank)
     where
       by : (content : Content) → d.content ≡ content → rank_of d.content ≡ 2 → ⊥
-      by (Port frame reading) is kind = absurd (let bad : 8 ≡ 2 = sym (ap rank_of is) ∙ kind in omega (arith, bad))
+      by (Port frame reading) is kind = absurd (let bad = sym (ap rank_of is) ∙ kind in omega arith)
       by (Wire signal) is kind =
           let it = of_record b i in
           let w : OnWire = record {
@@ -256,7 +248,8 @@ module _ {C M : Type 0} {reading : C → ℕ → ℕ} {stands : Meaning (Kept M)
           } in
           let on = is_given (on_wire s.network) state.under_way.entries d w there (ap (wire_at s.network d.place) is) in
           let real = old.wires.real w on in
-          let same : real.0.putting ≡ it.h = same_Some _ _ (sym real.0.there ∙ ap (numbered (happenings s.network notes)) cause ∙ it.of_time.there) in
+          let same = same_Some _ _ (sym real.0.there ∙ ap (numbered (happenings s.network notes)) cause ∙
+          it.of_time.there) in
           real.1 pending (ap time_of same ∙ it.of_time.same_time)
 
   -- the outcomes are settled
@@ -274,11 +267,10 @@ module _ {C M : Type 0} {reading : C → ℕ → ℕ} {stands : Meaning (Kept M)
   befallen_stands settled entries few so =
       let hs = happenings s.network notes in
       let world = world_of s.network state in
-      let long : length world.befell ≡ length state.befell.items = length-map state.befell.items befell_as in
-      let from_none = subst (λ l. AreSettledBy s.network state.broken.items state.ups.items state.time state.befell.items l settled
-      state.under_way.entries entries) none_settled so in
+      let long = length-map state.befell.items befell_as in
+      let from_none = rw none_settled at so in
       let step = befell_step reading stands s world notes (filter_map (on_wire s.network) entries) (map (settled_at s.network state.time) settled) old pending
-      (omega (arith, few, long))
+      (omega arith)
       (all_wires hs state.broken.items state.ups.items state.downs.items old.ways state.befell.items state.settled.items settled
       state.under_way.entries entries of_record so)
       (all_records hs state.broken.items state.ups.items state.downs.items old.ways state.befell.items [] settled
@@ -315,7 +307,7 @@ module _ {C M : Type 0} {reading : C → ℕ → ℕ} {stands : Meaning (Kept M)
         settled = map (settled_at network state.time) settled;
       }) notes (behind (state.time ∷ 2 ∷ []))
   befallen_behind {befell} settled entries none few so =
-      subst (λ (l : List Befallen). StandsAt reading stands s
+      subst (λ l. StandsAt reading stands s
       (record (world_of network state) {
         wires = filter_map (on_wire network) entries;
         ports = filter_map at_port entries;
@@ -324,7 +316,7 @@ module _ {C M : Type 0} {reading : C → ℕ → ℕ} {stands : Meaning (Kept M)
         befell = map befell_as l;
         settled = map (settled_at network state.time) settled;
       }) notes (behind (state.time ∷ 2 ∷ []))) (sym none)
-      (subst (λ (n : Network). Standing n
+      (subst (λ n. Standing n
       → AreSettledBy n state.broken.items state.ups.items state.time state.befell.items state.settled.items settled state.under_way.entries entries
       → StandsAt reading stands s
       (record (world_of n state) {
@@ -342,7 +334,7 @@ module _ {C M : Type 0} {reading : C → ℕ → ℕ} {stands : Meaning (Kept M)
 
   pub all_fresh : AreUnderWay network state.under_way.entries → (b : Befallen) → IsIn b state.befell.items → IsFreshOf state.under_way.entries b.number
   all_fresh are = fresh_of state (subst Standing old.same old) pending
-      (subst (λ n. AreUnderWay n state.under_way.entries) old.same are)
+      (rw old.same at are)
 
 -- ---- the records need no octets
 

@@ -1,7 +1,7 @@
 -- A timer that is right for the reading at which a machine acts next.
 use Rattle.{drift_world.{proofs.Foremost.node_of, specs.Acting.IsNextDue}, run_law.specs.machines.{Calls.HasDue, Tasks.IsDueReading}, world_law.proofs.giving.GivenParts.some_same}
-use Rattle.drift_world.proofs.Words.{◌+◌, ◌<◌, ◌∙◌, ◌≡◌, DeviceId, IsWell, Kept, List, Meaning, Network, Node, None, Option, Some, ap, arith, ints, keeps, length, subst}
-use Rattle.{drift_world.proofs.Words.{never, pos, refl, sym, ℕ}, std.proofs.Common.slice_get, world_state.specs.declared.timers.Timer.Timer}
+use Rattle.drift_world.proofs.Words.{◌<◌, ◌∙◌, ◌≡◌, DeviceId, IsWell, Kept, Meaning, Network, Node, None, Option, Some, arith, ints, keeps, length, subst}
+use Rattle.{drift_world.proofs.Words.{never, pos, refl, sym, ℕ}, world_state.specs.declared.timers.Timer.Timer}
 use Rattle.drift_world.specs.{Parts.{IsNoSooner, part_rank}, declared.part.Part.Part}
 use Rattle.{drift_world.specs.{Stepping.{ActsAt, IsDueBy, IsDueTimed, IsTimerBy}, declared.state.State.State}, tte_units.specs.declared.units.Units.Units}
 
@@ -15,12 +15,12 @@ module _ {C M : Type 0} {reading : C → ℕ → ℕ} (stands : Meaning M) (netw
     none = λ u from most reached.
         let first = least.0 in
         let reads = first.2 in
-        acts.none node first.0 kept first.1 u from most (omega (arith, ints, reads, reached));
+        acts.none node first.0 kept first.1 u from most (omega (arith, ints));
     one = λ lt.
         let task = acts.one lt node kept in
         let le = least.1 task.0 task.1 in
         let reads = task.2 in
-        omega (arith, ints, le, reads);
+        omega (arith, ints);
   }
 
   -- and the other way about, where it is of the right part
@@ -35,14 +35,15 @@ module _ {C M : Type 0} {reading : C → ℕ → ℕ} (stands : Meaning M) (netw
   }
   acts_by {clock} machine device {time} part (Some at) least by keeps_part = record {
     none = λ node task kept pending u from most reached.
-        let le = (least node kept).1 task pending in by.none u from most (omega (arith, ints, le, reached));
+        let le = (least node kept).1 task pending in by.none u from most (omega (arith, ints));
     one = one;
     late = λ lt. keeps_part;
   }
     where
       one : time < never → (node : Node) → keeps stands machine network device node → HasDue network device node (pos (reading clock time))
       one lt node kept =
-          let first = (least node kept).0 in let e = first.2 in let reads = by.one lt in (first.0, first.1, omega (arith, ints, e, reads))
+          let first = (least node kept).0 in let e = first.2 in let reads = by.one lt in
+          (first.0, first.1, omega (arith, ints))
 
   -- it stays right for the reading where clocks, timers and time do, whatever becomes of the machine
   pub due_stays : {last_step : C → ℕ} {old : State C M} (new : State C M) (device : DeviceId) (due : Option Units) → IsWell last_step reading stands network old
@@ -50,10 +51,10 @@ module _ {C M : Type 0} {reading : C → ℕ → ℕ} (stands : Meaning M) (netw
       → new.clocks ≡ old.clocks → new.time ≡ old.time → new.timers ≡ old.timers → IsDueTimed reading network new device.0 due
   due_stays {old} new device due well of_it least clocks now timers clock timer own at =
       let timed = (well.timed.each device of_it).act in
-      let clock_is : timed.clock ≡ clock = some_same _ _ _ timed.of_clock (sym (ap (λ (c : _). slice_get c.items device.0) clocks) ∙ own) in
+      let clock_is = some_same _ _ _ timed.of_clock (sym (rw clocks) ∙ own) in
       let was : Timer = record { time = timed.act; rank = part_rank timed.part } in
-      let timer_is : was ≡ timer = some_same _ _ _ timed.of_act
-      (sym (ap (λ (l : List Timer). slice_get l (length network.device + device.0)) timers) ∙ at) in
+      let timer_is = some_same _ _ _ timed.of_act
+      (sym (rw timers) ∙ at) in
       let node = node_of well.running device of_it timed.of_machine in
       let by = due_by due node.0 node.1
       (least timed.machine network device node.0 timed.of_machine node.1) timed.acts in

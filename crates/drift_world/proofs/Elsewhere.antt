@@ -3,9 +3,8 @@ use Rattle.{drift_world.{proofs.Timings.still_timed, specs.declared.state.State.
 use Rattle.drift_world.proofs.Words.{◌+◌, ◌<◌, ◌==◌, ◌↔◌, ◌∙◌, ◌∷◌, ◌≡◌, ◌⊎◌, AreTimed, Bool, DeviceId, IfSome, IsIn, IsOfNetwork, IsSomeAnd, IsTimed}
 use Rattle.drift_world.proofs.Words.{List, Meaning, Network, None, Option, Some, Units, Waits, What, [], amount, ap, arith, breaks_at, cases_eq, clock_after}
 use Rattle.drift_world.proofs.Words.{eqb-true, false, false_from_ne_true, filter, if◌then◌else◌, in_filter, inl, inr, length, not, option_map_or, refl}
-use Rattle.drift_world.{proofs.Words.{same_Some, subst, sym, true, ℕ, ℤ}, specs.Stepping.{IsSlotBy, SetsOnly}}
+use Rattle.drift_world.{proofs.Words.{same_Some, sym, true, ℕ, ℤ}, specs.Stepping.{IsSlotBy, SetsOnly}}
 use Rattle.std.proofs.Common.{◌≢◌, slice_get}
-use Rattle.world_state.specs.{declared.timers.Timer.Timer, timers.Times.AreFrom}
 use Rattle.net_plan.specs.declared.event.What.TheVariants as events
 
 -- ---- what an event does to another device
@@ -30,7 +29,7 @@ breaks_other device w rest away at = refl
 
 in_kept : {X : Type 0} (q : X → Bool) (xs : List X) (x : X) → q x ≡ true → IsIn x xs → IsIn x (filter q xs)
 in_kept q [] x passes i = i
-in_kept q (y ∷ ys) x passes (inl same) = subst (λ (b : Bool). IsIn x (if b then y ∷ filter q ys else filter q ys)) (sym (ap q (sym same) ∙ passes)) (inl same)
+in_kept q (y ∷ ys) x passes (inl same) = rw (ap q (sym same) ∙ passes) (inl same)
 in_kept q (y ∷ ys) x passes (inr i) =
     elim (q y) as (λ b. IsIn x (if b then y ∷ filter q ys else filter q ys)) [ true ↦ inr (in_kept q ys x passes i) | false ↦ in_kept q ys x passes i ]
 
@@ -43,9 +42,9 @@ waits_elsewhere old device what is away w at = grind (arith, not, breaks_at, bre
 -- the device that an event changes is one of the network
 pub its_device : (network : Network) (what : What) {device : DeviceId} → IsOfNetwork network what → device_in what ≡ Some device
     → device.0 < length network.device
-its_device network (events.Rate d rate) of is = subst (λ (x : DeviceId). x.0 < length network.device) (same_Some _ _ is) of
-its_device network (events.On d) of is = subst (λ (x : DeviceId). x.0 < length network.device) (same_Some _ _ is) of
-its_device network (events.Break d) of is = subst (λ (x : DeviceId). x.0 < length network.device) (same_Some _ _ is) of
+its_device network (events.Rate d rate) of is = rw (same_Some _ _ is) at of
+its_device network (events.On d) of is = rw (same_Some _ _ is) at of
+its_device network (events.Break d) of is = rw (same_Some _ _ is) at of
 its_device network other of is = absurd cc
 
 -- the timers of another device are not among its
@@ -54,13 +53,13 @@ module _ (devices : ℕ) (device : DeviceId) (there : device.0 < devices) where
       → IsSomeAnd o (λ d. (device.0 ≡ d.0) ⊎ (device.0 ≡ devices + d.0)) → ⊥
   not_ripe None away is = is
   not_ripe (Some d) away (inl e) = away (sym e)
-  not_ripe (Some d) away (inr e) = omega (arith, e, there)
+  not_ripe (Some d) away (inr e) = omega arith
 
   not_act : (o : Option DeviceId) → ((d : DeviceId) → o ≡ Some d → d.0 < devices) → IfSome o (λ d. d.0 ≢ device.0)
       → IsSomeAnd o (λ d. (devices + device.0 ≡ d.0) ⊎ (devices + device.0 ≡ devices + d.0)) → ⊥
   not_act None within away is = is
-  not_act (Some d) within away (inl e) = let lt = within d refl in omega (arith, e, lt)
-  not_act (Some d) within away (inr e) = away (omega (arith, e))
+  not_act (Some d) within away (inl e) = let lt = within d refl in omega arith
+  not_act (Some d) within away (inr e) = away (omega arith)
 
 -- the timers are right, where those of the device that the event changes are set
 pub timed_by_event : {C M : Type 0} {reading : C → ℕ → ℕ} {stands : Meaning M}
@@ -75,8 +74,7 @@ pub timed_by_event : {C M : Type 0} {reading : C → ℕ → ℕ} {stands : Mean
 timed_by_event {C} {M} {reading} {stands} {network} {old} {mid} {new} what are away timers time of_network sets own = record {
   sized = sets.sized ∙ ap length timers ∙ are.sized;
   each = λ device there. each device there (device_in what) refl;
-  later = sets.later (subst (λ n. AreFrom n mid.timers) (sym time)
-      (subst (λ l. AreFrom old.time l) (sym timers) are.later));
+  later = sets.later (rw time (rw timers are.later));
 }
   where
     still : (device : DeviceId) → device.0 < length network.device → IsElsewhere what device → IsTimed reading stands network new.timers new device
@@ -84,20 +82,20 @@ timed_by_event {C} {M} {reading} {stands} {network} {old} {mid} {new} what are a
         let is = away device there else_where in
         let same = sets.same in
         still_timed new (are.each device there)
-        (ap (λ (s : State C M). slice_get s.clocks.items device.0) same ∙ is.0)
-        (ap (λ (s : State C M). slice_get s.machines.items device.0) same ∙ is.1)
-        (λ w at. subst (λ (s : State C M). IsIn w s.waiting.items ↔ IsIn w old.waiting.items) (sym same) (is.2 w at))
-        (let now = ap State.time same in omega (arith, now, time))
+        (rw same is.0)
+        (rw same is.1)
+        (λ w at. rw same (is.2 w at))
+        (let now = ap State.time same in omega arith)
         (sets.others device.0 (not_ripe (length network.device) device there (device_in what) else_where)
-        ∙ ap (λ (l : List Timer). slice_get l device.0) timers)
+        ∙ ap (λ l. slice_get l device.0) timers)
         (sets.others (length network.device + device.0)
         (not_act (length network.device) device there (device_in what) (λ d is. its_device network what of_network is) else_where)
-        ∙ ap (λ (l : List Timer). slice_get l (length network.device + device.0)) timers)
+        ∙ ap (λ l. slice_get l (length network.device + device.0)) timers)
 
     each : (device : DeviceId) → device.0 < length network.device → (o : Option DeviceId) → device_in what ≡ o
         → IsTimed reading stands network new.timers new device
-    each device there None none = still device there (subst (λ (o : Option DeviceId). IfSome o (λ d. d.0 ≢ device.0)) (sym none) tt)
+    each device there None none = still device there (rw none tt)
     each device there (Some other) is = elim (cases_eq other.0 device.0) [
-      | inl at ↦ own device (is ∙ ap (λ (n : ℕ). Some (let d : DeviceId = record { 0 = n } in d)) at)
-      | inr ne ↦ still device there (subst (λ (o : Option DeviceId). IfSome o (λ d. d.0 ≢ device.0)) (sym is) ne)
+      | inl at ↦ own device (is ∙ ap (λ n. Some (let d : DeviceId = record { 0 = n } in d)) at)
+      | inr ne ↦ still device there (rw is ne)
     ]

@@ -1,8 +1,7 @@
 -- Where only events of the present instant are worked off, the records given are the run behind them.
-use Rattle.drift_world.proofs.Words.{◌+◌, ◌<◌, ◌∷◌, ◌≡◌, ◌≤◌, AreComing, Happening, IsBefore, IsDue, IsScenarioRun, List, Meaning, Note}
+use Rattle.drift_world.proofs.Words.{◌+◌, ◌<◌, ◌∷◌, ◌≡◌, ◌≤◌, Happening, IsBefore, IsDue, IsScenarioRun, List, Meaning, Note}
 use Rattle.drift_world.proofs.Words.{Scenario, Stands, World, [], amount, ap, append-nil, arith, chain, happenings, inl, inr, place_of, refl, subst}
 use Rattle.drift_world.{proofs.Words.{sym, true, ℕ, ℤ}, specs.Running.RunsBehindEvents}
-use Rattle.world_law.specs.world.World.{IsDueAs, IsWorkedOff}
 use Rattle.world_law.proofs.{runs.{Next.none_due, Sourced.sourced, TaskPlaces.placed_so}, steps_lemmas.steps.Applied.no_coming}
 use Rattle.{net_plan.specs.declared.event.Event.Event, world_law.{proofs.runs.Firsts.source_before, specs.source.{Next.NoneDueBefore, Sources.IsSource}}}
 use Rattle.run_law.proofs.runs.Grow.{move_mark}
@@ -19,7 +18,7 @@ none_coming {s} {world} {notes} old early =
 -- a place of the time before the place behind its events is of a lesser time, or of the rank 0 or 1
 sooner : (t now k : ℕ) (ws : List ℕ) → IsBefore (t ∷ k ∷ ws) (now ∷ 2 ∷ []) → 2 ≤ k → t < now
 sooner t now k ws (inl lt) high = lt
-sooner t now k ws (inr (e, inl few)) high = absurd (omega (arith, few, high))
+sooner t now k ws (inr (e, inl few)) high = absurd (omega arith)
 sooner t now k ws (inr (e, inr (same, none))) high = absurd none
 
 module _ {C M : Type 0} {reading : C → ℕ → ℕ} {stands : Meaning M} {s : Scenario} {world : World C M}
@@ -55,7 +54,7 @@ module _ {C M : Type 0} {reading : C → ℕ → ℕ} {stands : Meaning M} {s : 
   worked (IsSource.departing t device link cause d) b = by_time t 8 (device.0 ∷ link.0 ∷ cause ∷ []) (omega arith) b
   worked (IsSource.following t cause h it) b = by_time t 2 [] (omega arith) b
   worked (IsSource.befalling time line what r) b =
-      subst (λ (n : ℕ). IsBefore (n ∷ 1 ∷ []) old.frontier) (ap amount (sym r.at)) (told r.before r.event r.is)
+      rw (ap amount (sym r.at)) at (told r.before r.event r.is)
   worked (IsSource.ending time device is there ends) b = by_time (amount time) 14 (device.0 ∷ []) (omega arith) b
 
   nothing : NoneDueBefore place_of (IsDue s) old.frontier hs (world.now ∷ 2 ∷ [])
@@ -63,17 +62,16 @@ module _ {C M : Type 0} {reading : C → ℕ → ℕ} {stands : Meaning M} {s : 
   nothing y due not here =
       let from = sourced s hs y due in
       let is_worked = worked from.source (source_before from.place (place_of y) (world.now ∷ 2 ∷ []) from.no_later here) in
-      let are = subst (λ l. AreComing s hs l old.frontier world.now) (none_coming old early) old.are in
+      let are = rw (none_coming old early) at old.are in
       (are.full [] [] y refl (λ n i. absurd i) (λ n i. absurd i) not
-      (subst (λ l. IsDueAs s l y) (sym (append-nil hs)) (record { same = due.same; begun = due.begun; cause = due.cause }))
-      (subst (λ l. IsWorkedOff s l old.frontier y) (sym (append-nil hs))
-      (from.place, from.own, from.source, is_worked))).1
+      (rw (append-nil hs) (record { same = due.same; begun = due.begun; cause = due.cause }))
+      (rw (append-nil hs) (from.place, from.own, from.source, is_worked))).1
 
   -- the records are the run behind the events of the instant
   pub run_behind_events : IsScenarioRun s (world.now ∷ 2 ∷ []) notes
   unfolding hs
   run_behind_events =
-      move_mark (IsDue s) {later = world.now ∷ 2 ∷ []} old.run
+      move_mark (IsDue s) old.run
       (λ n i. old.early early (place_of n) (old.run.within n i))
       (none_due place_of (IsDue s) old.frontier hs (world.now ∷ 2 ∷ []) old.run.within nothing)
 

@@ -1,6 +1,6 @@
 -- What is settled stays fit to be given.
 use Rattle.drift_world.proofs.Words.{◌+◌, ◌<◌, ◌∷◌, ◌≡◌, AreApart, AreBelow, AreUnderWay, AtPort, Bool, Content, HasItsOctets, IsPermutation, IsPermutation-sym}
-use Rattle.drift_world.proofs.Words.{IsPutAt, IsShort, IsSized, IsSomePut, IsSound, List, Network, None, Option, Settled, Some, Waits, ap, arith}
+use Rattle.drift_world.proofs.Words.{IsPutAt, IsSized, IsSomePut, IsSound, List, Network, None, Option, Settled, Some, ap, arith}
 use Rattle.drift_world.{proofs.Words.{departure_body, in_permuted, inr, length, refl, subst, sym, ℕ}, specs.declared.state.State.State}
 use Rattle.{std.proofs.{Common.All, lemmas.Grind.elements}, world_state.specs.{Leaving.departed, declared.queue.Entry.Entry}}
 
@@ -10,7 +10,7 @@ have_octets z = HasItsOctets z.body z.octets
 pub all_put : (P : Settled → Type 0) {z : Settled} {old new : List Settled} {at : ℕ} → IsPutAt z old new at → P z → All P old → All P new
 all_put P put own all =
     let within = put.within in
-    subst (All P) (sym put.is) (grind (arith, elements, own, all, within))
+    subst (All P) (sym put.is) (grind (arith, elements))
 
 pub all_put_some : (P : Settled → Type 0) (o : Option Settled) (old new : List Settled) → IsSomePut o old new
     → ((z : Settled) → o ≡ Some z → P z) → All P old → All P new
@@ -40,20 +40,17 @@ module _ {C M : Type 0} {last_step : C → ℕ} {network : Network} {old : State
       → new.under_way.entries ≡ old.under_way.entries → new.waiting.items ≡ old.waiting.items
       → All (λ z. HasItsOctets z.body z.octets) new.settled.items → IsSound last_step network new
   sound_same new sound clocks machines broken ups downs time shown given entries waiting octets =
-      let z = sound.sized in
       let fit = sound.fit in
       let number = ap (λ k. k + 1) (sym given) in
       record {
-        sized = sized_so new sound.sized clocks (ap (λ v. length v.items) machines) broken ups downs time shown;
+        sized = sized_so new sound.sized clocks (rw machines) broken ups downs time shown;
         under_way = subst (AreUnderWay network) (sym entries) sound.under_way;
         fit = record {
-          ups = subst (λ v. All IsShort v.items) (sym ups) fit.ups;
-          downs = subst (λ v. All IsShort v.items) (sym downs) fit.downs;
+          ups = rw ups fit.ups;
+          downs = rw downs fit.downs;
           octets = octets;
-          below = subst (λ k. AreBelow k new.under_way.entries) number
-              (subst (AreBelow (old.given + 1)) (sym entries) fit.below);
-          waits_below = subst (λ (k : ℕ). All (λ (w : Waits). w.cause < k) new.waiting.items) number
-              (subst (All (λ (w : Waits). w.cause < old.given + 1)) (sym waiting) fit.waits_below);
+          below = rw number at (subst (AreBelow (old.given + 1)) (sym entries) fit.below);
+          waits_below = rw number at (subst (All (λ w. w.cause < old.given + 1)) (sym waiting) fit.waits_below);
           apart = subst AreApart (sym waiting) fit.apart;
         };
       }
@@ -62,6 +59,5 @@ module _ {C M : Type 0} {last_step : C → ℕ} {network : Network} {old : State
   pub sound_timers : {new : State C M} → new ≡ record old { timers = new.timers } → IsSound last_step network old
       → IsSound last_step network new
   sound_timers {new} same is =
-      subst (λ s. IsSound last_step network s) (sym same)
-      (sound_same (record old { timers = new.timers })
+      rw same (sound_same (record old { timers = new.timers })
       is refl refl refl refl refl refl refl refl refl refl is.fit.octets)

@@ -22,7 +22,7 @@ pub ways_short : (old new : List WayState) (way : Way) (what : What) → SetsSho
     → ((link : LinkId) (was : WayState) → slice_get old link.0 ≡ Some was → slice_get new link.0 ≡ Some (way_after link way what was))
     → All IsShort old → All IsShort new
 ways_short old new way what short same each all k d lt =
-    let many : k < length old = omega (arith, lt, same) in
+    let many : k < length old = omega arith in
     let was = found old k many in
     let link : LinkId = record { 0 = k } in
     let is = one (slice_get new k) _ _ (each link was.0 was.1) (slice_get-get_or new k d lt) in
@@ -57,18 +57,18 @@ module _ {number : ℕ} (one : Waits) (old new : List Waits) (more : IsPermutati
       (IsDistinct-cons nat_eq one.cause (map cause_of old) (all_apart cause_of one.cause old (λ v there same.
       let at = in_get old v there in
       let low = in_all (λ (w : Waits). w.cause < number) old at.0 v all at.1 in
-      omega (arith, low, same, cause))) apart)
+      omega arith)) apart)
 
   pub below_one_more : All (λ w. w.cause < number + 1) new
-  below_one_more = all_of (λ (w : Waits). w.cause < number + 1) new (λ v there.
+  below_one_more = all_of (λ w. w.cause < number + 1) new (λ v there.
       elim (in_permuted new (one ∷ old) v (IsPermutation-sym _ _ more) there) [
-        | inl own ↦ let e = ap cause_of own in omega (arith, e, cause)
+        | inl own ↦ let e = ap cause_of own in omega arith
         | inr was ↦
             let at = in_get old v was in
             let low = in_all (λ (w : Waits). w.cause < number) old at.0 v all at.1 in
-            omega (arith, low)
+            omega arith
       ])
 
 pub below_more : (n : ℕ) (q : Waits → Bool) (xs : List Waits) → All (λ w. w.cause < n) xs → All (λ w. w.cause < n + 1) (filter q xs)
 below_more n q xs all k d lt =
-    let here = All-filter q (λ (w : Waits). w.cause < n) xs all k d lt in omega (arith, here)
+    let here = All-filter q (λ w. w.cause < n) xs all k d lt in omega arith

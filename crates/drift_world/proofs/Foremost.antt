@@ -3,7 +3,7 @@ use Rattle.{drift_world.proofs.Sources.{due_ranks, due_time, nothing_before}, wo
 use Rattle.drift_world.proofs.Words.{◌+◌, ◌-◌, ◌<◌, ◌^◌, ◌∙◌, ◌∷◌, ◌≡◌, ◌≤◌, ◌⊎◌, AreFirsts, AreTimed, AreUnderWay, AtPort, Content, DeviceId, Meaning, SlotTimer, DueAt}
 use Rattle.drift_world.proofs.Words.{HasNothingBefore, IfSome, IsBefore, IsFirst, IsIn, IsRunning, IsWell, Kept, List, Network, Node, None, OnWire, Option}
 use Rattle.drift_world.proofs.Words.{Port, Some, Wire, [], ap, arith, at_port, both_ways, cases_lt, false, get_or_from_slice_get, inl, inr, is_given, keeps}
-use Rattle.drift_world.proofs.Words.{length, never, never_self, numbers_of, on_wire, rank_of, refl, slice_get-get_or, subst, sym, true, wire_at, wire_place, ℕ}
+use Rattle.drift_world.proofs.Words.{length, never, never_self, numbers_of, on_wire, rank_of, refl, subst, sym, true, wire_at, wire_place, ℕ}
 use Rattle.{drift_world.specs.{Parts.part_rank, Sourcing.{IsRipePlace, device_of_slot, due_place}, declared.state.State.State}, world_state.specs.{Views.port_at, declared.queue.Entry.Entry}}
 use Rattle.{std.proofs.Common.{get_or, slice_get}, world_law.specs.world.World.port_place}
 
@@ -11,25 +11,25 @@ use Rattle.{std.proofs.Common.{get_or, slice_get}, world_law.specs.world.World.p
 
 -- what is no earlier, and at the time not before by its rank, is not before
 pub not_earlier : (t now : ℕ) (rest more : List ℕ) → now ≤ t → (t ≡ now → IsBefore rest more → ⊥) → IsBefore (t ∷ rest) (now ∷ more) → ⊥
-not_earlier t now rest more le ranks (inl lt) = omega (arith, le, lt)
+not_earlier t now rest more le ranks (inl lt) = omega arith
 not_earlier t now rest more le ranks (inr (e, b)) = ranks e b
 
 pub higher : (high rank : ℕ) (rest more : List ℕ) → rank < high → IsBefore (high ∷ rest) (rank ∷ more) → ⊥
-higher high rank rest more lt (inl less) = omega (arith, lt, less)
-higher high rank rest more lt (inr (e, b)) = omega (arith, lt, e)
+higher high rank rest more lt (inl less) = omega arith
+higher high rank rest more lt (inr (e, b)) = omega arith
 
 -- a place of a rank is not before the first of its rank
 pub not_first : (rank low : ℕ) (rest : List ℕ) → low ≤ rank → IsBefore (rank ∷ rest) (low ∷ []) → ⊥
-not_first rank low rest le (inl lt) = omega (arith, le, lt)
+not_first rank low rest le (inl lt) = omega arith
 not_first rank low rest le (inr (e, b)) = b
 
 -- a place of a run is in time
 pub of_run : (now : ℕ) (rest : List ℕ) → now ≤ 2 ^ 60 → IsBefore ((2 ^ 60 + 1) ∷ []) (now ∷ rest) → ⊥
-of_run now rest le (inl lt) = omega (arith, le, lt)
-of_run now rest le (inr (e, b)) = omega (arith, le, e)
+of_run now rest le (inl lt) = omega arith
+of_run now rest le (inr (e, b)) = omega arith
 
 pub of_end : (until : ℕ) → until ≤ 2 ^ 60 + 1 → IsBefore ((2 ^ 60 + 1) ∷ []) (until ∷ []) → ⊥
-of_end until le (inl lt) = omega (arith, le, lt)
+of_end until le (inl lt) = omega arith
 of_end until le (inr (e, b)) = b
 
 -- ---- nothing under way, and no timer, is past
@@ -38,7 +38,7 @@ module _ {C M : Type 0} {reading : C → ℕ → ℕ} {stands : Meaning M} {netw
     (running : IsRunning reading stands network state) where
   -- no place before the present time is still to be worked off
   past : (p q : List ℕ) → p ≡ q → (IsBefore p running.is.frontier → ⊥) → IsBefore q (state.time ∷ []) → ⊥
-  past p q same not b = not (subst (λ r. IsBefore r running.is.frontier) (sym same) (running.is.of_now q b))
+  past p q same not b = not (rw same (running.is.of_now q b))
 
   entry_later : (e : Entry Content) (content : Content) → e.content ≡ content → IsIn e state.under_way.entries → e.place.rank ≡ rank_of content
       → state.time ≤ e.place.at
@@ -76,19 +76,18 @@ module _ {C M : Type 0} {reading : C → ℕ → ℕ} {stands : Meaning M} {netw
 
   -- nor the first place
   pub first_later : AreUnderWay network state.under_way.entries → {place : DueAt} → IsFirst state.under_way.entries place → state.time ≤ place.at
-  first_later are first = subst (λ (p : DueAt). state.time ≤ p.at) first.at (entries_later are first.entry first.there)
+  first_later are first = rw first.at at (entries_later are first.entry first.there)
 
   -- the node of a device's machine
   pub node_of : (device : DeviceId) {machine : Kept M} → device.0 < length network.device → slice_get state.machines.items device.0 ≡ Some machine
       → (node : Node) × keeps stands machine network device node
   node_of device {machine} of_it held =
       let s = running.s in
-      let own = running.is.devices device (subst (λ (k : Network). device.0 < length k.device) running.is.same of_it) in
-      let same : own.0 ≡ machine = let e : Some own.0 ≡ Some machine = sym own.1 ∙ held in cc in
+      let own = running.is.devices device (rw running.is.same at of_it) in
+      let same : own.0 ≡ machine = cc in
       let is : (node : Node) × keeps stands own.0 s.network device node = elim own.2 [ inl k ↦ (k.node, k.is) | inr o ↦ (o.node, o.is) ] in (
         is.0,
-        subst (λ k. keeps stands k network device is.0) same
-            (subst (λ k. keeps stands own.0 k device is.0) (sym running.is.same) is.1),
+        rw (sym same) (rw (sym running.is.same) at is.1),
       )
 
   -- where nothing is before a time, no timer is
@@ -97,7 +96,6 @@ module _ {C M : Type 0} {reading : C → ℕ → ℕ} {stands : Meaning M} {netw
   timers_later {t} most are has = λ k d lt.
       let slots = are.sized in
       let now = are.later k d lt in
-      let at = slice_get-get_or state.timers k d lt in
       elim (cases_lt (get_or state.timers k d).time t) [
         | inr le ↦ le
         | inl sooner ↦
@@ -106,21 +104,21 @@ module _ {C M : Type 0} {reading : C → ℕ → ℕ} {stands : Meaning M} {netw
                   let timed = (are.each (record { 0 = k }) low).ripe in
                   let is : (get_or state.timers k d).time ≡ timed.ripe = ap Timer.time
                   (get_or_from_slice_get state.timers k (record { time = timed.ripe; rank = 3 }) d timed.of_ripe) in
-                  let w = timed.ripens.one (omega (arith, is, sooner, most)) in
-                  absurd (has.waiting w.0 timed.clock w.1 (ap (λ (n : ℕ). slice_get state.clocks.items n) w.2 ∙ timed.of_clock) timed.ripe
-                  (omega (arith, is, now)) w.3 (inl (omega (arith, is, sooner))))
+                  let w = timed.ripens.one (omega arith) in
+                  absurd (has.waiting w.0 timed.clock w.1 (rw w.2 timed.of_clock) timed.ripe
+                  (omega (arith, now)) w.3 (inl (omega arith)))
               | inr high ↦
                   let device : DeviceId = record { 0 = k - length network.device } in
-                  let of_it : device.0 < length network.device = omega (arith, lt, slots, high) in
+                  let of_it : device.0 < length network.device = omega arith in
                   let timed = (are.each device of_it).act in
-                  let slot : k ≡ length network.device + device.0 = omega (arith, high) in
+                  let slot : k ≡ length network.device + device.0 = omega arith in
                   let is : (get_or state.timers k d).time ≡ timed.act = ap Timer.time
                   (get_or_from_slice_get state.timers k (record { time = timed.act; rank = part_rank timed.part }) d
-                  (ap (λ (n : ℕ). slice_get state.timers n) slot ∙ timed.of_act)) in
+                  (ap (λ n. slice_get state.timers n) slot ∙ timed.of_act)) in
                   let node = node_of device of_it timed.of_machine in
-                  let task = timed.acts.one (omega (arith, is, sooner, most)) node.0 node.1 in
+                  let task = timed.acts.one (omega arith) node.0 node.1 in
                   absurd (has.acting device timed.machine timed.clock node.0 task.0 timed.of_machine timed.of_clock node.1 task.1 timed.act
-                  (omega (arith, is, now)) task.2 (inl (omega (arith, is, sooner))))
+                  (omega (arith, now)) task.2 (inl (omega arith)))
             ]
       ]
 
@@ -166,7 +164,7 @@ module _ {C M : Type 0} {last_step : C → ℕ} {reading : C → ℕ → ℕ} {s
   first_rank {q} e =
       let first = first_is e in
       let kind = well.sound.under_way.kinds first.entry first.there in
-      let rank : q.rank ≡ rank_of first.entry.content = sym (ap DueAt.rank first.at) ∙ kind in
+      let rank = sym (ap DueAt.rank first.at) ∙ kind in
       elim (rank_is first.entry.content) [ inl two ↦ inl (rank ∙ two) | inr eight ↦ inr (rank ∙ eight) ]
 
   place_later : {q : DueAt} → place ≡ Some q → now ≤ q.at
@@ -185,11 +183,13 @@ module _ {C M : Type 0} {last_step : C → ℕ} {reading : C → ℕ → ℕ} {s
       → (state.ended ≡ true → state.shown < length network.device → IsBefore (now ∷ 14 ∷ state.shown ∷ []) p → ⊥)
       → HasNothingBefore reading stands network state p
   are_not p in_time places dues befell clocks =
-      nothing_before {p = p} well.sound.sized well.timed firsts
+      nothing_before well.sound.sized well.timed firsts
       (record {
         in_time = in_time;
-        under_way = if_some (λ (q : DueAt). IsBefore (numbers_of q) p → ⊥) place (λ q e. places q e (place_later e) (first_rank e));
-        timers = if_some (λ (d : SlotTimer). (IsBefore (due_place (length network.device) d) p → ⊥) ⊎ IsRipePlace reading network state d p) due
+        under_way = if_some (λ q. IsBefore (numbers_of q) p → ⊥) place
+            (λ q e. places q e (place_later e) (first_rank e));
+        timers = if_some (λ d. (IsBefore (due_place (length network.device) d) p → ⊥) ⊎ IsRipePlace reading network
+            state d p) due
             (λ d e. dues d e (due_later e));
         befell = befell;
         clocks = clocks;
@@ -199,7 +199,7 @@ module _ {C M : Type 0} {last_step : C → ℕ} {reading : C → ℕ → ℕ} {s
   after_lower : (rank : ℕ) (rest : List ℕ) (d : SlotTimer) → rank < 3 → 3 ≤ d.rank → now ≤ d.time → IsBefore (due_place (length network.device) d) (now ∷ rank ∷ rest) → ⊥
   after_lower rank rest d lt high le =
       not_earlier d.time now (d.rank ∷ device_of_slot (length network.device) d.slot ∷ []) (rank ∷ rest) le
-      (λ e. higher d.rank rank (device_of_slot (length network.device) d.slot ∷ []) rest (omega (arith, lt, high)))
+      (λ e. higher d.rank rank (device_of_slot (length network.device) d.slot ∷ []) rest (omega arith))
 
   -- a timer of a later time is not before a place of the present time
   after_now : (more : List ℕ) (d : SlotTimer) → (d.time ≡ now → ⊥) → now ≤ d.time → IsBefore (due_place (length network.device) d) (now ∷ more) → ⊥
@@ -217,7 +217,8 @@ module _ {C M : Type 0} {last_step : C → ℕ} {reading : C → ℕ → ℕ} {s
   events_first =
       are_not (now ∷ 2 ∷ []) (of_run now (2 ∷ []) well.sound.sized.limit)
       (λ q e le rank. not_earlier q.at now (q.rank ∷ q.device ∷ q.link ∷ q.cause ∷ []) (2 ∷ []) le
-      (λ same. not_first q.rank 2 (q.device ∷ q.link ∷ q.cause ∷ []) (elim rank [ inl two ↦ omega (arith, two) | inr eight ↦ omega (arith, eight) ])))
+      (λ same. not_first q.rank 2 (q.device ∷ q.link ∷ q.cause ∷ [])
+      (elim rank [ inl two ↦ omega arith | inr eight ↦ omega arith ])))
       (λ d e le. inl (after_lower 2 [] d (omega arith) (due_ranks_are e).0 le))
       (λ yes. never_self (now ∷ 2 ∷ []))
       (λ ended more. clocks_after 2 [] (omega arith))
@@ -227,12 +228,12 @@ module _ {C M : Type 0} {last_step : C → ℕ} {reading : C → ℕ → ℕ} {s
       → ((d : SlotTimer) → due ≡ Some d → now ≤ d.time → IsBefore (due_place (length network.device) d) (now ∷ rank ∷ q.device ∷ q.link ∷ q.cause ∷ []) → ⊥)
       → HasNothingBefore reading stands network state (numbers_of q)
   placed_first {q} {rank} lt calm is at of_rank dues =
-      let rest : List ℕ = q.device ∷ q.link ∷ q.cause ∷ [] in
-      let same : now ∷ rank ∷ rest ≡ numbers_of q = ap (λ (n : ℕ). n ∷ rank ∷ rest) (sym at) ∙ ap (λ (n : ℕ). q.at ∷ n ∷ rest) (sym of_rank) in
+      let rest = q.device ∷ q.link ∷ q.cause ∷ [] in
+      let same : now ∷ rank ∷ rest ≡ numbers_of q = rw (sym at) (ap (λ n. q.at ∷ n ∷ rest) (sym of_rank)) in
       subst (HasNothingBefore reading stands network state) same
       (are_not (now ∷ rank ∷ rest) (of_run now (rank ∷ rest) well.sound.sized.limit)
       (λ r e le either.
-      let one : q ≡ r = let both : Some q ≡ Some r = sym is ∙ e in cc in
+      let one : q ≡ r = cc in
       subst (λ x. IsBefore (numbers_of x) (now ∷ rank ∷ rest) → ⊥) one
       (subst (λ p. IsBefore p (now ∷ rank ∷ rest) → ⊥) same (never_self (now ∷ rank ∷ rest))))
       (λ d e le. inl (dues d e le)) (none_befell (now ∷ rank ∷ rest) calm) (λ ended more. clocks_after rank rest lt))
@@ -250,35 +251,32 @@ module _ {C M : Type 0} {last_step : C → ℕ} {reading : C → ℕ → ℕ} {s
   slot_first d p calm no_arrival is at of_slot =
       let shape = shape_of (due_ranks_are is) of_slot in
       let rank = shape.rank in
-      let least = shape.least in
       let most = shape.most in
-      let of_now : p ≡ now ∷ rank ∷ shape.rest = shape.is ∙ ap (λ (n : ℕ). n ∷ rank ∷ shape.rest) at in
-      are_not p (subst (λ l. IsBefore ((2 ^ 60 + 1) ∷ []) l → ⊥) (sym of_now) (of_run now (rank ∷ shape.rest) well.sound.sized.limit))
+      let of_now = shape.is ∙ ap (λ n. n ∷ rank ∷ shape.rest) at in
+      are_not p (rw of_now (of_run now (rank ∷ shape.rest) well.sound.sized.limit))
       (λ q e le either.
-      subst (λ l. IsBefore (numbers_of q) l → ⊥) (sym of_now)
-      (not_earlier q.at now (q.rank ∷ q.device ∷ q.link ∷ q.cause ∷ []) (rank ∷ shape.rest) le
+      rw of_now (not_earlier q.at now (q.rank ∷ q.device ∷ q.link ∷ q.cause ∷ []) (rank ∷ shape.rest) le
       (λ same. higher q.rank rank (q.device ∷ q.link ∷ q.cause ∷ []) shape.rest
       (elim either [
-        | inl two ↦ absurd (from_some (λ (x : DueAt). x.at ≡ state.time → x.rank ≡ 2 → ⊥) place no_arrival e same two)
-        | inr eight ↦ omega (arith, eight, most)
+        | inl two ↦ absurd (from_some (λ x. x.at ≡ state.time → x.rank ≡ 2 → ⊥) place no_arrival e same two)
+        | inr eight ↦ omega arith
       ]))))
       (λ x e le.
-      let same : d ≡ x = let both : Some d ≡ Some x = sym is ∙ e in cc in
-      subst (λ y. (IsBefore (due_place (length network.device) y) p → ⊥) ⊎ IsRipePlace reading network state y p) same
-      (elim of_slot [
-        | inl own ↦ inl (subst (λ l. IsBefore l p → ⊥) own (never_self p))
+      let same : d ≡ x = cc in
+      rw (sym same) (elim of_slot [
+        | inl own ↦ inl (rw (sym own) (never_self p))
         | inr ripe ↦ inr ripe
       ]))
       (none_befell p calm)
-      (λ ended more. subst (λ l. IsBefore (now ∷ 14 ∷ state.shown ∷ []) l → ⊥) (sym of_now)
-      (clocks_after rank shape.rest (omega (arith, most))))
+      (λ ended more. rw of_now (clocks_after rank shape.rest (omega arith)))
 
   -- what leaves now
   pub departure_first : (q : DueAt) → state.pending ≡ false → IfSome due (λ d. d.time ≡ state.time → ⊥) → place ≡ Some q → q.at ≡ state.time → q.rank ≡ 8
       → HasNothingBefore reading stands network state (numbers_of q)
   departure_first q calm no_due is at rank =
       placed_first (omega arith) calm is at rank
-      (λ d e le. after_now (8 ∷ q.device ∷ q.link ∷ q.cause ∷ []) d (from_some (λ (x : SlotTimer). x.time ≡ state.time → ⊥) due no_due e) le)
+      (λ d e le. after_now (8 ∷ q.device ∷ q.link ∷ q.cause ∷ []) d
+      (from_some (λ x. x.time ≡ state.time → ⊥) due no_due e) le)
 
   -- the clock that is to be shown
   pub clock_first : state.pending ≡ false → IfSome place (λ q. q.at ≡ state.time → q.rank ≡ 2 → ⊥) → IfSome due (λ d. d.time ≡ state.time → ⊥)
@@ -287,10 +285,10 @@ module _ {C M : Type 0} {last_step : C → ℕ} {reading : C → ℕ → ℕ} {s
       are_not (now ∷ 14 ∷ state.shown ∷ []) (of_run now (14 ∷ state.shown ∷ []) well.sound.sized.limit)
       (λ q e le either. not_earlier q.at now (q.rank ∷ q.device ∷ q.link ∷ q.cause ∷ []) (14 ∷ state.shown ∷ []) le
       (λ same. elim either [
-        | inl two ↦ absurd (from_some (λ (x : DueAt). x.at ≡ state.time → x.rank ≡ 2 → ⊥) place no_arrival e same two)
-        | inr eight ↦ absurd (from_some (λ (x : DueAt). x.at ≡ state.time → x.rank ≡ 8 → ⊥) place no_departure e same eight)
+        | inl two ↦ absurd (from_some (λ x. x.at ≡ state.time → x.rank ≡ 2 → ⊥) place no_arrival e same two)
+        | inr eight ↦ absurd (from_some (λ x. x.at ≡ state.time → x.rank ≡ 8 → ⊥) place no_departure e same eight)
       ]))
-      (λ d e le. inl (after_now (14 ∷ state.shown ∷ []) d (from_some (λ (x : SlotTimer). x.time ≡ state.time → ⊥) due no_due e) le))
+      (λ d e le. inl (after_now (14 ∷ state.shown ∷ []) d (from_some (λ x. x.time ≡ state.time → ⊥) due no_due e) le))
       (none_befell (now ∷ 14 ∷ state.shown ∷ []) calm)
       (λ ended more. never_self (now ∷ 14 ∷ state.shown ∷ []))
 
@@ -298,42 +296,43 @@ module _ {C M : Type 0} {last_step : C → ℕ} {reading : C → ℕ → ℕ} {s
   pub place_after : IfSome place (λ q. q.at ≡ state.time → q.rank ≡ 2 → ⊥) → IfSome place (λ q. q.at ≡ state.time → q.rank ≡ 8 → ⊥)
       → IfSome place (λ q. state.time < q.at)
   place_after no_arrival no_departure =
-      if_some (λ (q : DueAt). state.time < q.at) place
+      if_some (λ q. state.time < q.at) place
       (λ q e.
       let le = place_later e in
       elim (cases_lt now q.at) [
         | inl lt ↦ lt
         | inr ge ↦
-            let same : q.at ≡ state.time = omega (arith, le, ge) in
+            let same : q.at ≡ state.time = omega arith in
             elim (first_rank e) [
-              | inl two ↦ absurd (from_some (λ (x : DueAt). x.at ≡ state.time → x.rank ≡ 2 → ⊥) place no_arrival e same two)
-              | inr eight ↦ absurd (from_some (λ (x : DueAt). x.at ≡ state.time → x.rank ≡ 8 → ⊥) place no_departure e same eight)
+              | inl two ↦ absurd (from_some (λ x. x.at ≡ state.time → x.rank ≡ 2 → ⊥) place no_arrival e same two)
+              | inr eight ↦ absurd (from_some (λ x. x.at ≡ state.time → x.rank ≡ 8 → ⊥) place no_departure e same eight)
             ]
       ])
 
   pub due_after : IfSome due (λ d. d.time ≡ state.time → ⊥) → IfSome due (λ d. state.time < d.time)
   due_after no_due =
-      if_some (λ (d : SlotTimer). state.time < d.time) due
+      if_some (λ d. state.time < d.time) due
       (λ d e.
       let le = due_later e in
       elim (cases_lt now d.time) [
         | inl lt ↦ lt
-        | inr ge ↦ absurd (from_some (λ (x : SlotTimer). x.time ≡ state.time → ⊥) due no_due e (omega (arith, le, ge)))
+        | inr ge ↦ absurd (from_some (λ x. x.time ≡ state.time → ⊥) due no_due e (omega arith))
       ])
 
   -- the first that is under way is at this place of the network
   pub placed : {q : DueAt} → place ≡ Some q → (q.device < length network.device) × (q.link < length network.link)
   placed {q} e =
       let first = first_is e in
-      subst (λ (p : DueAt). (p.device < length network.device) × (p.link < length network.link)) first.at (well.sound.under_way.placed first.entry first.there)
+      rw first.at at (well.sound.under_way.placed first.entry first.there)
 
   -- nothing before a time
   pub none_before : (t : ℕ) → t ≤ 2 ^ 60 + 1 → state.pending ≡ false → (state.ended ≡ true → state.shown < length network.device → ⊥)
       → IfSome place (λ q. t ≤ q.at) → IfSome due (λ d. t ≤ d.time) → HasNothingBefore reading stands network state (t ∷ [])
   none_before t most calm no_clock places dues =
       are_not (t ∷ []) (of_end t most)
-      (λ q e le either. not_first q.at t (q.rank ∷ q.device ∷ q.link ∷ q.cause ∷ []) (from_some (λ (x : DueAt). t ≤ x.at) place places e))
+      (λ q e le either. not_first q.at t (q.rank ∷ q.device ∷ q.link ∷ q.cause ∷ [])
+      (from_some (λ x. t ≤ x.at) place places e))
       (λ d e le. inl (not_first d.time t (d.rank ∷ device_of_slot (length network.device) d.slot ∷ [])
-      (from_some (λ (x : SlotTimer). t ≤ x.time) due dues e)))
+      (from_some (λ x. t ≤ x.time) due dues e)))
       (none_befell (t ∷ []) calm)
       (λ ended more. absurd (no_clock ended more))

@@ -1,8 +1,8 @@
 -- Under events within the hypothesis each way of a link takes some time.
-use Rattle.drift_world.proofs.Words.{◌+ℤ◌, ◌<ℤ◌, ◌==◌, ◌∙◌, ◌∷◌, ◌≡◌, ◌≤ℤ◌, ◌≤◌, ◌⊎◌, AreWithinHypothesis, Bool, DeviceId, IsIn, IsInRange, IsSomeAnd}
-use Rattle.drift_world.proofs.Words.{IsWithinHypothesis, Link, LinkId, List, Network, None, Option, Some, Units, Way, What, [], amount, and_parts, ap, arith}
-use Rattle.drift_world.proofs.Words.{cases_lt, delay_at, eqb-true, false, if◌then◌else◌, in_all, in_filter, inl, inr, ints, link_at, nat_le, option_map_or}
-use Rattle.{drift_world.proofs.Words.{parted, pos, refl, scenario, subst, sym, target_by, true, unwrap_or, ℕ}, net_plan.specs.declared.event.Event.Event}
+use Rattle.drift_world.proofs.Words.{◌==◌, ◌∷◌, ◌≡◌, ◌≤ℤ◌, ◌≤◌, AreWithinHypothesis, Bool, DeviceId, IsIn, IsInRange}
+use Rattle.drift_world.proofs.Words.{IsWithinHypothesis, Link, LinkId, List, Network, None, Option, Some, Units, Way, What, [], amount, and_parts, arith}
+use Rattle.drift_world.proofs.Words.{cases_lt, delay_at, eqb-true, false, if◌then◌else◌, in_all, in_filter, inl, inr, ints, link_at, nat_le}
+use Rattle.{drift_world.proofs.Words.{parted, pos, refl, scenario, true, unwrap_or, ℕ}, net_plan.specs.declared.event.Event.Event}
 use Rattle.{run_law.specs.scenario.{Scenarios.events_up_to, Ways.{is_way, is_way_of, wire_of, wire_set}}, world_law.specs.world.World.IsForward}
 use Rattle.std.{proofs.Common.filter_map, specs.List.last_or}
 use Rattle.net_plan.specs.declared.event.What.TheVariants as events
@@ -20,8 +20,8 @@ wire_is : (network : Network) (link other : LinkId) {l : Link} (way turned : Way
     → (b : Bool) → is_way_of link way other turned ≡ b → IsSome1 (if b then Some (amount delay) else None)
 wire_is network link other way turned delay before event there least within what false e = tt
 wire_is network link other {l} way turned delay before event there least within what true e =
-    let same : link.0 ≡ other.0 = eqb-true link.0 other.0 (and_parts (link.0 == other.0) (is_way way turned) e).0 in
-    let at : link_at network other ≡ Some l = subst (λ (n : ℕ). link_at network (record { 0 = n }) ≡ Some l) same there in
+    let same = eqb-true link.0 other.0 (and_parts (link.0 == other.0) (is_way way turned) e).0 in
+    let at : link_at network other ≡ Some l = rw same at there in
     elim (cases_lt (amount delay) 1) [
       | inr some ↦ some
       | inl none ↦ absurd (within outside.Wire (record {
@@ -29,8 +29,7 @@ wire_is network link other {l} way turned delay before event there least within 
         way = turned;
         delay = delay;
         what = what;
-        other = subst (λ (o : Option Link). IsSomeAnd o (λ l. (delay.0 <ℤ l.wire.0) ⊎ ((l.wire.0 +ℤ l.jitter.0) <ℤ delay.0))) (sym at)
-            (inl (omega (arith, ints, none, least)));
+        other = rw at (inl (omega (arith, ints)));
       }))
     ]
 
@@ -64,14 +63,14 @@ forward {network} f all range within link way device t receives = of (link_at ne
   where
     of : (o : Option Link) → link_at network link ≡ o → 1 ≤ delay_at (scenario network f all) link way t
     of None none =
-        let bad : None ≡ Some device = sym (ap (λ (o : Option Link). Rattle.std.specs.Prelude.option_map (target_by way) o) none) ∙ receives in absurd cc
+        absurd cc
     of (Some l) there =
         let known = in_all (Rattle.net_plan.specs.Ranges.IsLinkInRange network) network.link link.0 l range.links there in
         let least = known.wire.least in
         let set = λ (e : Event). wire_set link way e.what in
         let each : (e : Event) → IsIn e (events_up_to (scenario network f all) t) → IsSome1 (set e) = λ e i.
-        let at = parted e all (in_filter (λ (d : Event). nat_le (amount d.time) t) all e i) in
+        let at = parted e all (in_filter (λ d. nat_le (amount d.time) t) all e i) in
         wire_kept network link way at.0 e there least (within at.0 at.1 e at.2) e.what refl in
-        let nominal : wire_of network link ≡ amount l.wire = ap (λ (o : Option Link). option_map_or (λ (k : Link). amount k.wire) o 0) there in
+        let nominal : wire_of network link ≡ amount l.wire = rw there in
         unwrapped (last_or None (filter_map set (events_up_to (scenario network f all) t))) (wire_of network link)
-        (last_kept set (events_up_to (scenario network f all) t) None tt each) (omega (arith, ints, nominal, least))
+        (last_kept set (events_up_to (scenario network f all) t) None tt each) (omega (arith, ints))

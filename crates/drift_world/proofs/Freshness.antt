@@ -24,9 +24,7 @@ module _ {C M : Type 0} {fresh : ℕ → C} {last_step : C → ℕ} {network : N
       let n : length (map first_way network.link) ≡ length network.link = length-map _ _ in
       let it = found network.link k (omega (arith, lt, n)) in
       let known = in_all (IsLinkInRange network) network.link k it.0 range.links it.1 in
-      let least = known.wire.least in
-      let most = known.wire.most in
-      let short : IsShort (first_way it.0) = (omega (arith, ints, least, most), omega arith) in
+      let short : IsShort (first_way it.0) = (omega (arith, ints, known.wire.least, known.wire.most), omega arith) in
       let at = slice_get-map first_way network.link k ∙ ap (option_map first_way) it.1 in
       subst IsShort (one (slice_get (map first_way network.link) k) _ _ at
       (slice_get-get_or (map first_way network.link) k d lt)) short
@@ -39,9 +37,9 @@ module _ {C M : Type 0} {fresh : ℕ → C} {last_step : C → ℕ} {network : N
       broken = ap length first.broken ∙ length-replicate _ _;
       ups = ap length first.ups ∙ length-map _ _;
       downs = ap length first.downs ∙ length-map _ _;
-      stepped = λ k d lt. let at = first.time in let un = first.unstepped k d lt in omega (arith, at, un);
-      limit = let at = first.time in omega (arith, at);
-      shown = let none = first.shown in omega (arith, none);
+      stepped = λ k d lt. let un = first.unstepped k d lt in omega (arith, first.time, un);
+      limit = omega (arith, first.time);
+      shown = omega (arith, first.shown);
     };
     under_way = subst (AreUnderWay network) (sym first.under_way) (none_under_way network);
     fit = record {
@@ -63,7 +61,7 @@ module _ {C M : Type 0} {fresh : ℕ → C} {last_step : C → ℕ} {network : N
         (record {
           of_it = refl;
           clocks = λ device lt. (fresh (amount network.grain), ap (λ cs. slice_get cs device.0) first.clocks ∙ found_in _ _ _ lt, λ t late. refl);
-          machines = λ device lt. let of = found machines device.0 (subst (λ n. device.0 < n) (sym are.each) lt) in (
+          machines = λ device lt. let of = found machines device.0 (rw (sym are.each) at lt) in (
             sound_one of.0,
             ap (λ ms. slice_get ms device.0) first.machines ∙ slice_get-map sound_one machines device.0 ∙ ap (option_map sound_one) of.1,
             (are.begun device of.0 of.1, refl),
@@ -91,7 +89,7 @@ module _ {C M : Type 0} {fresh : ℕ → C} {last_step : C → ℕ} {network : N
         (λ device. steady fresh after_step reading (keeps_clock_laws fresh after_step reading grain count law)
         (begins_at_zero fresh after_step reading grain count law) [] device range rules (none_within network) (λ e i. absurd i))
         (λ device. begins_at_zero fresh after_step reading grain count law (amount network.grain) [])
-        (let least = range.precision.least in omega (arith, ints, least)) range rules
+        (omega (arith, ints, range.precision.least)) range rules
 
     pub first_stands : StandsUnder fresh after_step reading stands network (world_of network state) [] []
     first_stands = record {

@@ -19,11 +19,11 @@ pub from_ports : {C M : Type 0} {reading : C → ℕ → ℕ} {network : Network
     {frame : Option Pcf} {number : ℕ} (giving : Option Giving)
     → IsGivenOut reading network old new body frame number giving → (e : Entry Content)
     → IsIn e new.under_way.entries → IsIn e old.under_way.entries ⊎ ((e.place.cause ≡ number) × (e.place.rank ≡ 8))
-from_ports None out e there = inl (subst (λ l. IsIn e l) out.none there)
+from_ports None out e there = inl (rw out.none at there)
 from_ports (Some g) out e there =
     elim (out.put.real e there) [
       | inl before ↦ inl before
-      | inr to ↦ inr (ap (λ (x : Entry Content). x.place.cause) to.3 ∙ out.giver.numbered, ap (λ (x : Entry Content). x.place.rank) to.3)
+      | inr to ↦ inr (rw to.3 out.giver.numbered, rw to.3)
     ]
 
 -- ---- what is put on a wire
@@ -43,7 +43,7 @@ module _ {network : Network} (ups downs : List WayState) (range : IsInRange netw
   placed f same kind device link time on_port = by_receiver (receiver_of network link (way_from network device link)) refl
     where
       by_receiver : (o : Option DeviceId) → receiver_of network link (way_from network device link) ≡ o
-          → IfSome (option_map f (option_map (λ (receiver : DeviceId). let p : DueAt = record {
+          → IfSome (option_map f (option_map (λ receiver. let p : DueAt = record {
             at = time + on_port + delay_by network ups downs device link;
             rank = 2;
             device = receiver.0;
@@ -62,10 +62,10 @@ module _ {network : Network} (ups downs : List WayState) (range : IsInRange netw
           record {
             two = ap DueAt.rank (same p);
             kind = kind p;
-            device = subst (λ (q : DueAt). q.device < length network.device) (sym (same p))
-                (receiver_in network (way_from network device link) link (link_at network link) receiver refl range is);
-            link = subst (λ (q : DueAt). q.link < length network.link) (sym (same p))
-                (link_within network.link link.0 (way_from network device link) (link_at network link) refl is);
+            device = rw (same p) (receiver_in network (way_from network device link) link (link_at network link)
+                receiver refl range is);
+            link = rw (same p) (link_within network.link link.0 (way_from network device link) (link_at network link)
+                refl is);
             cause = ap DueAt.cause (same p);
           }
 
@@ -107,17 +107,17 @@ module _ (network : Network) (number : ℕ) (old new : List (Entry Content)) whe
       let two = is.two in
       let own = is.cause in
       elim (apart d there) [
-        | inl low ↦ omega (arith, low, cause, own)
-        | inr port ↦ omega (arith, port, rank, two)
+        | inl low ↦ omega arith
+        | inr port ↦ omega arith
       ])
 
   -- what is there now was there before, or is by the record of this number
   pub from_wire : (o : Option (Entry Content)) → IfSome o (IsOnWire network number) → IsPutOn o old new
       → (e : Entry Content) → IsIn e new → IsIn e old ⊎ (e.place.cause ≡ number)
-  from_wire None is put e there = inl (subst (λ l. IsIn e l) put there)
+  from_wire None is put e there = inl (rw put at there)
   from_wire (Some d) is put e there =
       elim (in_permuted new (d ∷ old) e (IsPermutation-sym _ _ put) there) [
-        | inl own ↦ inr (ap (λ (x : Entry Content). x.place.cause) own ∙ is.cause)
+        | inl own ↦ inr (rw own is.cause)
         | inr rest ↦ inl rest
       ]
 
@@ -148,8 +148,8 @@ waits_more None out = inl out.no_wait
 waits_more (Some g) out = grind (arith, one_more, awaited_so)
 
 waits_at : (number : ℕ) {xs ys : List Waits} → ys ≡ xs → All (λ w. w.cause < number) xs → All (λ w. w.cause < number + 1) ys
-waits_at number {xs} is all = subst (λ (l : List Waits). All (λ w. w.cause < number + 1) l) (sym is)
-    (All-weaker (λ (w : Waits). w.cause < number) (λ (w : Waits). w.cause < number + 1) (λ w lt. omega (arith, lt)) xs all)
+waits_at number {xs} is all = rw is (All-weaker (λ w. w.cause < number) (λ w. w.cause < number + 1)
+    (λ w lt. omega arith) xs all)
 
 module _ (body : NoteBody) (number : ℕ) (old new : List Waits) where
   pub waits_below : (new ≡ old) ⊎ HasOneMore body number old new → All (λ w. w.cause < number) old
@@ -166,11 +166,11 @@ module _ (body : NoteBody) (number : ℕ) (old new : List Waits) where
   pub waits_elsewhere : (new ≡ old) ⊎ HasOneMore body number old new → (w : Waits)
       → (w.device.0 ≡ changed_device body → ⊥) → IsIn w new ↔ IsIn w old
   waits_elsewhere (inl same) w apart =
-      (λ i. subst (λ l. IsIn w l) same i, λ i. subst (λ l. IsIn w l) (sym same) i)
+      (λ i. rw same at i, λ i. rw same i)
   waits_elsewhere (inr more) w apart = (
     λ i.
         elim (in_permuted new (more.one ∷ old) w (IsPermutation-sym _ _ more.is) i) [
-          | inl e ↦ absurd (apart (ap (λ (x : Waits). x.device.0) e ∙ more.device))
+          | inl e ↦ absurd (apart (rw e more.device))
           | inr was ↦ was
         ],
     λ i. in_permuted (more.one ∷ old) new w more.is (inr i),
@@ -203,8 +203,8 @@ changes_since old clocks time ended machines waiting c = record {
   ended = c.ended ∙ ended;
   machines = λ i apart. c.machines i apart ∙ ap (λ v. slice_get v.items i) machines;
   waiting = λ w apart. (
-    λ i. subst (λ l. IsIn w l) waiting ((c.waiting w apart).0 i),
-    λ i. (c.waiting w apart).1 (subst (λ l. IsIn w l) (sym waiting) i),
+    λ i. rw waiting at ((c.waiting w apart).0 i),
+    λ i. (c.waiting w apart).1 (rw waiting i),
   );
 }
 

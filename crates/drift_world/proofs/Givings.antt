@@ -3,7 +3,7 @@ use Rattle.{drift_world.proofs.{Launches.given_out, Sendings.puts, Storings.take
 use Rattle.drift_world.proofs.Words.{◌+◌, ◌∙◌, ◌≡◌, Content, DueAt, Giving, Happening, Holding, IfSome, IsGivenOut}
 use Rattle.drift_world.proofs.Words.{IsOf, IsOwn, IsPutOn, IsStoredBy, Left, List, Network, None, Note, NoteBody}
 use Rattle.drift_world.proofs.Words.{Option, Pcf, Scenario, Settled, Some, Timed, TtSent, WayState, ap, at_port}
-use Rattle.drift_world.proofs.Words.{happening, happenings, length, map, octets_in, on_wire, refl}
+use Rattle.drift_world.proofs.Words.{happening, happenings, length, map, on_wire, refl}
 use Rattle.drift_world.{proofs.Words.{stored_as, subst, sym, waiting_as, wire_entry, world_of, ℕ}, specs.declared.state.State.State}
 use Rattle.world_state.specs.declared.queue.Entry.{Entry}
 use Rattle.std.specs.{List.filter_map, Option.option_map}
@@ -46,13 +46,13 @@ module _ {C : Type 0} (M : Type 0) (reading : C → ℕ → ℕ) (s : Scenario) 
   launched_so : LaunchesOn M reading s s.network
   launched_so state after notes first giving entries held next own may out sent stored =
       let number = length notes + 1 in
-      let x : Happening =
+      let x =
       happening s.network (happenings s.network notes) (next_note notes state.time first.body) in
-      let frame : x.frame ≡ first.frame = sym (ap Happening.frame own) in
-      let octets : x.octets ≡ octets_in s.network first.octets = sym (ap Happening.octets own) in
+      let frame = sym (ap Happening.frame own) in
+      let octets = sym (ap Happening.octets own) in
       let of : IsOf reading s s.network state =
       record { same = refl; clocks = next.clocks; broken = next.broken; ways = next.ways } in
-      let given_out_so = subst (λ f. IsGivenOut reading s.network state after first.body f number giving) (sym frame) out in
+      let given_out_so = rw (sym frame) at out in
       let both = given_out x giving of next.range refl (λ d by no. may.framed d by (sym frame ∙ no)) may.arrived
       given_out_so in
       let put = puts state.ups.items state.downs.items next.ways x number refl after.under_way.entries

@@ -1,13 +1,13 @@
 -- The two timers of a device, each by itself.
-use Rattle.drift_world.proofs.Words.{◌+◌, ◌<◌, ◌↔◌, ◌∙◌, ◌≡◌, DeviceId, IsIn, IsTimed, List, Meaning, Network, Waits, ap, arith, inl, inr, length, subst, sym, ℕ}
-use Rattle.drift_world.specs.{Stepping.{ActsAt, IsActTimed, IsRekeyed, IsRipeAt, IsRipeTimed, SetsOnly}, declared.state.State.State}
-use Rattle.{std.proofs.Common.slice_get, world_state.specs.declared.timers.Timer.Timer}
+use Rattle.drift_world.proofs.Words.{◌+◌, ◌<◌, ◌↔◌, ◌∙◌, ◌≡◌, DeviceId, IsIn, IsTimed, Meaning, Network, Waits, ap, arith, inl, inr, length, ℕ}
+use Rattle.drift_world.specs.{Stepping.{IsActTimed, IsRekeyed, IsRipeTimed, SetsOnly}, declared.state.State.State}
+use Rattle.{std.proofs.Common.slice_get}
 
 -- the same frames wait
 pub waits_as : {C M : Type 0} (old new : State C M) → new.waiting ≡ old.waiting → (w : Waits)
     → IsIn w new.waiting.items ↔ IsIn w old.waiting.items
 waits_as old new same w =
-    subst (λ (f : _). IsIn w f.items ↔ IsIn w old.waiting.items) (sym same) ((λ there. there), (λ there. there))
+    rw same ((λ there. there), (λ there. there))
 
 module _ {C M : Type 0} {reading : C → ℕ → ℕ} (stands : Meaning M) (network : Network) (old new : State C M)
     {device : DeviceId} where
@@ -17,10 +17,10 @@ module _ {C M : Type 0} {reading : C → ℕ → ℕ} (stands : Meaning M) (netw
       → slice_get new.timers device.0 ≡ slice_get old.timers device.0 → IsRipeTimed reading new.timers new device
   ripe_stays is clocks time waiting slot = record {
     clock = is.clock;
-    of_clock = ap (λ (c : _). slice_get c.items device.0) clocks ∙ is.of_clock;
+    of_clock = rw clocks is.of_clock;
     ripe = is.ripe;
     of_ripe = slot ∙ is.of_ripe;
-    ripens = subst (λ n. IsRipeAt reading is.clock new.waiting.items device.0 n is.ripe) (sym time) (record {
+    ripens = rw time (record {
       none = λ w there at u from most reached. is.ripens.none w ((waiting w at).0 there) at u from most reached;
       one = λ true_time. let r = is.ripens.one true_time in (r.0, (waiting r.0 r.2).1 r.1, r.2, r.3);
     });
@@ -31,13 +31,13 @@ module _ {C M : Type 0} {reading : C → ℕ → ℕ} (stands : Meaning M) (netw
       → IsActTimed reading stands network new.timers new device
   act_stays is clocks time machines slot = record {
     clock = is.clock;
-    of_clock = ap (λ (c : _). slice_get c.items device.0) clocks ∙ is.of_clock;
+    of_clock = rw clocks is.of_clock;
     machine = is.machine;
-    of_machine = ap (λ (m : _). slice_get m.items device.0) machines ∙ is.of_machine;
+    of_machine = rw machines is.of_machine;
     act = is.act;
     part = is.part;
     of_act = slot ∙ is.of_act;
-    acts = subst (λ n. ActsAt reading stands network is.clock is.machine device n is.act is.part) (sym time) is.acts;
+    acts = rw time is.acts;
   }
 
 module _ {C M : Type 0} {reading : C → ℕ → ℕ} {stands : Meaning M} {network : Network} {old mid new : State C M}
@@ -48,7 +48,7 @@ module _ {C M : Type 0} {reading : C → ℕ → ℕ} {stands : Meaning M} {netw
       → IsRekeyed reading stands network device old new
   set_both there ripe first act then = record {
     sets = record {
-      same = then.same ∙ ap (λ (s : State C M). let k : State C M = record s { timers = new.timers } in k) first.same;
+      same = then.same ∙ ap (λ s. let k : State C M = record s { timers = new.timers } in k) first.same;
       sized = then.sized ∙ first.sized;
       others = λ slot apart. then.others slot (λ e. apart (inr e)) ∙ first.others slot (λ e. apart (inl e));
       later = λ all. then.later (first.later all);
@@ -56,7 +56,7 @@ module _ {C M : Type 0} {reading : C → ℕ → ℕ} {stands : Meaning M} {netw
     timed = record {
       ripe = ripe_stays stands network mid new ripe (ap State.clocks then.same) (ap State.time then.same)
           (λ w at. waits_as mid new (ap State.waiting then.same) w)
-          (then.others device.0 (λ e. omega (arith, e, there)));
+          (then.others device.0 (λ e. omega arith));
       act = act;
     };
   }
@@ -73,9 +73,8 @@ module _ {C M : Type 0} {reading : C → ℕ → ℕ} {stands : Meaning M} {netw
     timed = record {
       ripe = ripe_stays stands network old new was.ripe (ap State.clocks sets.same ∙ clocks)
           (ap State.time sets.same ∙ time)
-          (λ w at. subst (λ (t : State C M). IsIn w t.waiting.items ↔ IsIn w old.waiting.items) (sym sets.same)
-          (waiting w at))
-          (sets.others device.0 (λ e. omega (arith, e, there)) ∙ ap (λ (l : List Timer). slice_get l device.0) timers);
+          (λ w at. rw sets.same (waiting w at))
+          (sets.others device.0 (λ e. omega arith) ∙ ap (λ l. slice_get l device.0) timers);
       act = act;
     };
   }
@@ -89,7 +88,7 @@ module _ {C M : Type 0} {reading : C → ℕ → ℕ} {stands : Meaning M} {netw
       ripe = ripe;
       act = act_stays stands network old new was.act (ap State.clocks sets.same ∙ clocks)
           (ap State.time sets.same ∙ time) (ap State.machines sets.same ∙ machines)
-          (sets.others (length network.device + device.0) (λ e. omega (arith, e, there))
-          ∙ ap (λ (l : List Timer). slice_get l (length network.device + device.0)) timers);
+          (sets.others (length network.device + device.0) (λ e. omega arith)
+          ∙ ap (λ l. slice_get l (length network.device + device.0)) timers);
     };
   }

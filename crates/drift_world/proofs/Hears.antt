@@ -85,10 +85,12 @@ sent_octets place given other = tt
 arrival_octets : (network other : Network) (device : DeviceId) (node : Node) (moment : Moment) (place : DueAt) (link : LinkId) (signal : SignalSent)
     → have_octets (arrived place (arrival_at other device node moment link (signal_as network signal)) signal)
 arrival_octets network other device node moment place link (signals.Control frame) =
-    control_so (λ (is : Arrival). have_octets (arrived place is (signals.Control frame))) other device link (standpoint_at node moment) frame
+    control_so (λ is. have_octets (arrived place is (signals.Control frame))) other device link
+    (standpoint_at node moment) frame
     (record { dropped = λ reason. tt; waits = λ point. tt; passes = λ way. tt; both = λ way point. tt })
 arrival_octets network other device node moment place link (signals.Timed own) =
-    timed_so (λ (is : Arrival). have_octets (arrived place is (signals.Timed own))) other device link (standpoint_at node moment) (octets_of network own)
+    timed_so (λ is. have_octets (arrived place is (signals.Timed own))) other device link (standpoint_at node moment)
+    (octets_of network own)
     (last_taken_by node) (record { dropped = λ reason. tt; accepted = λ vl cycle. tt; delivered = λ vl cycle. tt })
 arrival_octets network other device node moment place link (signals.Octets given) =
     sent_octets place given (arrival_at other device node moment link (signal_as network (signals.Octets given)))
@@ -139,7 +141,7 @@ module _ {C M : Type 0} (reading : C → ℕ → ℕ) (stands : Meaning (Kept M)
 
   not_gone : IsBefore (state.time ∷ 2 ∷ place.device ∷ place.link ∷ place.cause ∷ []) old.frontier → ⊥
   not_gone before = (old.wires.real e there).2
-      (subst (λ (t : ℕ). IsBefore (t ∷ 2 ∷ place.device ∷ place.link ∷ place.cause ∷ []) old.frontier) (sym at) before)
+      (rw at before)
 
   module _ {machine : Kept M} {moment : Moment} (found : slice_get state.machines.items place.device ≡ Some machine)
       (now : moment ≡ moment_of s e.device state.time) where
@@ -147,8 +149,7 @@ module _ {C M : Type 0} (reading : C → ℕ → ℕ) (stands : Meaning (Kept M)
         e.device machine
     held =
         let own = old.devices e.device (device_there s hs e old.range (old.wires.real e there).0) in
-        subst (λ x. IsHeld stands s hs (map (settled_at network state.time) state.settled.items) old.frontier state.time
-        e.device x) (some_same own.0 machine _ own.1 found) own.2
+        rw (some_same own.0 machine _ own.1 found) at own.2
 
     called : (node : Node) (m : Moment) → Type 0
     called node m = MayCall s.network e.device node m arriving
@@ -160,16 +161,14 @@ module _ {C M : Type 0} (reading : C → ℕ → ℕ) (stands : Meaning (Kept M)
           | inl k ↦ (
             k.node,
             k.is,
-            subst (λ m. MayCall s.network e.device k.node m arriving) (sym now)
-                (may_call s old.frontier state.time e.device k.node arriving
+            rw now (may_call s old.frontier state.time e.device k.node arriving
                 (place.device ∷ place.link ∷ place.cause ∷ []) k.ready k.phase
                 (old.steady e.device) old.limit not_gone),
           )
           | inr k ↦ (
             k.node,
             k.is,
-            subst (λ m. MayCall s.network e.device k.node m arriving) (sym now)
-                (may_call s old.frontier state.time e.device k.node arriving
+            rw now (may_call s old.frontier state.time e.device k.node arriving
                 (place.device ∷ place.link ∷ place.cause ∷ []) k.ready k.phase
                 (old.steady e.device) old.limit not_gone),
           )
@@ -193,8 +192,7 @@ module _ {C M : Type 0} (reading : C → ℕ → ℕ) (stands : Meaning (Kept M)
         let answer : result ≡ arrival_at s.network e.device node_of.0 moment e.link (signal_as network signal) =
         (hears s.network e.device node_of.0 node_of.1 node_of.2 (may_come_so are)).0
         ∙ ap (arrival_at s.network e.device node_of.0 moment e.link) are.is in
-        subst (λ is. have_octets (arrived place is signal)) (sym answer)
-        (arrival_octets network s.network e.device node_of.0 moment place e.link signal)
+        rw answer (arrival_octets network s.network e.device node_of.0 moment place e.link signal)
 
     -- and it is worked off
     pub heard_turns : (heard : Kept M) {octets : List ℕ} (result : Arrival) (machines : List (Kept M))
@@ -215,7 +213,7 @@ module _ {C M : Type 0} (reading : C → ℕ → ℕ) (stands : Meaning (Kept M)
         let world = world_of network state in
         let it = (old.wires.real e there).0 in
         let may = may_come_so are in
-        let numbers : numbers_of place ≡ wire_place e = ap (λ (r : ℕ). place.at ∷ r ∷ place.device ∷ place.link ∷ place.cause ∷ []) kind in
+        let numbers : numbers_of place ≡ wire_place e = rw kind in
         let answer : result ≡ arrival_at s.network e.device node_of.0 moment e.link (signal_as network signal) =
         (hears s.network e.device node_of.0 node_of.1 node_of.2 may).0
         ∙ ap (arrival_at s.network e.device node_of.0 moment e.link) are.is in
@@ -227,11 +225,9 @@ module _ {C M : Type 0} (reading : C → ℕ → ℕ) (stands : Meaning (Kept M)
         let turn = heard_turn reading stands s world notes e machine heard octets result machines
         (filter_map (on_wire network) rest) old there at
         (subst (ComesFirst reading stands s world notes old) numbers first) found are.is may
-        (subst (λ m. HasHeard stands s.network e.device m e.link octets result machine heard) now (hears s.network e.device)) set
+        (rw now at (hears s.network e.device)) set
         (wires_without network state.under_way.entries rest taken under took e refl) in (
           told_settled state.time place so,
-          subst (λ p. TurnsBy reading stands s notes (arrival_body e.device e.link e.cause result ∷ [])
-              (record mid { ports = filter_map at_port rest }) p) (sym numbers)
-              (turns_alike reading stands s notes mid mid.wires (filter_map at_port rest) (λ w. (λ i. i, λ i. i))
+          rw numbers (turns_alike reading stands s notes mid mid.wires (filter_map at_port rest) (λ w. (λ i. i, λ i. i))
               (ports_stay network state.under_way.entries rest taken under took refl) turn),
         )

@@ -1,12 +1,12 @@
 -- What is to be done for a device that had as much to do before.
 use Rattle.drift_world.proofs.Dues.{due_stays}
 use Rattle.drift_world.proofs.Halves.{act_stays}
-use Rattle.drift_world.proofs.Words.{◌+◌, ◌<◌, ◌∙◌, ◌≡◌, DeviceId, IsWell, Kept, List, Meaning, Moment, Network, Node, Some, ap, arith, keeps, length, pos, refl, subst, sym, ℕ}
-use Rattle.{device_rules.specs.Reading.StandsAsBefore, std.proofs.Common.{◌≤ℤ◌, slice_get}}
+use Rattle.drift_world.proofs.Words.{◌+◌, ◌<◌, ◌∙◌, ◌≡◌, DeviceId, IsWell, Kept, Meaning, Moment, Network, Node, Some, ap, arith, keeps, length, refl, sym, ℕ}
+use Rattle.{device_rules.specs.Reading.StandsAsBefore, std.proofs.Common.{slice_get}}
 use Rattle.run_law.specs.machines.{Answers.called, Nodes.Phase, Tasks.{IsPending, Task, doing, emitting, reading_for}}
 use Rattle.world_law.proofs.steps_lemmas.Words.{undone_alike, waiting_alike}
-use Rattle.world_state.specs.declared.{hearing.Before.{Before, TheVariants.{Due, Same}}, timers.Timer.Timer}
-use Rattle.drift_world.specs.{Stepping.{ActsAt, IsTimedFor, IsTimerBy, SetsOnly, ToldBefore}, declared.{part.Part.Part, state.State.State}}
+use Rattle.world_state.specs.declared.{hearing.Before.{Before, TheVariants.{Due, Same}}}
+use Rattle.drift_world.specs.{Stepping.{ActsAt, IsTimedFor, SetsOnly, ToldBefore}, declared.{part.Part.Part, state.State.State}}
 
 -- a device has the same to do, whenever it was called last
 pub still_to_do : (network : Network) (device : DeviceId) (node : Node) (last : Moment) (phase : Phase) (task : Task)
@@ -31,16 +31,16 @@ module _ {C M : Type 0} (reading : C → ℕ → ℕ) (stands : Meaning M) (netw
     none = λ node task kept pending u from most reached.
         let b = before network device node kept in
         let p = still_to_do network device node b.0 b.1 task pending in
-        acts.none (called b.0 b.1 node) task b.2 p.0 u from most (subst (λ r. r ≤ℤ pos (reading clock u)) (sym p.1) reached);
+        acts.none (called b.0 b.1 node) task b.2 p.0 u from most (rw p.1 reached);
     one = λ lt node kept.
         let b = before network device node kept in
         let t = acts.one lt (called b.0 b.1 node) b.2 in
         let p = still_to_do network device (called b.0 b.1 node) node.last node.phase t.0 t.1 in
-        (t.0, p.0, subst (λ r. r ≤ℤ pos (reading clock time)) (sym p.1) t.2);
+        (t.0, p.0, rw p.1 t.2);
     late = λ lt node kept task pending reached.
         let b = before network device node kept in
         let p = still_to_do network device node b.0 b.1 task pending in
-        acts.late lt (called b.0 b.1 node) b.2 task p.0 (subst (λ r. r ≤ℤ pos (reading clock time)) (sym p.1) reached);
+        acts.late lt (called b.0 b.1 node) b.2 task p.0 (rw p.1 reached);
   }
 
   -- the timer stays right for what the device had to do before, where clocks, timers and time stay
@@ -52,14 +52,14 @@ module _ {C M : Type 0} (reading : C → ℕ → ℕ) (stands : Meaning M) (netw
       let timed = (well.timed.each device of_it).act in
       record {
         clock = timed.clock;
-        of_clock = ap (λ (c : _). slice_get c.items device.0) clocks ∙ timed.of_clock;
+        of_clock = rw clocks timed.of_clock;
         machine = is;
         of_machine = of_is;
         act = timed.act;
         part = timed.part;
-        of_act = ap (λ (l : List Timer). slice_get l (length network.device + device.0)) timers ∙ timed.of_act;
-        acts = subst (λ n. ActsAt reading stands network timed.clock is device n timed.act timed.part) (sym time)
-            (acts_still timed.clock timed.machine is device old.time timed.act timed.part (told timed.machine is timed.of_machine of_is) timed.acts);
+        of_act = rw timers timed.of_act;
+        acts = rw time (acts_still timed.clock timed.machine is device old.time timed.act timed.part
+            (told timed.machine is timed.of_machine of_is) timed.acts);
       }
   told_timed last_step old new device (Due due) well of_it told is of_is clocks time timers =
       due_stays stands network new device due well of_it
@@ -71,8 +71,7 @@ module _ {C M : Type 0} (reading : C → ℕ → ℕ) (stands : Meaning M) (netw
       → IsTimedFor reading stands network new device.0 before
   timed_still old new device Same there ripe is =
       act_stays stands network old new is (ap State.clocks ripe.same) (ap State.time ripe.same)
-      (ap State.machines ripe.same) (ripe.others (length network.device + device.0) (λ e. omega (arith, e, there)))
+      (ap State.machines ripe.same) (ripe.others (length network.device + device.0) (λ e. omega arith))
   timed_still old new device (Due due) there ripe is = λ clock timer own at.
-      subst (λ n. IsTimerBy reading clock due n timer) (sym (ap State.time ripe.same))
-      (is clock timer (sym (ap (λ (t : State C M). slice_get t.clocks.items device.0) ripe.same) ∙ own)
-      (sym (ripe.others (length network.device + device.0) (λ e. omega (arith, e, there))) ∙ at))
+      rw (ap State.time ripe.same) (is clock timer (sym (rw ripe.same) ∙ own)
+      (sym (ripe.others (length network.device + device.0) (λ e. omega arith)) ∙ at))

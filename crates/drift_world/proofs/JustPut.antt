@@ -13,7 +13,7 @@ use Rattle.{std.{proofs.Common.{Bor, option_map}, specs.Option.option_copied}, w
 -- what has the rank of a wire is on one
 wired : (content : Content) → rank_of content ≡ 2 → (signal : Sent) × (content ≡ Wire signal)
 wired (Wire signal) is = (signal, refl)
-wired (Port frame reading) is = absurd (omega (arith, is))
+wired (Port frame reading) is = absurd (omega arith)
 
 -- and what is on a wire has its rank, and its cause
 of_wire : (network : Network) (place : DueAt) (content : Content) {e : OnWire} → wire_at network place content ≡ Some e
@@ -23,13 +23,13 @@ of_wire network place (Port frame reading) is = absurd cc
 
 -- a record behind those of the events of its time is not before them
 not_early : (h : Happening) {now : ℕ} → time_of h ≡ now → 2 < rank h.note.body → IsBefore (place_of h) (now ∷ 2 ∷ []) → ⊥
-not_early h at behind (inl lt) = omega (arith, at, lt)
-not_early h at behind (inr (same, inl lt)) = omega (arith, behind, lt)
+not_early h at behind (inl lt) = omega arith
+not_early h at behind (inr (same, inl lt)) = omega arith
 not_early h at behind (inr (same, inr (rank_is, none))) = absurd none
 
 -- a place of a later time is not before the next time
 not_soon : (t now : ℕ) (more : List ℕ) → now + 1 ≤ t → IsBefore (t ∷ 2 ∷ more) ((now + 1) ∷ []) → ⊥
-not_soon t now more late (inl lt) = omega (arith, late, lt)
+not_soon t now more late (inl lt) = omega arith
 not_soon t now more late (inr (same, none)) = absurd none
 
 received : (network : Network) (launch : Launch) → launch.link.0 < length network.link
@@ -57,8 +57,10 @@ module _ {C M : Type 0} {reading : C → ℕ → ℕ} {stands : Meaning (Kept M)
       } in
       let there = is_given (on_wire network) state.under_way.entries e w holds.there (ap (wire_at network e.place) wire.1) in
       let real = (is.wires.real w there).0 in
-      let own : real.putting ≡ h = some_same real.putting h _ real.there (ap (numbered (happenings s.network notes)) holds.fits.1 ∙ of.there) in
-      let put : put_by s real.putting ≡ Some (signal_as network wire.0) = ap (option_map (λ (l : Launch). l.signal)) real.arrives.put in
+      let own = some_same real.putting h _ real.there (ap (numbered (happenings s.network notes)) holds.fits.1 ∙
+      of.there) in
+      let put : put_by s real.putting ≡ Some (signal_as network wire.0) =
+      ap (option_map (λ l. l.signal)) real.arrives.put in
       (wire.0, sym holds.is ∙ wire.1, sym put ∙ ap (put_by s) own)
 
   -- and where it put some there, something is found
@@ -75,7 +77,7 @@ module _ {C M : Type 0} {reading : C → ℕ → ℕ} {stands : Meaning (Kept M)
       let first = is.run.within h (numbered_in (happenings s.network notes) number h of.there) in
       let w = is.wires.all t to.0 launch.link number arriving
       (λ pending same. not_early h of.at of.behind (is.untold.early pending (place_of h) first))
-      (λ before. not_soon t state.time (to.0.0 ∷ launch.link.0 ∷ number ∷ []) (omega (arith, later, now))
+      (λ before. not_soon t state.time (to.0.0 ∷ launch.link.0 ∷ number ∷ []) (omega arith)
       (is.not_later (t ∷ 2 ∷ to.0.0 ∷ launch.link.0 ∷ number ∷ []) before)) in
       let given = given_of (on_wire network) state.under_way.entries w.0 w.1 in
       let wire = of_wire network given.0.place given.0.content given.2 in
@@ -85,7 +87,7 @@ module _ {C M : Type 0} {reading : C → ℕ → ℕ} {stands : Meaning (Kept M)
       cause_of e t device link same = cc
 
   none_put : (launch : Option Launch) → launched s h (time_of h) h.note.body ≡ launch → IfSome launch (λ l. l.link.0 < length s.network.link)
-      → HoldsNoneAt state.under_way.entries 2 number → None ≡ option_map (λ (l : Launch). l.signal) launch
+      → HoldsNoneAt state.under_way.entries 2 number → None ≡ option_map (λ l. l.signal) launch
   none_put None put own none = refl
   none_put (Some launch) put own none = absurd (some_found put own none)
 
@@ -95,7 +97,7 @@ module _ {C M : Type 0} {reading : C → ℕ → ℕ} {stands : Meaning (Kept M)
   just_put None some none own = none_put (launched s h (time_of h) h.note.body) refl own none
   just_put (Some content) some none own =
       let it = found_is some in
-      ap (λ (c : Content). option_map (signal_as network) (on_wire_in (Some c))) it.1 ∙ it.2
+      rw it.1 it.2
 
 -- ---- as a world shows it
 
@@ -120,7 +122,6 @@ pub shown_put : {C M : Type 0} {fresh : ℕ → C} {after_step : C → ℕ → �
     ≡ put_by (scenario network (reading_of fresh after_step reading network events) events) h
 shown_put {fresh} {after_step} {reading} {stands} {own} {network} state {events} {notes} {number} {h} under_way st of
     within found some none result is =
-    let s = scenario network (reading_of fresh after_step reading network events) events in
     let put = just_put state st.is under_way of (option_copied found)
     (copied_some (HoldsAt state.under_way.entries 2 number) found some) (copied_none (HoldsNoneAt state.under_way.entries 2 number) found none) within in
     ap (λ n. option_map (signal_as n) (option_copied result)) (sym st.is.same) ∙ ap (option_map (signal_as own)) is ∙ put

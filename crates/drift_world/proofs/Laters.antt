@@ -1,6 +1,6 @@
 -- An event of a later time befalls a world, where no record before it is left.
 use Rattle.drift_world.proofs.Words.{◌*◌, ◌++◌, ◌<ℤ◌, ◌^◌, ◌∙◌, ◌∷◌, ◌≡◌, ◌≤ℤ◌, ◌≤◌, ComesUpTo, IsBefore, IsInRange, IsScenarioRun}
-use Rattle.drift_world.proofs.Words.{IsWithinHypothesis, Kept, List, Meaning, Network, None, Note, Ok, Option, OutOfMemory, Scenario, Some, StandsUnder, Units, World, [], amount}
+use Rattle.drift_world.proofs.Words.{IsWithinHypothesis, Kept, List, Meaning, Network, None, Note, Ok, Option, OutOfMemory, Scenario, Some, StandsUnder, World, [], amount}
 use Rattle.drift_world.proofs.Words.{ap, append-nil, arith, cases_lt, false_from_ne_true, happening, happenings, inl, inr, ints, never_self, place_of, pos}
 use Rattle.drift_world.{proofs.Words.{refl, subst, sym, units_of, ℕ, ℤ}, specs.Later.{ComesBehind, IsOpenFrom, MayApplyAgain}}
 use Rattle.{drift_world.specs.Running.{HasReached, IsOpenTo, Reaches}, tte_units.proofs.general_lemmas.Integers.{whole as whole_time}}
@@ -18,10 +18,8 @@ pub time_limit : {network : Network} (events : List Event) (event : Event) → I
     → IsWithinHypothesis network events event → event.time.0 ≤ℤ pos (2 ^ 60)
 time_limit {network} events event range within =
     let late = at_most event.time.0 (2 ^ 20 * amount network.cycle) (within Late) in
-    let least = range.cycle.least in
-    let most = range.cycle.most in
-    let is = whole_time network.cycle.0 (omega (arith, ints, least)) in
-    let few : amount network.cycle ≤ 2 ^ 40 = omega (arith, ints, most, is) in
+    let is = whole_time network.cycle.0 (omega (arith, ints, range.cycle.least)) in
+    let few : amount network.cycle ≤ 2 ^ 40 = omega (arith, ints, range.cycle.most, is) in
     omega (arith, ints, late, few)
 
 -- ---- no record is left
@@ -54,7 +52,7 @@ module _ {C M : Type 0} {fresh : ℕ → C} {after_step : C → ℕ → ℤ → 
     (comes : ComesBehind fresh after_step reading stands network old events notes event) (opens : IsOpenFrom old event)
   where
     time_is : event.time.0 ≡ pos (amount event.time)
-    time_is = let not_past = opens.time in whole_time event.time.0 (omega (arith, ints, not_past))
+    time_is = whole_time event.time.0 (omega (arith, ints, opens.time))
 
     -- so none was given
     none_due : (o : Option Note) → StandsUnder fresh after_step reading stands network mid events (notes ++ option_to_list o)
@@ -63,7 +61,7 @@ module _ {C M : Type 0} {fresh : ℕ → C} {after_step : C → ℕ → ℤ → 
     none_due (Some note) more before =
         let lt = before.1 in
         let time = time_is in
-        let at : note.time.0 ≡ pos mid.now = ap (λ (u : Units). u.0) before.0 in
+        let at : note.time.0 ≡ pos mid.now = ap (λ u. u.0) before.0 in
         let amount_is : amount note.time ≡ mid.now = ap amount before.0 in
         elim (cases_lt old.now (amount event.time)) [
           | inl later ↦ absurd (none_earlier notes note (comes.none_left (omega (arith, ints, later, time))) more.is.run
@@ -76,8 +74,8 @@ module _ {C M : Type 0} {fresh : ℕ → C} {after_step : C → ℕ → ℤ → 
         (reached : ComesUpTo {E = OutOfMemory} old mid event.time (Ok o)) where
       -- the same events and records leave the world there
       stands_there : StandsUnder fresh after_step reading stands network mid events notes
-      stands_there = subst (λ l. StandsUnder fresh after_step reading stands network mid events l)
-          (ap (λ (p : Option Note). notes ++ option_to_list p) (none_due o more reached) ∙ append-nil notes) more
+      stands_there = rw (sym (ap (λ (p : Option Note). notes ++ option_to_list p) (none_due o more reached) ∙ append-nil
+          notes)) more
 
       -- the world has come to the time of the event
       has_reached : HasReached old mid event.time
@@ -97,7 +95,7 @@ module _ {C M : Type 0} {fresh : ℕ → C} {after_step : C → ℕ → ℤ → 
             time = sym there.time;
             early = there.early (elim (cases_lt old.now (amount event.time)) [
               | inl later ↦ inl (omega (arith, ints, later, time))
-              | inr now ↦ inr (opens.early (let not_past = opens.time in omega (arith, ints, now, time, not_past)))
+              | inr now ↦ inr (opens.early (omega (arith, ints, now, time, opens.time)))
             ]);
             unended = false_from_ne_true mid.ended
                 (λ ended. true≢false (sym ((a.ended (units_of mid.now)).0 ((b.ended (units_of mid.now)).1 (ended, refl))).0 ∙ opens.unended));
@@ -119,14 +117,13 @@ module _ {C M : Type 0} {fresh : ℕ → C} {after_step : C → ℕ → ℤ → 
       again_there : MayApplyAgain old mid event.time
       again_there =
           let there = has_reached in
-          let now = there.time in
           record {
             same = network_there;
             lines = lines_there;
             given = given_there;
             ended = open_there.unended ∙ sym opens.unended;
             later = later_there;
-            not_past = omega (arith, ints, now);
+            not_past = omega (arith, ints, there.time);
             early = λ at. open_there.early;
           }
 

@@ -1,6 +1,6 @@
 -- The local clock of a device, as a world shows it, is that of the records.
 use Rattle.drift_world.proofs.Words.{happening, note_of}
-use Rattle.world_law.{proofs.runs.Worlds.length_is, specs.world.World.IsDueAs}
+use Rattle.world_law.{proofs.runs.Worlds.length_is}
 use Rattle.{drift_clock.specs.Readings.value_after, drift_world.specs.Running.clock_of, run_law.{proofs.runs.Places.either_way, specs.records.Happenings.up_to}}
 use Rattle.{drift_world.proofs.{Agreements.{all_come, reads_value}, EventRuns.none_coming, Words.{true, world_of, ℕ, ℤ}}, run_law.specs.device.States.{adjustment_after, state_after}}
 use Rattle.drift_world.proofs.Words.{◌++◌, ◌+◌, ◌<◌, ◌∙◌, ◌∷◌, ◌≡◌, ◌≤◌, Bool, DeviceId, DeviceState, Happening, IsBefore, IsComplete, IsDue, IsIn}
@@ -16,7 +16,7 @@ use Rattle.sync_state.specs.declared.state.State.TheVariants as states
 
 -- all events have befallen up to then
 all_befallen : (t : ℕ) (events : List Event) → ((e : Event) → IsIn e events → amount e.time ≤ t)
-    → filter (λ (e : Event). nat_le (amount e.time) t) events ≡ events
+    → filter (λ e. nat_le (amount e.time) t) events ≡ events
 all_befallen t [] past = refl
 all_befallen t (e ∷ events) past = grind (arith, filter, nat_le, amount, le-leb, (all_befallen t events (λ d i. past d (inr i))))
 
@@ -24,13 +24,13 @@ all_befallen t (e ∷ events) past = grind (arith, filter, nat_le, amount, le-le
 still_broken : (s : Scenario) (device : DeviceId) (t now : ℕ) → t ≤ now → ((e : Event) → IsIn e s.events → amount e.time ≤ t)
     → is_broken s device now ≡ is_broken s device t
 still_broken s device t now le past =
-    ap (list_any (λ (e : Event). breaks_at device.0 e.what))
-    (all_befallen now s.events (λ e i. (let at = past e i in omega (arith, at, le))) ∙ sym (all_befallen t s.events past))
+    ap (list_any (λ e. breaks_at device.0 e.what))
+    (all_befallen now s.events (λ e i. (let at = past e i in omega arith)) ∙ sym (all_befallen t s.events past))
 
 -- the records of a run up to a time are no later
 no_later : {s : Scenario} (t : ℕ) (notes : List Note) → IsScenarioRun s ((t + 1) ∷ []) notes → (h : Happening)
     → IsIn h (happenings s.network notes) → time_of h ≤ t
-no_later t notes run h i = elim (run.within h i) [ inl lt ↦ omega (arith, lt) | inr bad ↦ absurd bad.1 ]
+no_later t notes run h i = elim (run.within h i) [ inl lt ↦ omega arith | inr bad ↦ absurd bad.1 ]
 
 -- ---- nothing is to come
 
@@ -44,23 +44,23 @@ module _ {C M : Type 0} {reading : C → ℕ → ℕ} {stands : Meaning M} {s : 
   none_now : world.now ≡ t → world.settled ≡ []
   none_now at = no_first world.settled (λ z rest same.
       let hs = happenings s.network notes in
-      let there : IsIn z world.settled = subst (λ l. IsIn z l) (sym same) (inl refl) in
-      let first = subst (λ l. IsDueAs s l z) (append-nil hs) (old.are.founded [] rest z same).1 in
+      let there : IsIn z world.settled = rw same (inl refl) in
+      let first = rw (append-nil hs) at (old.are.founded [] rest z same).1 in
       let y = happening s.network hs (note_of notes z) in
       let place : place_of y ≡ place_of z = ap place_of (sym first.same) in
       let due : IsDue s hs y =
-      record { number = ap (λ n. n + 1) (length_is s notes); same = refl; begun = first.begun; cause = first.cause } in
+      record { number = rw (length_is s notes); same = refl; begun = first.begun; cause = first.cause } in
       let behind = old.are.after z there in
       let of_now = old.are.of_now z there in
       let before : (h : Happening) → IsIn h hs → IsBefore (place_of h) (place_of y) = λ h i.
       subst (λ p. IsBefore (place_of h) p) (sym place)
       (let marked = old.run.within h i in elim (either_way (place_of h) (place_of z)) [
         | inl lt ↦ lt
-        | inr (inl e) ↦ absurd (behind (subst (λ p. IsBefore p old.frontier) e marked))
+        | inr (inl e) ↦ absurd (behind (rw e at marked))
         | inr (inr gt) ↦ absurd (behind (chain (place_of z) (place_of h) old.frontier gt marked))
       ]) in
-      let other = run.full hs [] y (sym (append-nil hs)) before (λ h none. absurd none) due (inl (omega (arith, of_now, at))) in
-      behind (subst (λ p. IsBefore p old.frontier) (other.2 ∙ place) (old.run.within other.0 other.1)))
+      let other = run.full hs [] y (sym (append-nil hs)) before (λ h none. absurd none) due (inl (omega arith)) in
+      behind (rw (other.2 ∙ place) at (old.run.within other.0 other.1)))
 
   none_left : HasCome world (happenings s.network notes) t → world.settled ≡ []
   none_left (inl past) = none_coming old past.1
@@ -72,15 +72,14 @@ module _ {C M : Type 0} {reading : C → ℕ → ℕ} {stands : Meaning M} {s : 
       let le = no_later t notes run h (numbered_in (happenings s.network notes) number h is.there) in
       let at = is.same_time in
       let lt = past.0 in
-      absurd (omega (arith, le, at, lt))
+      absurd (omega arith)
   worked (inr here) number h is =
       let by = here.1 in
-      subst (λ (n : ℕ). IsBefore (n ∷ 2 ∷ []) old.frontier) (sym here.0)
-      (chain (t ∷ 2 ∷ []) (place_of by.0) old.frontier by.2 (old.run.within by.0 by.1))
+      rw here.0 (chain (t ∷ 2 ∷ []) (place_of by.0) old.frontier by.2 (old.run.within by.0 by.1))
 
   come : HasCome world (happenings s.network notes) t → t ≤ world.now
-  come (inl past) = let lt = past.0 in omega (arith, lt)
-  come (inr here) = let at = here.0 in omega (arith, at)
+  come (inl past) = let lt = past.0 in omega arith
+  come (inr here) = let at = here.0 in omega arith
 
 -- ---- the clock
 
@@ -91,14 +90,16 @@ stepped_up after_step last_step by t clock [] first all = first
 stepped_up after_step last_step by t clock (x ∷ steps) first all =
     let here = all 0 x (omega arith) in
     let last = by clock x.at x.rate in
-    stepped_up after_step last_step by t (after_step clock x.at x.rate) steps (omega (arith, here, last)) (λ k d lt. all (suc k) d (omega (arith, lt)))
+    stepped_up after_step last_step by t (after_step clock x.at x.rate) steps (omega arith)
+    (λ k d lt. all (suc k) d (omega arith))
 
 pub clock_stepped : {C : Type 0} (fresh : ℕ → C) (after_step : C → ℕ → ℤ → C) (last_step : C → ℕ) → ((g : ℕ) → last_step (fresh g) ≡ 0)
     → ((c : C) (t : ℕ) (r : ℤ) → last_step (after_step c t r) ≤ t) → (network : Network) (events : List Event) (device : DeviceId) (t : ℕ)
     → ((e : Event) → IsIn e events → amount e.time ≤ t) → last_step (clock_of fresh after_step network events device) ≤ t
 clock_stepped fresh after_step last_step begins by network events device t past =
     let first = begins (amount network.grain) in
-    stepped_up after_step last_step by t (fresh (amount network.grain)) (rate_steps events device) (omega (arith, first)) (all_come events device t past)
+    stepped_up after_step last_step by t (fresh (amount network.grain)) (rate_steps events device) (omega arith)
+    (all_come events device t past)
 
 -- ---- what is shown
 
@@ -108,7 +109,7 @@ shown_is : (s : Scenario) (hs : List Happening) (device : DeviceId) (t : ℕ) (b
 shown_is s hs device t true broken in_state reads adjusts = grind arith
 shown_is s hs device t false {state = states.Synchronised} broken in_state reads adjusts = grind arith
 shown_is s hs device t false {state = other} broken in_state reads adjusts =
-    λ step. (let no : ◌≡◌ {A = DeviceState} other states.Synchronised = sym in_state ∙ step.synchronised in cc)
+    λ step. (cc)
 
 pub local_is : {C M : Type 0} {fresh : ℕ → C} {after_step : C → ℕ → ℤ → C} {reading : C → ℕ → ℕ}
     {stands : Meaning M} {own : Network} {network : Network} {state : State C M} {t : ℕ}
@@ -123,25 +124,25 @@ local_is {fresh} {after_step} {reading} {stands} {own} {network} {state} {t} {ev
     let hs = happenings network notes in
     let old = complete.is.is in
     let now = world.now in
-    let there : device.0 < length network.device = subst (λ (n : Network). device.0 < length n.device) old.same lt in
+    let there : device.0 < length network.device = rw old.same at lt in
     let le = come old t complete.all complete.come in
     let held = old.devices device there in
     let empty = none_left old t complete.all complete.come in
     let at = held_shows (keeps stands) s hs world.settled old.frontier now device held.0 held.2
     (worked old t complete.all complete.come)
     (all_past reading (keeps stands) s world notes old) old.befallen in
-    let all : hs ++ world.settled ≡ hs = ap (λ (l : List Happening). hs ++ l) empty ∙ append-nil hs in
+    let all : hs ++ world.settled ≡ hs = rw empty (append-nil hs) in
     let past = no_later t notes complete.all in
     let same : up_to now (hs ++ world.settled) ≡ up_to t hs =
-    ap (up_to now) all ∙ all_up_to now hs (λ h i. (let was = past h i in omega (arith, was, le))) ∙ sym (all_up_to t hs past) in
+    ap (up_to now) all ∙ all_up_to now hs (λ h i. (let was = past h i in omega arith)) ∙ sym (all_up_to t hs past) in
     let node = at.0 in
-    let machine : held.0 ≡ shows.kept = some_same held.0 shows.kept _ held.1 shows.kept_is in
-    let is = shows.is network node (subst (λ k. keeps stands k network device node) machine at.1) in
-    let broken : is_broken s device t ≡ shows.broken =
+    let machine = some_same held.0 shows.kept _ held.1 shows.kept_is in
+    let is = shows.is network node (rw (sym machine) at.1) in
+    let broken =
     sym (still_broken s device t now le complete.past) ∙ some_same _ _ _ (old.broken device there) shows.broken_is in
-    let clock : shows.clock ≡ clock_of fresh after_step network events device = some_same _ _ _ shows.clock_is (complete.is.clocks device there) in
+    let clock = some_same _ _ _ shows.clock_is (complete.is.clocks device there) in
     let reads : reading shows.clock t ≡ s.reading device t =
-    ap (λ c. reading c t) clock ∙ sym (reads_value fresh after_step reading network events device t complete.past) in
+    rw clock (sym (reads_value fresh after_step reading network events device t complete.past)) in
     subst (IsLocalClock s hs device t) (sym is)
     (shown_is s hs device t shows.broken broken
     (sym (at.2.state ∙ ap (λ l. state_after s l device) same)) reads

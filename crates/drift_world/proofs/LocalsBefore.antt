@@ -32,7 +32,7 @@ sound_shows : {M : Type 0} {stands : Meaning M} {s : Scenario}
     × (is_broken s device now ≡ false → ShowsSound s hs device now node)
 sound_shows {s} {hs} {coming} {now} {device} (inl k) empty early =
     let up = not_acted k early in
-    let all : hs ++ coming ≡ hs = ap (λ (l : List Happening). hs ++ l) empty ∙ append-nil hs in (
+    let all : hs ++ coming ≡ hs = rw empty (append-nil hs) in (
       k.node,
       k.is,
       λ sound. record {
@@ -42,7 +42,7 @@ sound_shows {s} {hs} {coming} {now} {device} (inl k) empty early =
             ∙ ap (λ l. adjustment_before s l device now) all;
       },
     )
-sound_shows (inr k) empty early = (k.node, k.is, λ sound. (let no : true ≡ false = sym k.broken ∙ sound in cc))
+sound_shows (inr k) empty early = (k.node, k.is, λ sound. (let no = sym k.broken ∙ sound in cc))
 
 -- ---- what is shown
 
@@ -50,10 +50,10 @@ shown_before : (s : Scenario) (hs : List Happening) (device : DeviceId) (t : ℕ
     → is_broken s device t ≡ broken → x ≡ s.reading device t
     → (is_broken s device t ≡ false → (state ≡ state_before s hs device t) × (a ≡ adjustment_before s hs device t))
     → IsLocalClockBefore s hs device t (local_shown broken state x a)
-shown_before s hs device t true state a broken reads shows = λ step. (let no : true ≡ false = sym broken ∙ step.correct in cc)
+shown_before s hs device t true state a broken reads shows = λ step. (let no = sym broken ∙ step.correct in cc)
 shown_before s hs device t false states.Synchronised a broken reads shows = grind arith
 shown_before s hs device t false other a broken reads shows = λ step.
-    (let no : ◌≡◌ {A = DeviceState} other states.Synchronised = (shows broken).0 ∙ step.synchronised in cc)
+    (let no : ◌≡◌ other states.Synchronised = (shows broken).0 ∙ step.synchronised in cc)
 
 pub local_is_before : {C M : Type 0} {reading : C → ℕ → ℕ} {stands : Meaning M}
     {s : Scenario} {own : Network} {state : State C M} {notes : List Note} {device : DeviceId} {t : ℕ}
@@ -64,17 +64,17 @@ local_is_before {reading} {stands} {s} {own} {state} {notes} {device} {t} old ea
     let world = world_of own state in
     let hs = happenings s.network notes in
     let now = world.now in
-    let there : device.0 < length s.network.device = subst (λ (n : Network). device.0 < length n.device) old.same lt in
+    let there : device.0 < length s.network.device = rw old.same at lt in
     let held = old.devices device there in
     let machine = sound_shows held.2 (none_coming old early) (old.early early) in
     let node = machine.0 in
-    let same : held.0 ≡ shows.kept = some_same held.0 shows.kept _ held.1 shows.kept_is in
-    let is = shows.is s.network node (subst (λ k. keeps stands k s.network device node) same machine.1) in
-    let broken : is_broken s device now ≡ shows.broken = some_same _ _ _ (old.broken device there) shows.broken_is in
+    let same = some_same held.0 shows.kept _ held.1 shows.kept_is in
+    let is = shows.is s.network node (rw (sym same) machine.1) in
+    let broken = some_same _ _ _ (old.broken device there) shows.broken_is in
     let own_clock = old.clocks device there in
-    let clock : own_clock.0 ≡ shows.clock = some_same _ _ _ own_clock.1 shows.clock_is in
+    let clock = some_same _ _ _ own_clock.1 shows.clock_is in
     let reads : reading shows.clock t ≡ s.reading device now =
-    ap (λ (n : ℕ). reading shows.clock n) at ∙ ap (λ c. reading c now) (sym clock) ∙ sym (own_clock.2 now (omega arith)) in
+    rw at (ap (λ c. reading c now) (sym clock) ∙ sym (own_clock.2 now (omega arith))) in
     subst (IsLocalClockBefore s hs device now) (sym is)
     (shown_before s hs device now shows.broken node.standing.state node.standing.adjustment broken reads
     (λ sound. let said = machine.2 sound in (said.state, said.adjustment)))

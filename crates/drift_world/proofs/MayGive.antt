@@ -2,12 +2,12 @@
 use Rattle.{world_law.specs.steps.Turns.IsNext, world_state.specs.Giving.{CameBy, HasItsFrame, IsYoung, MayBeGiven}}
 use Rattle.drift_world.{proofs.Words.{IsOwn, units_of, world_of}, specs.{Giving.{AreLow, IsToGive}, declared.state.State.State}}
 use Rattle.{drift_world.proofs.Sendings.link_within, run_law.proofs.law.FirstPlaces.founded_at}
-use Rattle.drift_world.proofs.Words.{◌+◌, ◌<◌, ◌^◌, ◌∙◌, ◌≡◌, ◌≤◌, Arrived, ArrivedAt, Arrives, Compressed, DeviceId}
+use Rattle.drift_world.proofs.Words.{◌<◌, ◌∙◌, ◌≡◌, Arrived, ArrivedAt, Arrives, Compressed, DeviceId}
 use Rattle.drift_world.proofs.Words.{Happening, HasItsOctets, IsCaused, IsDue, IsFounded, IsInRange, LinkId, List}
-use Rattle.drift_world.proofs.Words.{Network, None, Note, NoteBody, Option, Pcf, Scenario, Settled, Some, Units, amount}
+use Rattle.drift_world.proofs.Words.{Network, Note, NoteBody, Option, Pcf, Scenario, Settled, Some, Units, amount}
 use Rattle.drift_world.proofs.Words.{ap, arith, frame_by, happenings, length, link_at, numbered_in, place_of, refl}
 use Rattle.drift_world.proofs.Words.{same_Some}
-use Rattle.{drift_world.proofs.Words.{slice_get_within, subst, sym, time_of, with_clock, ℕ}, world_law.proofs.frames.Proper.{arrived_so, launched_frame}}
+use Rattle.{drift_world.proofs.Words.{slice_get_within, sym, time_of, with_clock, ℕ}, world_law.proofs.frames.Proper.{arrived_so, launched_frame}}
 use Rattle.{run_law.{proofs.control.Arrived.arrived_young, specs.runs.DueRecords.IsArrivedRecord}, std.specs.Prelude.{option_and_then, option_map}}
 use Rattle.run_law.specs.declared.note.NoteBody.TheVariants.{Sent}
 use Rattle.world_law.proofs.steps_lemmas.hearing.Receptions.{receiver_in}
@@ -38,18 +38,18 @@ module _ (s : Scenario) (hs : List Happening) (time : Units) where
       let so = arrived_so s hs device (amount time) link cause clock a in
       let there = arrives_in range so.arrives in
       let put = founded_at s hs so.putting founded (numbered_in hs cause so.putting so.there) in
-      let put_frame : so.putting.frame ≡ Some so.came =
+      let put_frame =
       launched_frame s put.front so.putting (time_of so.putting) link so.arrives.way so.came so.putting.note.body
       (ap Happening.frame put.due.same)
       so.arrives.put in
-      let has : frame ≡ Some (with_clock clock so.came) = own
-      ∙ ap (λ (o : Option Happening). option_map (with_clock clock) (option_and_then (λ h. h.frame) o)) so.there
+      let has = own
+      ∙ ap (λ o. option_map (with_clock clock) (option_and_then (λ h. h.frame) o)) so.there
       ∙ ap (option_map (with_clock clock)) put_frame in
       record {
         by = there.0;
         young = arrived_young a;
         arrived = there.1;
-        framed = λ d is none. let bad : None ≡ Some (with_clock clock so.came) = sym none ∙ has in absurd cc;
+        framed = λ d is none. let bad = sym none ∙ has in absurd cc;
       }
 
   -- ---- by its cause
@@ -58,9 +58,9 @@ module _ (s : Scenario) (hs : List Happening) (time : Units) where
       → IsCaused s hs time body → frame ≡ frame_by s.network hs body → MayBut s.network body frame
   caused_may (Arrived d l c k) {frame} range founded caused own = arrived_may range founded caused own
   caused_may (Sent d k) range founded caused own =
-      record { by = tt; young = tt; arrived = tt; framed = λ e is none. let bad : None ≡ Some _ = sym none ∙ own in absurd cc }
+      record { by = tt; young = tt; arrived = tt; framed = λ e is none. let bad = sym none ∙ own in absurd cc }
   caused_may (Compressed d o a k m v) range founded caused own =
-      record { by = tt; young = tt; arrived = tt; framed = λ e is none. let bad : None ≡ Some _ = sym none ∙ own in absurd cc }
+      record { by = tt; young = tt; arrived = tt; framed = λ e is none. let bad = sym none ∙ own in absurd cc }
   caused_may other range founded caused own =
       record { by = tt; young = tt; arrived = tt; framed = λ e is none. absurd cc }
 
@@ -73,8 +73,8 @@ module _ {C M : Type 0} {reading : C → ℕ → ℕ} {network : Network} (state
       → HasItsOctets first.body first.octets → MayBeGiven network first.body first.frame first.octets
   may_in {s} {notes} next own has =
       let hs = happenings s.network notes in
-      let may = subst (λ (n : Network). MayBut n first.body first.frame) (sym next.same)
-      (caused_may s hs (units_of state.time) first.body next.range next.founded next.due.cause
+      let may = rw (sym next.same) at (caused_may s hs (units_of state.time) first.body next.range next.founded
+      next.due.cause
       (ap Happening.frame own)) in
       record { by = may.by; young = may.young; arrived = may.arrived; with_octets = has; framed = may.framed }
 
@@ -90,8 +90,7 @@ module _ {C M : Type 0} {reading : C → ℕ → ℕ} {network : Network} (state
       let within = slice_get_within state.clocks.items k clock at in
       let device : DeviceId = record { 0 = k } in
       let same : length network.device ≡ length to_give.s.network.device = ap (λ (n : Network). length n.device) next.same in
-      let own = next.clocks device (omega (arith, within, all, same)) in
-      let is : clock ≡ own.0 = same_Some _ _ (sym at ∙ own.1) in
+      let own = next.clocks device (omega arith) in
+      let is = same_Some _ _ (sym at ∙ own.1) in
       let low = (next.steady device).low state.time next.limit in
-      subst (λ n. n ≤ 2 ^ 60 + 2 ^ 51)
-      (own.2 state.time (omega arith) ∙ ap (λ (c : C). reading c state.time) (sym is)) low
+      rw (own.2 state.time (omega arith) ∙ ap (λ (c : C). reading c state.time) (sym is)) at low

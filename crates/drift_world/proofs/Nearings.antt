@@ -17,15 +17,15 @@ abbrev work_of : ℕ → Timer → ℕ
 work_of now t = if nat_lt now t.time then 0 else 7 - t.rank
 
 work_later : (now : ℕ) (t : Timer) → now < t.time → work_of now t ≡ 0
-work_later now t lt = ap (λ (b : Bool). if b then 0 else 7 - t.rank) (lt-ltb now t.time lt)
+work_later now t lt = rw (lt-ltb now t.time lt)
 
 work_now : (now : ℕ) (t : Timer) → t.time ≤ now → work_of now t ≡ 7 - t.rank
-work_now now t le = ap (λ (b : Bool). if b then 0 else 7 - t.rank) (le-ltb now t.time le)
+work_now now t le = rw (le-ltb now t.time le)
 
 work_most : (now : ℕ) (t : Timer) → work_of now t ≤ 7
 work_most now t = elim (cases_lt now t.time) [
-  | inl lt ↦ let is = work_later now t lt in omega (arith, is)
-  | inr le ↦ let is = work_now now t le in omega (arith, is)
+  | inl lt ↦ let is = work_later now t lt in omega arith
+  | inr le ↦ let is = work_now now t le in omega arith
 ]
 
 due_cons : (now : ℕ) (t : Timer) (ts : List Timer) → due_work now (t ∷ ts) ≡ work_of now t + due_work now ts
@@ -39,11 +39,11 @@ due_most now (t ∷ ts) = grind (arith, length, due_cons, work_most, (due_most n
 -- as much, where the timers are the same
 due_same : (now : ℕ) (xs ys : List Timer) → ((j : ℕ) → slice_get ys j ≡ slice_get xs j) → due_work now ys ≡ due_work now xs
 due_same now [] [] same = refl
-due_same now [] (y ∷ ys) same = let e : Some y ≡ None = same 0 in absurd cc
-due_same now (x ∷ xs) [] same = let e : None ≡ Some x = same 0 in absurd cc
+due_same now [] (y ∷ ys) same = let e = same 0 in absurd cc
+due_same now (x ∷ xs) [] same = let e = same 0 in absurd cc
 due_same now (x ∷ xs) (y ∷ ys) same =
     let head : y ≡ x = let e : Some y ≡ Some x = same 0 in cc in
-    ap (λ t. work_of now t + due_work now ys) head ∙ ap (λ n. work_of now x + n) (due_same now xs ys (λ j. same (suc j)))
+    rw head (ap (λ n. work_of now x + n) (due_same now xs ys (λ j. same (suc j))))
 
 -- less, where one adds less
 due_falls : (now : ℕ) (xs ys : List Timer) (i : ℕ) {a b : Timer} → ((j : ℕ) → (j ≡ i → ⊥) → slice_get ys j ≡ slice_get xs j) → slice_get xs i ≡ Some a
@@ -51,18 +51,18 @@ due_falls : (now : ℕ) (xs ys : List Timer) (i : ℕ) {a b : Timer} → ((j : �
 due_falls now [] ys i same was is lt = absurd cc
 due_falls now (x ∷ xs) [] i same was is lt = absurd cc
 due_falls now (x ∷ xs) (y ∷ ys) zero {a} {b} same was is lt =
-    let before = ap (work_of now) (let e : x ≡ a = (let f : Some x ≡ Some a = was in cc) in e) in
-    let after = ap (work_of now) (let e : y ≡ b = (let f : Some y ≡ Some b = is in cc) in e) in
-    let rest = due_same now xs ys (λ j. same (suc j) (λ e. omega (arith, e))) in
+    let before = ap (work_of now) (let e : x ≡ a = (let f = was in cc) in e) in
+    let after = ap (work_of now) (let e : y ≡ b = (let f = is in cc) in e) in
+    let rest = due_same now xs ys (λ j. same (suc j) (λ e. omega arith)) in
     let old = due_cons now x xs in
     let new = due_cons now y ys in
-    omega (arith, before, after, rest, lt, old, new)
+    omega arith
 due_falls now (x ∷ xs) (y ∷ ys) (suc i) {a} {b} same was is lt =
-    let head = ap (work_of now) (let e : y ≡ x = (let f : Some y ≡ Some x = same 0 (λ e. omega (arith, e)) in cc) in e) in
-    let rest = due_falls now xs ys i (λ j ne. same (suc j) (λ e. ne (omega (arith, e)))) was is lt in
+    let head = ap (work_of now) (let e : y ≡ x = (let f = same 0 (λ e. omega arith) in cc) in e) in
+    let rest = due_falls now xs ys i (λ j ne. same (suc j) (λ e. ne (omega arith))) was is lt in
     let old = due_cons now x xs in
     let new = due_cons now y ys in
-    omega (arith, head, rest, old, new)
+    omega arith
 
 get_drop : {X : Type 0} (n : ℕ) (xs : List X) (j : ℕ) → slice_get (drop n xs) j ≡ slice_get xs (n + j)
 get_drop zero xs j = let e : j ≡ zero + j = omega arith in ap (slice_get xs) e
@@ -75,20 +75,21 @@ pub due_falls_behind : (now n : ℕ) (xs ys : List Timer) (i : ℕ) {a b : Timer
     → work_of now b < work_of now a → due_work now (drop n ys) < due_work now (drop n xs)
 due_falls_behind now n xs ys i {a} {b} same was is lt =
     due_falls now (drop n xs) (drop n ys) i
-    (λ j ne. get_drop n ys j ∙ same (n + j) (λ e. ne (omega (arith, e))) ∙ sym (get_drop n xs j)) (get_drop n xs i ∙ was) (get_drop n ys i ∙ is) lt
+    (λ j ne. get_drop n ys j ∙ same (n + j) (λ e. ne (omega arith)) ∙ sym (get_drop n xs j)) (get_drop n xs i ∙ was)
+    (get_drop n ys i ∙ is) lt
 
 -- ---- what is settled
 
 put_length : (o : Option (Entry Content)) (old new : List (Entry Content)) → IsPutOn o old new → length new ≤ length old + 1
-put_length None old new is = let e : length new ≡ length old = ap length is in omega (arith, e)
-put_length (Some e) old new is = let long : length new ≡ suc (length old) = length_permutation (e ∷ old) new is in omega (arith, long)
+put_length None old new is = let e : length new ≡ length old = ap length is in omega arith
+put_length (Some e) old new is = let long = length_permutation (e ∷ old) new is in omega arith
 
 -- each event that is settled puts at most one under way
 pub settled_length : (network : Network) (broken : List Bool) (ups : List WayState) (time : ℕ) (befell : List Befallen) (settled after : List Settled)
     (entries then_ : List (Entry Content)) → AreSettledBy network broken ups time befell settled after entries then_
     → length then_ ≤ length befell + length entries
 settled_length network broken ups time [] settled after entries then_ are =
-    let e : length then_ ≡ length entries = ap length are.1 in omega (arith, e)
+    let e : length then_ ≡ length entries = ap length are.1 in omega arith
 settled_length network broken ups time (b ∷ befell) settled after entries then_ (mid, between, one, put, rest) =
     grind (arith, put_length, (settled_length network broken ups time befell mid after between then_ rest))
 
@@ -104,22 +105,24 @@ module _ {C M : Type 0} (last_step : C → ℕ) (reading : C → ℕ → ℕ) (s
       let s = running.s in
       let time : new.time ≡ mid.time = ap State.time same in
       let limit = well.sound.sized.limit in
-      let held : slice_get mid.machines.items device.0 ≡ Some timed.machine =
-      sym (ap (λ (t : State C M). slice_get t.machines.items device.0) same) ∙ timed.of_machine in
-      let clocked : slice_get mid.clocks.items device.0 ≡ Some timed.clock =
-      sym (ap (λ (t : State C M). slice_get t.clocks.items device.0) same) ∙ timed.of_clock in
+      let held =
+      sym (rw same) ∙ timed.of_machine in
+      let clocked =
+      sym (rw same) ∙ timed.of_clock in
       let node = node_of running device of_it held in
-      let own = running.is.clocks device (subst (λ (k : Network). device.0 < length k.device) running.is.same of_it) in
+      let own = running.is.clocks device (rw running.is.same at of_it) in
       let clock_is = some_same _ _ _ own.1 clocked in (
         record { time = timed.act; rank = part_rank timed.part },
         timed.of_act,
         elim (cases_lt new.time timed.act) [
           | inl lt ↦ lt
           | inr le ↦
-              let from : new.time ≤ timed.act = in_all (λ (t : Timer). new.time ≤ t.time) new.timers (length network.device + device.0) _ well.timed.later timed.of_act in
-              let task = timed.acts.one (omega (arith, le, limit)) node.0 node.1 in
+              let from = in_all (λ t. new.time ≤ t.time) new.timers (length network.device + device.0) _
+              well.timed.later timed.of_act in
+              let task = timed.acts.one (omega arith) node.0 node.1 in
               let reads : reading timed.clock timed.act ≡ s.reading device mid.time =
-              ap (λ (n : ℕ). reading timed.clock n) (omega (arith, le, from, time)) ∙ ap (λ (k : C). reading k mid.time) (sym clock_is)
+              ap (λ n. reading timed.clock n) (omega (arith, le, from, time)) ∙ ap (λ (k : C). reading k mid.time)
+              (sym clock_is)
               ∙ sym (own.2 mid.time (omega arith)) in
               let less = idle s timed.machine (shows_of mid running.is) held node.0 task.0
               (subst (λ k. keeps stands timed.machine k device node.0) running.is.same node.1)
@@ -139,17 +142,17 @@ module _ {C M : Type 0} (last_step : C → ℕ) (reading : C → ℕ → ℕ) (s
   fewer_acts {part} {device} {old} {new} {timer} active acted same others is less =
       let time : new.time ≡ old.time = ap State.time same ∙ ap State.time acted in
       let was : Timer = record { time = old.time; rank = part_rank part } in
-      let before : work_of old.time was ≡ 7 - part_rank part = work_now old.time was (let le : old.time ≤ old.time = omega arith in le) in
+      let before = work_now old.time was (let le : old.time ≤ old.time = omega arith in le) in
       let falls = due_falls_behind old.time (length network.device) old.timers new.timers device.0
-      (λ slot ne. others slot ne ∙ ap (λ (l : List Timer). slice_get l slot) (ap State.timers acted)) active.due is
-      (omega (arith, less, before)) in
+      (λ slot ne. others slot ne ∙ ap (λ l. slice_get l slot) (ap State.timers acted)) active.due is
+      (omega arith) in
       inr (
-        ap (λ t. burden network t) same ∙ ap (λ t. burden network t) acted,
-        subst (λ n. due_work n (drop (length network.device) new.timers) < acting network old) (sym time) falls,
+        rw same (ap (λ t. burden network t) acted),
+        rw time falls,
       )
 
   part_work : (part : Part) → 0 < 7 - part_rank part
-  part_work part = let most = part_most part in omega (arith, most)
+  part_work part = let most = part_most part in omega arith
 
   -- what a device does leaves as much to work off, and the device has nothing more to do
   pub act_less : {part : Part} {device : DeviceId} {old mid new : State C M} → IsActive reading stands network old part device
@@ -161,9 +164,9 @@ module _ {C M : Type 0} (last_step : C → ℕ) (reading : C → ℕ → ℕ) (s
       let time : new.time ≡ old.time = ap State.time same ∙ ap State.time acted in
       let later = act_later device active.of running same well_new idle in
       let lt = later.2 in
-      let none = work_later old.time later.0 (omega (arith, lt, time)) in
+      let none = work_later old.time later.0 (omega arith) in
       let some = part_work part in
-      fewer_acts active acted same others later.1 (omega (arith, none, some))
+      fewer_acts active acted same others later.1 (omega arith)
 
   -- or only what is of a later part, which it has put off
   pub defer_less : (part other : Part) {device : DeviceId} {old mid new : State C M} → IsActive reading stands network old part device
@@ -175,9 +178,9 @@ module _ {C M : Type 0} (last_step : C → ℕ) (reading : C → ℕ → ℕ) (s
   defer_less part other {device} {old} {mid} {new} active later acted same others put =
       let time : new.time ≡ old.time = ap State.time same ∙ ap State.time acted in
       let put_off : Timer = record { time = new.time; rank = part_rank other } in
-      let is : work_of old.time put_off ≡ 7 - part_rank other = work_now old.time put_off (let le : new.time ≤ old.time = omega (arith, time) in le) in
+      let is = work_now old.time put_off (let le : new.time ≤ old.time = omega arith in le) in
       let most = part_most other in
-      fewer_acts active acted same others put (omega (arith, is, later, most))
+      fewer_acts active acted same others put (omega arith)
 
   -- ---- the distance
 
@@ -187,13 +190,13 @@ module _ {C M : Type 0} (last_step : C → ℕ) (reading : C → ℕ → ℕ) (s
       let most = due_most state.time (drop (length network.device) state.timers) in
       let long = length-drop (length network.device) state.timers in
       let sized = well.timed.sized in
-      omega (arith, most, long, sized)
+      omega arith
 
   -- with less to come the distance is less
   fewer : (a b n x y : ℕ) → a < b → x ≤ n → a * (n + 1) + x < b * (n + 1) + y
   fewer a b n x y lt le =
-      let times = mul-le-mul_right (n + 1) (let l : a + 1 ≤ b = omega (arith, lt) in l) in
-      omega (arith, times, le)
+      let times = mul-le-mul_right (n + 1) (let l : a + 1 ≤ b = omega arith in l) in
+      omega arith
 
   -- a step that leaves less to work off comes nearer to any time
   pub less_nears : (until : ℕ) (old new : State C M) → IsWell last_step reading stands network new → new.time ≡ old.time → IsLess network old new
@@ -205,17 +208,17 @@ module _ {C M : Type 0} (last_step : C → ℕ) (reading : C → ℕ → ℕ) (s
       sum_less : (until : ℕ) (old new : State C M) → new.time ≡ old.time → burden network new < burden network old
           → ((until - new.time) + burden network new) < ((until - old.time) + burden network old)
       sum_less until old new time lt = plus (until - new.time) (until - old.time) (burden network new) (burden network old)
-          (ap (λ t. until - t) time) lt
+          (rw time) lt
         where
           plus : (a b c d : ℕ) → a ≡ b → c < d → a + c < b + d
-          plus a b c d e l = omega (arith, e, l)
+          plus a b c d e l = omega arith
   less_nears until old new well time (inr same) =
       evenly (until - new.time) (until - old.time) (burden network new) (burden network old) (7 * length network.device) (acting network new)
-      (acting network old) (ap (λ t. until - t) time) same.0 same.1
+      (acting network old) (rw time) same.0 same.1
     where
       evenly : (a b c d n x y : ℕ) → a ≡ b → c ≡ d → x < y → (a + c) * (n + 1) + x < (b + d) * (n + 1) + y
       evenly a b c d n x y e f l =
-          subst (λ k. (a + c) * (n + 1) + x < k * (n + 1) + y) (let g : a + c ≡ b + d = omega (arith, e, f) in g) (omega (arith, l))
+          rw (sym (let g : a + c ≡ b + d = omega (arith, e, f) in g)) (omega (arith, l))
 
   -- so does one where time passes
   pub passing_nears : (until time : ℕ) (early : Bool) (old : State C M) {new : State C M} → IsWell last_step reading stands network new
@@ -223,11 +226,11 @@ module _ {C M : Type 0} (last_step : C → ℕ) (reading : C → ℕ → ℕ) (s
   passing_nears until time early old {new} well same later within =
       fewer ((until - new.time) + burden network new) ((until - old.time) + burden network old) (7 * length network.device) (acting network new)
       (acting network old)
-      (plus new.time (burden network new) (burden network old) (ap State.time same) (ap (λ t. burden network t) same))
+      (plus new.time (burden network new) (burden network old) (ap State.time same) (rw same))
       (acting_most well)
     where
       plus : (t c d : ℕ) → t ≡ time → c ≡ d → (until - t) + c < (until - old.time) + d
-      plus t c d e f = omega (arith, e, f, later, within)
+      plus t c d e f = omega arith
 
 -- ---- each kind of source
 

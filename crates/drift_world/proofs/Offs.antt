@@ -1,17 +1,17 @@
 -- A device that began off, and that no event turned on, is off.
 use Rattle.{compression.specs.Clusters.point_at, net_plan.proofs.SameIds.one_device, run_law.proofs.law.FirstPlaces.in_at, std.proofs.Common.{arith, fold}}
-use Rattle.drift_world.proofs.Words.{◌&&◌, ◌++◌, ◌==◌, ◌∙◌, ◌∷◌, ◌≡◌, Bool, DeviceId, Happening, Integrating, IsCaused, IsDue, IsIn, Joining, LinkId, List}
+use Rattle.drift_world.proofs.Words.{◌&&◌, ◌++◌, ◌==◌, ◌∙◌, ◌∷◌, ◌≡◌, Bool, DeviceId, Happening, IsCaused, IsDue, IsIn, LinkId, List}
 use Rattle.drift_world.proofs.Words.{None, NoteBody, Off, Option, Scenario, Some, Units, [], amount, and_parts, any_in, ap, append_assoc, false}
-use Rattle.drift_world.proofs.Words.{false_from_ne_true, if◌then◌else◌, in_filter, in_parts, inl, inr, is_turned_on_at, nat_lt, numbered_in, refl, subst, sym}
+use Rattle.drift_world.proofs.Words.{false_from_ne_true, in_filter, in_parts, inl, inr, is_turned_on_at, nat_lt, numbered_in, refl, subst, sym}
 use Rattle.{drift_world.proofs.Words.{time_of, true, turns_on, ℕ, ℤ}, tte_units.specs.declared.frames.members.Members.Members, world_law.specs.device.Own.moves}
 use Rattle.{net_plan.specs.declared.event.Event.Event, run_law.specs.runs.DueRecords.IsEventRecord, sync_state.specs.declared.state.State.State}
 use Rattle.{net_plan.specs.declared.event.What.TheVariants.On, sync_state.specs.{Standing.{point_in, state_at_start}, declared.plan.SyncPlan.SyncPlan}}
 use Rattle.run_law.specs.{declared.judgement.{Reason.Reason, Why.Why}, device.StateChanges.ChangesState}
-use Rattle.{precision_law.proofs.traffic_lemmas.spans.Forward.ripe_integrates, sync_state.specs.declared.answers.Verdict.TheVariants.Corrected}
-use Rattle.run_law.{proofs.{control.Verdicts.role_not, scenario.Devices.on_by}, specs.{control.{Emissions.Emits, Hearing.heard_as}, records.Happenings.earlier}}
+use Rattle.{precision_law.proofs.traffic_lemmas.spans.Forward.ripe_integrates}
+use Rattle.run_law.{proofs.{control.Verdicts.role_not, scenario.Devices.on_by}, specs.{control.{Hearing.heard_as}, records.Happenings.earlier}}
 use Rattle.run_law.specs.{control.Collections.{master_of, observation_window, point_fault, points_of}, declared.judgement.Judgement.TheVariants.Integrates}
-use Rattle.run_law.specs.control.{Corrections.{ComesToCorrection, next_cycle}, Permanence.{BecomesPermanent, IsCollectedOrDropped, before_permanence, ripe_as}}
-use Rattle.run_law.specs.device.States.{adjustment_at_hearing, has_joined_at, state_after, state_at_hearing, state_before, state_with}
+use Rattle.run_law.specs.control.{Corrections.{next_cycle}, Permanence.{BecomesPermanent, IsCollectedOrDropped, before_permanence, ripe_as}}
+use Rattle.run_law.specs.device.States.{adjustment_at_hearing, has_joined_at, state_at_hearing, state_before, state_with}
 use Rattle.{run_law.specs.scenario.{Devices.{is_cm, plan_of, start_of}, Faults.BeginsOn}, world_law.proofs.devices.OwnRecords.{joins_no_other, keeps_state}}
 use Rattle.std.specs.Prelude.{MatchBool}
 use Rattle.run_law.specs.declared.judgement.Why.TheVariants as whys
@@ -37,8 +37,8 @@ unmoved : (device : DeviceId) (first : State) (hs : List Happening) → ((h : Ha
     → fold (λ state h. state_with device state h.note.body) first hs ≡ first
 unmoved device first [] still = refl
 unmoved device first (h ∷ hs) still =
-    ap (λ (z : State). fold (λ state g. state_with device state g.note.body) z hs) (keeps_state device first h.note.body (still h (inl refl)))
-    ∙ unmoved device first hs (λ g i. still g (inr i))
+    rw (keeps_state device first h.note.body (still h (inl refl)))
+    (unmoved device first hs (λ g i. still g (inr i)))
 
 module _ (s : Scenario) (device : DeviceId) (begins : state_at_start (start_of s.network device) ≡ Off)
     (never : (e : Event) → IsIn e s.events → e.what ≡ On device → ⊥) where
@@ -52,12 +52,13 @@ module _ (s : Scenario) (device : DeviceId) (begins : state_at_start (start_of s
   -- while no record has moved it, it is off
   off_then : (hs : List Happening) (t : ℕ) → ((h : Happening) → IsIn h hs → moves device h.note.body ≡ false) → state_before s hs device t ≡ Off
   off_then hs t still =
-      ap (λ (b : Bool). if b then Integrating else state_after s (earlier t hs) device) (not_on t)
-      ∙ unmoved device (state_at_start (start_of s.network device)) (earlier t hs) (λ h i. still h (in_filter (λ g. nat_lt (time_of g) t) hs h i))
-      ∙ begins
+      rw (not_on t)
+      (unmoved device (state_at_start (start_of s.network device)) (earlier t hs)
+      (λ h i. still h (in_filter (λ g. nat_lt (time_of g) t) hs h i))
+      ∙ begins)
 
   off_at_hearing : (hs : List Happening) (t : ℕ) → ((h : Happening) → IsIn h hs → moves device h.note.body ≡ false) → state_at_hearing s hs device t ≡ Off
-  off_at_hearing hs t still = ap (λ (b : Bool). if b then Joining else state_before s hs device t) (none_joined device t hs still) ∙ off_then hs t still
+  off_at_hearing hs t still = rw (none_joined device t hs still) (off_then hs t still)
 
   no_point : (hs : List Happening) (t : ℕ) {cycle : ℕ} → ((h : Happening) → IsIn h hs → moves device h.note.body ≡ false)
       → point_in (state_before s hs device t) (next_cycle s hs device t) ≡ Some cycle → ⊥
@@ -99,8 +100,8 @@ module _ (s : Scenario) (device : DeviceId) (begins : state_at_start (start_of s
   no_change hs t state cause whys.Frame still untold c =
       let h = c.1.0 in
       let no = joins_no_other device h.note.body (still h (numbered_in hs cause h c.1.1.there)) in
-      let bad : false ≡ true = sym no ∙ c.1.2 in cc
-  no_change hs t state cause whys.Correction still untold c = let bad : Off ≡ Joining = sym (off_then hs t still) ∙ c.1 in cc
+      let bad = sym no ∙ c.1.2 in cc
+  no_change hs t state cause whys.Correction still untold c = let bad = sym (off_then hs t still) ∙ c.1 in cc
   no_change hs t state cause whys.SyncClique still untold c = no_point hs t still c.2.1.next
   no_change hs t state cause whys.AsyncClique still untold c = no_point hs t still c.2.1.next
 
@@ -108,17 +109,15 @@ module _ (s : Scenario) (device : DeviceId) (begins : state_at_start (start_of s
       → ((h : Happening) → IsIn h hs → (line : ℕ) → h.note.body ≡ notes.Event line (On device) → ⊥) → IsCaused s hs time body → moves device body ≡ true → ⊥
   stays hs time (notes.State other state cause why) still untold c own =
       no_change hs (amount time) state cause why still untold
-      (subst (λ d. ChangesState s hs d (amount time) state cause why) (one_device device other own) c)
+      (rw (one_device device other own) at c)
   stays hs time (notes.Corrected other cycle by adjustment) still untold c own =
       no_point hs (amount time) still
-      (subst (λ d. ComesToCorrection s hs d (amount time) cycle
-      (Corrected by)) (one_device device other own) c.corrected).next
+      (rw (one_device device other own) at c.corrected).next
   stays hs time (notes.Permanent other link cause point Integrates) still untold c own =
       no_frame still
-      (subst (λ d. BecomesPermanent s hs d (amount time) link cause point ripe.Integrates) (one_device device other own) c)
+      (rw (one_device device other own) at c)
   stays hs time (notes.Compressed other opened at cycle members Integrates) still untold c own =
-      let e = subst (λ (d : DeviceId). Emits s hs d (amount time) (record { opened = opened; at = at; cycle = cycle; members = members }) Integrates)
-      (one_device device other own) c in
+      let e = rw (one_device device other own) at c in
       off_hears (plan_of s.network device) (observation_window s.network)
       (adjustment_at_hearing s hs device (amount time)).0 at.0 cycle members
       (state_at_hearing s hs device (amount time)) (off_at_hearing hs (amount time) still) e.heard
@@ -138,19 +137,20 @@ module _ (s : Scenario) (device : DeviceId) (begins : state_at_start (start_of s
   from ps [] founded still untold h i = absurd i
   from ps (q ∷ qs) founded still untold h i =
       let due = founded ps qs q refl in
-      let here : moves device q.note.body ≡ false = false_from_ne_true (moves device q.note.body) (stays ps q.note.time q.note.body still untold due.cause) in
+      let here = false_from_ne_true (moves device q.note.body)
+      (stays ps q.note.time q.note.body still untold due.cause) in
       elim i [
-        | inl same ↦ ap (λ (x : Happening). moves device x.note.body) same ∙ here
+        | inl same ↦ rw same here
         | inr more ↦
             from (ps ++ q ∷ []) qs (λ front rest z e. founded front rest z (sym (append_assoc ps (q ∷ []) qs) ∙ e))
             (λ g j. elim (in_parts g ps (q ∷ []) j) [
               | inl l ↦ still g l
-              | inr (inl same) ↦ ap (λ (x : Happening). moves device x.note.body) same ∙ here
+              | inr (inl same) ↦ rw same here
               | inr (inr none) ↦ absurd none
             ])
             (λ g j line is. elim (in_parts g ps (q ∷ []) j) [
               | inl l ↦ untold g l line is
-              | inr (inl same) ↦ untold_by q due line (ap (λ (x : Happening). x.note.body) (sym same) ∙ is)
+              | inr (inl same) ↦ untold_by q due line (rw (sym same) is)
               | inr (inr none) ↦ absurd none
             ])
             h more

@@ -25,7 +25,7 @@ module _ {C M : Type 0} {fresh : ℕ → C} {after_step : C → ℕ → ℤ → 
   begun_all : (e : Event) → IsIn e (events ++ event ∷ []) → pos 0 ≤ℤ e.time.0
   begun_all e i = elim (in_parts e events (event ∷ []) i) [
     | inl old ↦ begun_before e old
-    | inr (inl same) ↦ subst (λ (d : Event). pos 0 ≤ℤ d.time.0) (sym same) (omega (arith, ints, time))
+    | inr (inl same) ↦ subst (λ d. pos 0 ≤ℤ d.time.0) (sym same) (omega (arith, ints, time))
     | inr (inr none) ↦ absurd none
   ]
 
@@ -35,7 +35,8 @@ module _ {C M : Type 0} {fresh : ℕ → C} {after_step : C → ℕ → ℤ → 
   past_all : (e : Event) → IsIn e (events ++ event ∷ []) → amount e.time ≤ state.time
   past_all e i = elim (in_parts e events (event ∷ []) i) [
     | inl old ↦ (let at = in_get events e old in under.is.befallen.past at.0 e at.1)
-    | inr (inl same) ↦ (let own : amount e.time ≡ amount event.time = ap (λ (d : Event). amount d.time) same in omega (arith, own, now_is))
+    | inr (inl same) ↦ (let own : amount e.time ≡ amount event.time = ap (λ d. amount d.time) same in
+        omega (arith, own, now_is))
     | inr (inr none) ↦ absurd none
   ]
 
@@ -139,6 +140,6 @@ module _ {C M : Type 0} {fresh : ℕ → C} {after_step : C → ℕ → ℤ → 
   befalls {n} {events} {notes} under within =
       let here = subst (λ w. StandsUnder fresh after_step reading stands n w events notes) (sym view) under in
       let time : event.time.0 ≡ pos state.time = open_to.time ∙ ap (λ (w : World C (Kept M)). pos w.now) (sym view) in
-      let own = subst (λ (w : World C (Kept M)). IsOfNetwork w.network event.what) (sym view) of_network in
+      let own = subst (λ w. IsOfNetwork w.network event.what) (sym view) of_network in
       let answer : Result Note OutOfMemory = Ok note in
       goes_on_there law state new event answer many time hold own clocks step here within

@@ -1,6 +1,6 @@
 -- What a record that is given needs, and what it changes.
 use Rattle.drift_world.proofs.Words.{◌<◌, ◌^◌, ◌∙◌, ◌≡◌, Accepted, Arrived, AtPort, Bool, ChangesOnly, DueAt, IfSome, Network, NoteBody, Waits}
-use Rattle.drift_world.proofs.Words.{arith, changed_device, departure_body, false, rank, refl, subst, sym, ℕ}
+use Rattle.drift_world.proofs.Words.{arith, changed_device, departure_body, false, rank, refl, ℕ}
 use Rattle.drift_world.specs.{Ripening.IsJudged, declared.state.State.State}
 use Rattle.world_state.specs.{Frames.{Waiting, room_of, waiter_of}, Hearing.arrived, Leaving.{departed, departure_by}}
 use Rattle.world_state.specs.{Ripening.ripe_record, Shelves.{HasPlace, Shelved, spot_of}, declared.contents.Signal.{Signal as SignalSent}}
@@ -17,7 +17,7 @@ pub arrived_device : (place : DueAt) (is : Arrival) (signal : SignalSent) → ra
 arrived_device place (arrivals.Waits frame point) signal e = refl
 arrived_device place (arrivals.Passes frame way) signal e = refl
 arrived_device place (arrivals.PassesAndWaits frame way point) signal e = refl
-arrived_device place other signal e = absurd (omega (arith, e))
+arrived_device place other signal e = absurd (omega arith)
 
 -- what becomes of it else stands where no source does
 pub arrived_late : (place : DueAt) (is : Arrival) (signal : SignalSent) → (rank (arrived place is signal).body ≡ 2 → ⊥)
@@ -71,7 +71,7 @@ no_change other not = refl
 -- by this one a frame may wait at its device
 pub waits_at : (body : NoteBody) (waiting : Waiting) {device : ℕ} → (rank body ≡ 2 → changed_device body ≡ device)
     → (rank body ≡ 2 → 0 < room_of waiting device) → IfSome (waiter_of body) (λ d. 0 < room_of waiting d.0)
-waits_at (Arrived device link cause clock) waiting at room = subst (λ d. 0 < room_of waiting d) (sym (at refl)) (room refl)
+waits_at (Arrived device link cause clock) waiting at room = rw (at refl) (room refl)
 waits_at other waiting at room = tt
 
 -- what changes one device changes no other by another step of it

@@ -1,7 +1,7 @@
 -- What a device does first of all that is due, and of which part it is.
 use Rattle.{device_rules.{proofs.FirstKinds.first_kind_of, specs.FirstKinds.{IsFirstKind, kind_of, order_of_kind}}, run_law.specs.declared.steps.Act.Act}
 use Rattle.device_rules.specs.declared.first_kind.TaskKind.{TaskKind, TheVariants.{Correction, Dispatch, Emission, Sending}}
-use Rattle.drift_world.proofs.Words.{if◌then◌else◌, ◌==◌, ◌∙◌, ◌∷◌, ◌≡◌, ◌≤◌, DeviceId, IsBefore, List, Moment, Network, Node, ap, arith, inl, inr, refl, subst, sym, ℕ, ℤ}
+use Rattle.drift_world.proofs.Words.{if◌then◌else◌, ◌==◌, ◌∙◌, ◌∷◌, ◌≡◌, ◌≤◌, DeviceId, IsBefore, List, Moment, Network, Node, ap, arith, inl, inr, refl, sym, ℕ, ℤ}
 use Rattle.drift_world.specs.{Parts.{IsFirstPart, IsNoSooner, part_of, part_place, part_rank}, declared.part.Part.{Part, TheVariants.{Emissions, Late, Sendings}}}
 use Rattle.run_law.specs.machines.{Answers.IsActOf, Calls.MayCall, Nodes.{acting, correcting, dispatching, sending}, Tasks.{Task, doing, emitting, order_of}}
 use Rattle.{net_plan.specs.Ranges.IsInRange, schedule_tables.specs.Rules.KeepsRules}
@@ -27,40 +27,37 @@ pub one_rank : (a b : Part) → part_rank a ≡ part_rank b → a ≡ b
 one_rank Emissions Emissions e = refl
 one_rank Sendings Sendings e = refl
 one_rank Late Late e = refl
-one_rank Emissions Sendings e = absurd (let no : ◌≡◌ {A = ℕ} 4 5 = e in omega (arith, no))
-one_rank Emissions Late e = absurd (let no : ◌≡◌ {A = ℕ} 4 6 = e in omega (arith, no))
-one_rank Sendings Emissions e = absurd (let no : ◌≡◌ {A = ℕ} 5 4 = e in omega (arith, no))
-one_rank Sendings Late e = absurd (let no : ◌≡◌ {A = ℕ} 5 6 = e in omega (arith, no))
-one_rank Late Emissions e = absurd (let no : ◌≡◌ {A = ℕ} 6 4 = e in omega (arith, no))
-one_rank Late Sendings e = absurd (let no : ◌≡◌ {A = ℕ} 6 5 = e in omega (arith, no))
+one_rank Emissions Sendings e = absurd (let no = e in omega arith)
+one_rank Emissions Late e = absurd (let no = e in omega arith)
+one_rank Sendings Emissions e = absurd (let no = e in omega arith)
+one_rank Sendings Late e = absurd (let no = e in omega arith)
+one_rank Late Emissions e = absurd (let no = e in omega arith)
+one_rank Late Sendings e = absurd (let no = e in omega arith)
 
 -- a later kind is of no earlier part
 kind_grows : (a b : TaskKind) → order_of_kind a ≤ order_of_kind b → part_rank (part_of a) ≤ part_rank (part_of b)
 kind_grows Emission b le = part_least (part_of b)
-kind_grows Sending Emission le = absurd (let no : 1 ≤ 0 = le in omega (arith, no))
+kind_grows Sending Emission le = absurd (let no = le in omega arith)
 kind_grows Sending Sending le = let l : 5 ≤ 5 = omega arith in l
 kind_grows Sending other le = let l : 5 ≤ 6 = omega arith in l
-kind_grows Correction Emission le = absurd (let no : 2 ≤ 0 = le in omega (arith, no))
-kind_grows Correction Sending le = absurd (let no : 2 ≤ 1 = le in omega (arith, no))
+kind_grows Correction Emission le = absurd (let no = le in omega arith)
+kind_grows Correction Sending le = absurd (let no = le in omega arith)
 kind_grows Correction other le = part_most Late
-kind_grows Dispatch Emission le = absurd (let no : 3 ≤ 0 = le in omega (arith, no))
-kind_grows Dispatch Sending le = absurd (let no : 3 ≤ 1 = le in omega (arith, no))
+kind_grows Dispatch Emission le = absurd (let no = le in omega arith)
+kind_grows Dispatch Sending le = absurd (let no = le in omega arith)
 kind_grows Dispatch other le = part_most Late
 
 module _ {network : Network} {device : DeviceId} {node : Node} {reading : ℤ} {part : Part} where
   -- nothing is of an earlier part than the first of all
   pub none_sooner : IsFirstPart network device node reading part → IsNoSooner network device node reading part
   none_sooner first = λ task pending due.
-      subst (λ p. part_rank p ≤ part_rank (part_of (kind_of task))) first.of_part
-      (kind_grows first.kind (kind_of task) (first.is.first task pending due))
+      rw first.of_part at (kind_grows first.kind (kind_of task) (first.is.first task pending due))
 
   -- so the first is of no earlier part than all are
   pub first_no_sooner : (low : Part) → IsFirstPart network device node reading part
       → IsNoSooner network device node reading low → part_rank low ≤ part_rank part
   first_no_sooner low first none =
-      subst (λ p. part_rank low ≤ part_rank p) first.of_part
-      (subst (λ k. part_rank low ≤ part_rank (part_of k)) first.is.of_kind
-      (none first.is.task first.is.pending first.is.due))
+      rw first.of_part at (rw first.is.of_kind at (none first.is.task first.is.pending first.is.due))
 
 -- a task stands where its part does
 pub placed_by : (network : Network) (t : ℕ) (device : DeviceId) (task : Task)
@@ -77,9 +74,9 @@ same_rank : {network : Network} {device : DeviceId} {node : Node} {reading : ℤ
     → IsFirstKind network device node reading a → IsFirstKind network device node reading b
     → order_of_kind a ≡ order_of_kind b
 same_rank {a} {b} one other =
-    let low = subst (λ k. order_of_kind a ≤ order_of_kind k) other.of_kind (one.first other.task other.pending other.due) in
-    let high = subst (λ k. order_of_kind b ≤ order_of_kind k) one.of_kind (other.first one.task one.pending one.due) in
-    omega (arith, low, high)
+    let low = rw other.of_kind at (one.first other.task other.pending other.due) in
+    let high = rw one.of_kind at (other.first one.task one.pending one.due) in
+    omega arith
 
 abbrev part_by : ℕ → Part
 part_by n = if n == 0 then Emissions else (if n == 1 then Sendings else Late)
@@ -143,8 +140,8 @@ act_head network (acts.Send frame) = (_, refl)
 act_head network act = (_, refl)
 
 heads : (m n : ℕ) (xs ys : List ℕ) → IsBefore (m ∷ xs) (n ∷ ys) → m ≤ n
-heads m n xs ys (inl lt) = omega (arith, lt)
-heads m n xs ys (inr (e, b)) = omega (arith, e)
+heads m n xs ys (inl lt) = omega arith
+heads m n xs ys (inr (e, b)) = omega arith
 
 -- what a device that has acted has still to do is of no earlier part than what it did
 pub left_no_sooner : {network : Network} {device : DeviceId} {node : Node} {moment : Moment} (act : Act) {new : Node}
@@ -156,9 +153,7 @@ left_no_sooner {network} {device} {node} {moment} act {new} range rules zero may
     let x = act_head network act in
     let y = order_head network f.task in
     let le = heads (order_of_kind (kind_by act)) (order_of_kind (kind_of f.task)) x.0 y.0
-    (subst (λ q. IsBefore (order_of_kind (kind_by act) ∷ x.0) q) y.1
-    (subst (λ q. IsBefore q (order_of network f.task)) x.1
-    (acts_grow network device node moment act new f.task range rules zero may is f.pending f.due))) in
-    subst (λ p. rank_of_act act ≤ part_rank p) first.of_part
-    (subst (λ k. rank_of_act act ≤ part_rank (part_of k)) f.of_kind
-    (subst (λ n. n ≤ part_rank (part_of (kind_of f.task))) (sym (rank_by act)) (kind_grows (kind_by act) (kind_of f.task) le)))
+    (rw y.1 at (rw x.1 at (acts_grow network device node moment act new f.task range rules zero may is f.pending
+    f.due))) in
+    rw (sym first.of_part) (rw (sym f.of_kind) (rw
+    (sym (rank_by act)) at (kind_grows (kind_by act) (kind_of f.task) le)))

@@ -9,7 +9,7 @@ use Rattle.{std.specs.Option.option_and_then, world_law.specs.world.{Moves.IsPut
 
 pub map_parts : {X Y : Type 0} (f : X → Y) (xs ys : List X) → map f (xs ++ ys) ≡ map f xs ++ map f ys
 map_parts f [] ys = refl
-map_parts f (x ∷ xs) ys = ap (λ l. f x ∷ l) (map_parts f xs ys)
+map_parts f (x ∷ xs) ys = rw (map_parts f xs ys)
 
 module _ (network : Network) (now : ℕ) where
   abbrev shown : Settled → Happening
@@ -20,7 +20,7 @@ module _ (network : Network) (now : ℕ) where
   timed a b before = inr (refl, before)
 
   untimed : (a b : Settled) → IsBefore (place_of (shown a)) (place_of (shown b)) → IsBefore (own_place a) (own_place b)
-  untimed a b (inl lt) = absurd (omega (arith, lt))
+  untimed a b (inl lt) = absurd (omega arith)
   untimed a b (inr h) = h.1
 
   -- what is not behind one that is before the record is before it
@@ -37,27 +37,27 @@ module _ (network : Network) (now : ℕ) where
       → AllBefore place_of (map shown (take at old)) (place_of (shown z))
   all_before zero old z order le behind h there = absurd there
   all_before (suc at) [] z order le behind h there = absurd there
-  all_before (suc zero) (x ∷ old) z order le behind h (inl e) = subst (λ h. IsBefore (place_of h) (place_of (shown z))) (sym e)
-      (timed x z (behind 0 z refl))
-  all_before (suc (suc at)) (x ∷ []) z order le behind h there = absurd (omega (arith, le))
+  all_before (suc zero) (x ∷ old) z order le behind h (inl e) = rw e (timed x z (behind 0 z refl))
+  all_before (suc (suc at)) (x ∷ []) z order le behind h there = absurd (omega arith)
   all_before (suc (suc at)) (x ∷ (y ∷ old)) z order le behind h (inl e) =
-      subst (λ h. IsBefore (place_of h) (place_of (shown z))) (sym e)
-      (sooner_still x y z (order.0 (shown y) (inl refl))
-      (all_before (suc at) (y ∷ old) z order.1 (omega (arith, le)) (λ k d e. behind (suc k) d (omega (arith, e))) (shown y) (inl refl)))
+      rw e (sooner_still x y z (order.0 (shown y) (inl refl))
+      (all_before (suc at) (y ∷ old) z order.1 (omega arith) (λ k d e. behind (suc k) d (omega arith)) (shown y)
+      (inl refl)))
   all_before (suc zero) (x ∷ old) z order le behind h (inr rest) = absurd rest
   all_before (suc (suc at)) (x ∷ (y ∷ old)) z order le behind h (inr rest) =
-      all_before (suc at) (y ∷ old) z order.1 (omega (arith, le)) (λ k d e. behind (suc k) d (omega (arith, e))) h rest
+      all_before (suc at) (y ∷ old) z order.1 (omega arith) (λ k d e. behind (suc k) d (omega arith)) h rest
 
   none_before : (at : ℕ) (old : List Settled) (z : Settled)
       → ((k : ℕ) (d : Settled) → at ≤ k → k < length old → IsBefore (own_place (get_or old k d)) (own_place z) → ⊥)
       → NoneBefore place_of (map shown (drop at old)) (place_of (shown z))
   none_before zero [] z none h there before = absurd there
   none_before zero (x ∷ old) z none h (inl e) before = none 0 z (omega arith) (omega arith)
-      (untimed x z (subst (λ h. IsBefore (place_of h) (place_of (shown z))) e before))
-  none_before zero (x ∷ old) z none h (inr rest) before = none_before zero old z (λ k d le lt. none (suc k) d (omega arith) (omega (arith, lt))) h rest before
+      (untimed x z (rw e at before))
+  none_before zero (x ∷ old) z none h (inr rest) before = none_before zero old z
+      (λ k d le lt. none (suc k) d (omega arith) (omega arith)) h rest before
   none_before (suc at) [] z none h there before = absurd there
   none_before (suc at) (x ∷ old) z none h there before =
-      none_before at old z (λ k d le lt. none (suc k) d (omega (arith, le)) (omega (arith, lt))) h there before
+      none_before at old z (λ k d le lt. none (suc k) d (omega arith) (omega arith)) h there before
 
   pub is_put_in : {z : Settled} {old new : List Settled} {at : ℕ} → IsPutAt z old new at → InOrder (map shown old)
       → IsPutIn (shown z) (map shown old) (map shown new)
@@ -79,8 +79,7 @@ module _ (other network : Network) (now : ℕ) (hs : List Happening) (body : Not
       → ArePutIn other hs now (body ∷ []) (map (settled_at network now) old) (map (settled_at network now) new)
   one_put_in {at} put order is = (
     map (settled_at network now) new,
-    subst (λ h. IsPutIn h (map (settled_at network now) old) (map (settled_at network now) new)) is
-        (is_put_in network now put order),
+    rw is at (is_put_in network now put order),
     refl,
   )
 
@@ -114,7 +113,7 @@ order_with w (x ∷ front) back order before none = (
     | inl f ↦ order.0 h (in_left h front back f) b
     | inr (inl same) ↦
         never_self (place_of x) (chain (place_of x) (place_of w) (place_of x) (before x (inl refl))
-        (subst (λ y. IsBefore (place_of y) (place_of x)) same b))
+        (rw same at b))
     | inr (inr r) ↦ order.0 h (in_right h front back r) b
   ],
   order_with w front back order.1 (λ h i. before h (inr i)) none,

@@ -18,7 +18,7 @@ module _ {C M : Type 0} {reading : C → ℕ → ℕ} {stands : Meaning M} {own 
         given = b.given ∙ ap length (append-nil run.notes) ∙ sym a.given;
         ended = after.ended;
         later = after.later;
-        before = omega (arith, ints, is, lt);
+        before = omega (arith, ints);
       }
 
   pub comes_up_to : (E : Type 0) (result : Result Bool E) (note : Note) (until : Units) (n : ℕ) → until.0 ≡ pos n → IsAfter old new
@@ -27,11 +27,11 @@ module _ {C M : Type 0} {reading : C → ℕ → ℕ} {stands : Meaning M} {own 
       → Stands reading (keeps stands) s (world_of own new) (notes ++ given_by (next_of result note)))
       → NextSays old new n note result → ComesUpTo (world_of own old) (world_of own new) until (next_of result note)
   comes_up_to E (Ok false) note until n is after run still says = λ unended order limit.
-      (let at = says unended (omega (arith, ints, is, limit)) in
+      (let at = says unended (omega (arith, ints)) in
       let time = at.time in
-      record { time = omega (arith, ints, is, time); early = λ either. at.early })
+      record { time = omega (arith, ints); early = λ either. at.early })
   comes_up_to E (Ok true) note until n is after run still says =
       let time = ap (λ (u : Units). u.0) says.0 in
       let early = says.1 in
-      (says.0, omega (arith, ints, is, time, early))
+      (says.0, omega (arith, ints))
   comes_up_to E (Err e) note until n is after run still says = try_again until n is after run still says

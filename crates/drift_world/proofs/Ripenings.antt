@@ -5,15 +5,15 @@ use Rattle.world_state.specs.{Acting.body_of, Ripening.{AreSettledSo, joined_rec
 use Rattle.world_state.proofs.{Swaps.{stayed, stays, was_there}, queue_lemmas.Bags.each_apart}
 use Rattle.drift_world.proofs.Words.{◌++◌, IsOwn, TurnsIn, World, true}
 use Rattle.drift_world.proofs.Words.{◌+◌, ◌<◌, ◌^◌, ◌↔◌, ◌∙◌, ◌∷◌, ◌≡◌, ◌≤ℤ◌, ◌≤◌, AreApart, ComesFirst, DeviceId, Happening, IsAt, IsIn}
-use Rattle.drift_world.proofs.Words.{IsPermutation, IsPermutation-map, Kept, List, Meaning, Moment, Network, Note, Option, Scenario, Settled}
+use Rattle.drift_world.proofs.Words.{IsPermutation, IsPermutation-map, Kept, List, Meaning, Moment, Network, Note, Scenario, Settled}
 use Rattle.drift_world.proofs.Words.{Some, Stands, StandsFor, Units, Waits, ap, arith, false, frame_from}
 use Rattle.drift_world.proofs.Words.{get_or_from_slice_get, happenings, in_get, is_mapped, is_set, keeps, length, map, moment_of, pos, refl}
 use Rattle.drift_world.proofs.Words.{ripe_place, settled_as, settled_at, slice_get_within, slice_set, subst, sym, units_of, waiting_as, world_of, ℕ}
 use Rattle.{drift_world.specs.declared.state.State.State, tte_units.proofs.general_lemmas.Naturals.flips, world_law.proofs.giving.GivenParts.some_same}
 use Rattle.{run_law.{proofs.records.Members.from_map, specs.declared.judgement.Judgement.Judgement}, world_law.proofs.steps_lemmas.ripening.Asking.may_ask}
-use Rattle.{run_law.proofs.records.Order.all_of, std.{proofs.Common.{All, nat_eq}, specs.{List.slice_get, Option.option_and_then}}}
+use Rattle.{run_law.proofs.records.Order.all_of, std.{proofs.Common.{All, nat_eq}, specs.{List.slice_get}}}
 use Rattle.{std.proofs.lemmas.Map.Keys.{IsDistinct-IsPermutation, IsDistinct-head, IsDistinct-tail}, world_law.specs.steps.Ripening.{HasRipened, ripe_bodies}}
-use Rattle.{drift_world.specs.Ripening.IsJudged, world_law.specs.{steps.Turns.{TurnsBy, starts_there}, world.World.is_at_source}}
+use Rattle.{drift_world.specs.Ripening.IsJudged, world_law.specs.{steps.Turns.{starts_there}, world.World.is_at_source}}
 use Rattle.run_law.specs.declared.note.NoteBody.TheVariants as kinds
 use Rattle.run_law.specs.declared.steps.Ripe.TheVariants as ripe
 
@@ -37,14 +37,13 @@ module _ (w : Waits) (old new : List Waits) (t : IsPermutation old (w ∷ new)) 
     λ there.
         let from = from_map waiting_as new e there in
         let v = from.0 in (
-          subst (λ x. IsIn x (map waiting_as old)) (sym from.2) (is_mapped waiting_as old v (stayed w old new t v from.1)),
+          rw from.2 (is_mapped waiting_as old v (stayed w old new t v from.1)),
           λ place. others v from.1 (same_cause now v (sym (ap (ripe_place now) from.2) ∙ place)),
         ),
     λ h.
         let from = from_map waiting_as old e h.0 in
         let v = from.0 in
-        subst (λ x. IsIn x (map waiting_as new)) (sym from.2)
-        (is_mapped waiting_as new v (stays w old new t v from.1 (λ same. h.1 (ap (ripe_place now) from.2
+        rw from.2 (is_mapped waiting_as new v (stays w old new t v from.1 (λ same. h.1 (ap (ripe_place now) from.2
         ∙ ap (λ x. ripe_place now (waiting_as x)) same)))),
   )
 
@@ -54,12 +53,12 @@ below_taken number w old new t below =
     all_of (λ v. v.cause < number) new (λ v there.
     let at = in_get old v (stayed w old new t v there) in
     let lt = slice_get_within old at.0 v at.1 in
-    subst (λ (x : Waits). x.cause < number) (get_or_from_slice_get old at.0 v v at.1) (below at.0 v lt))
+    rw (get_or_from_slice_get old at.0 v v at.1) at (below at.0 v lt))
 
 pub others_wait : (w : Waits) (old new : List Waits) → IsPermutation old (w ∷ new) → (v : Waits) → (v.device.0 ≡ w.device.0 → ⊥) → IsIn v new ↔ IsIn v old
 others_wait w old new t v other = (
   λ there. stayed w old new t v there,
-  λ there. stays w old new t v there (λ same. other (ap (λ (x : Waits). x.device.0) same)),
+  λ there. stays w old new t v there (λ same. other (rw same)),
 )
 
 -- ---- the machine may be asked
@@ -77,30 +76,30 @@ module _ {C M : Type 0} (reading : C → ℕ → ℕ) (stands : Meaning M) (netw
   within {s} {notes} old = waits_within s (happenings s.network notes) (waiting_as w) (old.waiting.real (waiting_as w) in_waiting) old.run.founded old.range
 
   pub device_in : {s : Scenario} {notes : List Note} → Stands reading (keeps stands) s (world_of network state) notes → w.device.0 < length network.device
-  device_in {s} {notes} old = subst (λ (n : Network). w.device.0 < length n.device) (sym old.same) (within old)
+  device_in {s} {notes} old = rw old.same (within old)
 
   -- what its clock reads is what the scenario says
   pub reads : {s : Scenario} {notes : List Note} → Stands reading (keeps stands) s (world_of network state) notes → {clock : C}
       → slice_get state.clocks.items w.device.0 ≡ Some clock → reading clock state.time ≡ s.reading w.device state.time
   reads {s} {notes} old {clock} own =
       let it = old.clocks w.device (within old) in
-      ap (λ (k : C). reading k state.time) (some_same clock it.0 _ own it.1) ∙ sym (it.2 state.time (omega arith))
+      rw (some_same clock it.0 _ own it.1) (sym (it.2 state.time (omega arith)))
 
   point : {s : Scenario} {notes : List Note} → Stands reading (keeps stands) s (world_of network state) notes → w.point.0 ≤ℤ pos (s.reading w.device state.time)
   point {s} {notes} old =
       let it = old.clocks w.device (within old) in
-      subst (λ n. w.point.0 ≤ℤ pos n) (reads old it.1) (reached it.0 it.1)
+      rw (reads old it.1) at (reached it.0 it.1)
 
   pub low : {s : Scenario} {notes : List Note} → Stands reading (keeps stands) s (world_of network state) notes → {clock : C}
       → slice_get state.clocks.items w.device.0 ≡ Some clock → reading clock state.time ≤ 2 ^ 60 + 2 ^ 51
-  low {s} {notes} old {clock} own = subst (λ n. n ≤ 2 ^ 60 + 2 ^ 51) (sym (reads old own)) ((old.steady w.device).low state.time old.limit)
+  low {s} {notes} old {clock} own = rw (reads old own) ((old.steady w.device).low state.time old.limit)
 
   pub moment_is : (s : Scenario) {notes : List Note} → Stands reading (keeps stands) s (world_of network state) notes → {clock : C}
       → slice_get state.clocks.items w.device.0 ≡ Some clock → {number : ℕ} → number ≡ reading clock state.time → {time read : Units}
       → time ≡ units_of state.time → read ≡ units_of number → moment_by time read ≡ moment_of s w.device state.time
   moment_is s {notes} old {clock} own is {read} a b =
-      ap (λ t. moment_by t read) a ∙ ap (moment_by (units_of state.time)) b
-      ∙ ap (λ n. moment_by (units_of state.time) (units_of n)) (is ∙ reads old own)
+      rw a (ap (moment_by (units_of state.time)) b
+      ∙ ap (λ n. moment_by (units_of state.time) (units_of n)) (is ∙ reads old own))
 
   pub asked : (at : IsAt reading stands network state (ripe_place state.time (waiting_as w))) {machine : Kept M} {moment : Moment}
       → slice_get state.machines.items w.device.0 ≡ Some machine → moment ≡ moment_of at.s w.device state.time
@@ -109,11 +108,11 @@ module _ {C M : Type 0} (reading : C → ℕ → ℕ) (stands : Meaning M) (netw
       let s = at.s in
       let ask = may_ask reading (keeps stands) s (world_of network state) at.notes (waiting_as w) at.is in_waiting (point at.is) at.first in
       let machine_is = some_same ask.machine machine _ ask.there own in
-      subst (λ (m : Moment). StandsFor (keeps stands) machine (λ n device node. MayTake n device node m w.link w.frame w.point)) (sym same) (
+      rw same (
         s.network,
         w.device,
         ask.node,
-        subst (λ m. keeps stands m s.network w.device ask.node) machine_is ask.is,
+        rw machine_is at ask.is,
         record { call = ask.asked.call; reached = ask.asked.ripens.reached; in_time = ask.asked.ripens.in_time; ripens = λ hearing. ask.asked.ripens },
       )
 
@@ -194,7 +193,7 @@ ripened {reading} stands {network} state {w} new {machine} after result t apart 
     let hs = happenings s.network notes in
     let inside = is_mapped waiting_as state.waiting.items w there in
     let it = old.waiting.real (waiting_as w) inside in
-    let of : frame_from hs w.cause ≡ Some w.frame = ap (λ (o : Option Happening). option_and_then (λ h. h.frame) o) it.there ∙ it.awaited.of_frame in
+    let of : frame_from hs w.cause ≡ Some w.frame = rw it.there it.awaited.of_frame in
     let place = ripe_place state.time (waiting_as w) in
     let mid : World _ _ = record world {
       early = false;
@@ -203,14 +202,13 @@ ripened {reading} stands {network} state {w} new {machine} after result t apart 
     } in
     let bodies : ripe_bodies (length notes + 1) w.device w.link w.cause w.point result
     ≡ body_of (Some (ripe_record w result)) ++ body_of (joined_record (state.given + 1) w.device result) =
-    ap (λ n. ripe_bodies (n + 1) w.device w.link w.cause w.point result) (sym old.given)
-    ∙ ripe_bodies_are (state.given + 1) w result in
+    rw (sym old.given)
+    (ripe_bodies_are (state.given + 1) w result) in
     record {
       order = settled_in_order old;
       first_is = ripe_own s network state.time hs w of result;
       second_is = joined_own s network state.time hs (state.given + 1) w.device result;
-      by = subst (λ l. TurnsBy reading (keeps stands) s notes l mid place) bodies
-          (ripened_turn reading (keeps stands) s world notes (waiting_as w) machine after result
+      by = rw bodies at (ripened_turn reading (keeps stands) s world notes (waiting_as w) machine after result
           (slice_set state.machines.items w.device.0 after) (map waiting_as new) old inside
           (point reading stands network state w there reached old) first own has
           (is_set state.machines.items w.device.0 after many) (without w state.waiting.items new t apart state.time));

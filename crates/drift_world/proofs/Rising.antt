@@ -21,7 +21,7 @@ settled_rise are front [] is = tt
 settled_rise {coming} are front (x ∷ xs) is = (
   λ y there.
       let split = parted y xs there in
-      let whole : coming ≡ (front ++ x ∷ split.0) ++ y ∷ split.1 = is ∙ ap (λ (l : List Happening). front ++ x ∷ l) split.2
+      let whole = is ∙ ap (λ l. front ++ x ∷ l) split.2
       ∙ sym (append_assoc front (x ∷ split.0) (y ∷ split.1)) in
       (are.founded (front ++ x ∷ split.0) split.1 y whole).0 x (in_right x front (x ∷ split.0) (inl refl)),
   settled_rise are (front ++ x ∷ []) xs (is ∙ sym (append_assoc front (x ∷ []) xs)),

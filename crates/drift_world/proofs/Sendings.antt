@@ -3,7 +3,7 @@ use Rattle.{drift_world.proofs.Launches.delay_is, std.specs.{List.{filter_map, s
 use Rattle.drift_world.proofs.Words.{◌+◌, ◌<◌, ◌∙◌, ◌∷◌, ◌≡◌, AreWays, Arrives, Content, DeviceId, DueAt, Happening, HasItsOctets, IsPermutation-sym, IsPutOn}
 use Rattle.drift_world.proofs.Words.{Launch, Left, Link, LinkId, List, None, NoteBody, Ok, OnWire, Option, Pcf, Scenario, Signal, Some, Timed, TtSent, Way}
 use Rattle.drift_world.proofs.Words.{WayState, Wire, [], ap, control, delay_at, delay_by, given_of, in_permuted, inl, inr, is_given, launched, length, link_at}
-use Rattle.drift_world.proofs.Words.{map, octets_in, octets_of, on_wire, receiver_of, refl, same_Some, signal_as, slice_get_within, subst, sym, target_by}
+use Rattle.drift_world.proofs.Words.{map, octets_in, octets_of, on_wire, receiver_of, refl, same_Some, signal_as, slice_get_within, sym, target_by}
 use Rattle.{drift_world.proofs.Words.{time_of, time_on_port, timed, way_as, way_from, wire_entry, ℕ}, world_state.specs.declared.queue.Entry.Entry}
 use Rattle.{run_law.specs.declared.note.NoteBody.TheVariants.{Event}, world_state.specs.declared.contents.Signal.{Signal as SignalSent}}
 use Rattle.world_state.specs.declared.contents.Signal.TheVariants as signals
@@ -19,13 +19,17 @@ module _ {s : Scenario} {now : ℕ} (ups downs : List WayState) (ways : AreWays 
   none_put : ((device : DeviceId) (link : LinkId) (t : ℕ) (signal : Signal) → Arrives s x device link t signal → ⊥) → new ≡ old
       → ArePut s x number (filter_map (on_wire s.network) old) (filter_map (on_wire s.network) new)
   none_put none same =
-      subst (λ (l : List (Entry Content)). ArePut s x number (filter_map (on_wire s.network) old) (filter_map (on_wire s.network) l)) (sym same)
-      (record { real = λ e there. inl there; kept = λ e there. there; all = λ device link t signal a. absurd (none device link t signal a) })
+      rw same (record {
+        real = λ e there. inl there;
+        kept = λ e there. there;
+        all =
+            λ device link t signal a. absurd (none device link t signal a);
+      })
 
   none_launched : launched s x (time_of x) x.note.body ≡ None → (device : DeviceId) (link : LinkId) (t : ℕ) (signal : Signal)
       → Arrives s x device link t signal → ⊥
   none_launched none device link t signal a =
-      let l : Launch = record { link = link; way = a.way; signal = signal } in let no : None ≡ Some l = sym none ∙ a.put in absurd cc
+      let l : Launch = record { link = link; way = a.way; signal = signal } in let no = sym none ∙ a.put in absurd cc
 
   module _ (device : DeviceId) (link : LinkId) (signal : Signal) (sent : SignalSent)
       (put : launched s x (time_of x) x.note.body ≡ Some (record { link = link; way = way_from s.network device link; signal = signal }))
@@ -57,7 +61,7 @@ module _ {s : Scenario} {now : ℕ} (ups downs : List WayState) (ways : AreWays 
 
     this : {d : DeviceId} {l : LinkId} {t : ℕ} {g : Signal} → Arrives s x d l t g → IsThis d l t g
     this {l} {g} a =
-        let same : record { link = l; way = a.way; signal = g } ≡ record { link = link; way = way_from s.network device link; signal = signal } =
+        let same =
         same_Some _ _ (sym a.put ∙ put) in
         let links : l ≡ link = ap Launch.link same in
         let on : a.way ≡ way_from s.network device link = ap Launch.way same in
@@ -75,14 +79,15 @@ module _ {s : Scenario} {now : ℕ} (ups downs : List WayState) (ways : AreWays 
     time_so : link.0 < length s.network.link → now + time_on_port s.network link signal + delay_by s.network ups downs device link
         ≡ time_of x + time_on_port s.network link signal + delay_at s link (way_from s.network device link) (time_of x)
     time_so lt =
-        ap (λ d. now + time_on_port s.network link signal + d) (delay_is ups downs ways device link lt)
-        ∙ ap (λ t. t + time_on_port s.network link signal + delay_at s link (way_from s.network device link) t) (sym at)
+        rw (delay_is ups downs ways device link lt)
+        (ap (λ t. t + time_on_port s.network link signal + delay_at s link (way_from s.network device link) t) (sym at))
 
     pub sends : (o : Option DeviceId) → receiver_of s.network link (way_from s.network device link) ≡ o
-        → IsPutOn (option_map (λ (p : DueAt). let e : Entry Content = record { place = p; content = Wire sent } in e) (option_map placed o)) old new
+        → IsPutOn (option_map (λ p. let e : Entry Content = record { place = p; content = Wire sent } in e)
+        (option_map placed o)) old new
         → ArePut s x number (filter_map (on_wire s.network) old) (filter_map (on_wire s.network) new)
     sends None none is = none_put
-        (λ d l t g a. let no : None ≡ Some d = sym none ∙ (this a).receives in absurd cc) is
+        (λ d l t g a. let no = sym none ∙ (this a).receives in absurd cc) is
     sends (Some receiver) found is =
         let lt = link_within s.network.link link.0 (way_from s.network device link) (link_at s.network link) refl found in
         let e : Entry Content = record { place = placed receiver; content = Wire sent } in
@@ -92,11 +97,16 @@ module _ {s : Scenario} {now : ℕ} (ups downs : List WayState) (ways : AreWays 
               let of = given_of (on_wire s.network) new y there in
               elim (in_permuted new (e ∷ old) of.0 (IsPermutation-sym _ _ is) of.1) [
                 | inl own ↦
-                    let same : y ≡ w = same_Some _ _ (sym of.2 ∙ ap (on_wire s.network) own) in
-                    inr (subst (λ (v : OnWire). (v.cause ≡ number) × Arrives s x v.device v.link v.at v.signal) (sym same) (
+                    let same = same_Some _ _ (sym of.2 ∙ ap (on_wire s.network) own) in
+                    inr (rw same (
                       refl,
-                      subst (λ g. Arrives s x receiver link w.at g) (sym as_signal)
-                          (record { way = way_from s.network device link; put = put; receiver = found; at = time_so lt }),
+                      rw as_signal (record {
+                        way = way_from s.network device link;
+                        put = put;
+                        receiver = found;
+                        at =
+                            time_so lt;
+                      }),
                     ))
                 | inr rest ↦ inl (is_given (on_wire s.network) old of.0 y rest of.2)
               ];
@@ -105,12 +115,12 @@ module _ {s : Scenario} {now : ℕ} (ups downs : List WayState) (ways : AreWays 
               is_given (on_wire s.network) new of.0 y (in_permuted (e ∷ old) new of.0 is (inr of.1)) of.2;
           all = λ d l t g a.
               let it = this a in
-              let who : receiver ≡ d = same_Some _ _ (sym found ∙ it.receives) in (
+              let who = same_Some _ _ (sym found ∙ it.receives) in (
                 w,
                 is_given (on_wire s.network) new e w (in_permuted (e ∷ old) new e is (inl refl)) refl,
-                ap (λ (k : ℕ). k ∷ 2 ∷ receiver.0 ∷ link.0 ∷ number ∷ []) (time_so lt ∙ sym it.arrives)
-                    ∙ ap (λ (k : DeviceId). t ∷ 2 ∷ k.0 ∷ link.0 ∷ number ∷ []) who
-                    ∙ ap (λ (k : LinkId). t ∷ 2 ∷ d.0 ∷ k.0 ∷ number ∷ []) (sym it.same_link),
+                rw (time_so lt ∙ sym it.arrives)
+                    (ap (λ k. t ∷ 2 ∷ k.0 ∷ link.0 ∷ number ∷ []) who
+                    ∙ ap (λ k. t ∷ 2 ∷ d.0 ∷ k.0 ∷ number ∷ []) (sym it.same_link)),
               );
         }
 
@@ -121,10 +131,20 @@ module _ {s : Scenario} {now : ℕ} (ups downs : List WayState) (ways : AreWays 
       → ArePut s x number (filter_map (on_wire s.network) old) (filter_map (on_wire s.network) new)
   left_put {device} {link} None octets is frame put = none_put
       (none_launched (ap (launched s x (time_of x)) is
-      ∙ ap (option_map (λ (f : Pcf). let l : Launch = record { link = link; way = way_from s.network device link; signal = control (Ok f) } in l)) frame)) put
+      ∙ ap (option_map (λ f. let l : Launch = record {
+        link = link;
+        way = way_from s.network device link;
+        signal =
+            control (Ok f);
+      } in l)) frame)) put
   left_put {device} {link} (Some f) octets is frame put = sends device link (control (Ok f)) (signals.Control f)
       (ap (launched s x (time_of x)) is
-      ∙ ap (option_map (λ (f : Pcf). let l : Launch = record { link = link; way = way_from s.network device link; signal = control (Ok f) } in l)) frame) refl
+      ∙ ap (option_map (λ f. let l : Launch = record {
+        link = link;
+        way = way_from s.network device link;
+        signal =
+            control (Ok f);
+      } in l)) frame) refl
       (receiver_of s.network link (way_from s.network device link)) refl put
 
   timed_put : {device : DeviceId} {link : LinkId} {cause : ℕ} {vl : Rattle.net_plan.specs.declared.ids.VlId.VlId} {cycle : ℕ} (frame : Option Pcf)
@@ -135,7 +155,8 @@ module _ {s : Scenario} {now : ℕ} (ups downs : List WayState) (ways : AreWays 
   timed_put frame None has is own put = absurd has
   timed_put {device} {link} frame (Some o) has is own put = sends device link (timed (octets_of s.network o)) (signals.Timed o)
       (ap (launched s x (time_of x)) is
-      ∙ ap (λ (l : List ℕ). let k : Launch = record { link = link; way = way_from s.network device link; signal = timed l } in Some k) own) refl
+      ∙ ap (λ l. let k : Launch = record { link = link; way = way_from s.network device link; signal = timed l } in
+      Some k) own) refl
       (receiver_of s.network link (way_from s.network device link)) refl put
 
   -- what the record puts on a wire

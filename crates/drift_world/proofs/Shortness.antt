@@ -1,7 +1,7 @@
 -- A delay or a hold that an event within the hypothesis sets is short.
 use Rattle.{drift_world.{proofs.Beginnings.found, specs.Running.HoldsATime}, net_plan.specs.declared.event.Event.Event, world_state.specs.Applying.SetsShort}
-use Rattle.drift_world.proofs.Words.{◌+ℤ◌, ◌<ℤ◌, ◌^◌, ◌≡◌, ◌≤ℤ◌, ◌≤◌, ◌⊎◌, IsInRange, IsLinkInRange, IsOfNetwork, IsSomeAnd, IsWithinHypothesis, Link, List}
-use Rattle.drift_world.proofs.Words.{Network, Option, What, amount, arith, cases_lt, in_all, inl, inr, ints, pos, subst, sym, unsigned_abs, ℤ}
+use Rattle.drift_world.proofs.Words.{◌+ℤ◌, ◌<ℤ◌, ◌^◌, ◌≡◌, ◌≤ℤ◌, ◌≤◌, ◌⊎◌, IsInRange, IsLinkInRange, IsOfNetwork, IsWithinHypothesis, List}
+use Rattle.drift_world.proofs.Words.{Network, What, amount, arith, cases_lt, in_all, inl, inr, ints, pos, unsigned_abs, ℤ}
 use Rattle.std.proofs.Common.{negsuc}
 use Rattle.net_plan.specs.declared.event.What.TheVariants as events
 use Rattle.run_law.specs.declared.outside.Outside.TheVariants as outside
@@ -22,14 +22,13 @@ sets_short {network} past event range within (events.Wire link way delay) same t
         way = way;
         delay = delay;
         what = same;
-        other = subst (λ (o : Option Link). IsSomeAnd o (λ l. (delay.0 <ℤ l.wire.0) ⊎ ((l.wire.0 +ℤ l.jitter.0) <ℤ delay.0))) (sym it.1)
-            (out delay.0 l.wire.0 l.jitter.0 far wire.least wire.most jitter.least jitter.most);
+        other = rw it.1 (out delay.0 l.wire.0 l.jitter.0 far wire.least wire.most jitter.least jitter.most);
       }))
     ]
   where
     out : (d w j : ℤ) → 2 ^ 62 ≤ unsigned_abs d → pos 1 ≤ℤ w → w ≤ℤ pos (2 ^ 40) → pos 0 ≤ℤ j → j ≤ℤ pos (2 ^ 40) → (d <ℤ w) ⊎ ((w +ℤ j) <ℤ d)
-    out (pos n) w j far a b c d = inr (omega (arith, ints, far, a, b, c, d))
-    out (negsuc n) w j far a b c d = inl (omega (arith, ints, far, a, b, c, d))
+    out (pos n) w j far a b c d = inr (omega (arith, ints))
+    out (negsuc n) w j far a b c d = inl (omega (arith, ints))
 sets_short {network} past event range within (events.Hold link way hold) same there begun =
     let it = found network.link link.0 there in
     let l = it.0 in
@@ -42,7 +41,7 @@ sets_short {network} past event range within (events.Hold link way hold) same th
         way = way;
         delay = hold;
         what = same;
-        long = subst (λ (o : Option Link). IsSomeAnd o (λ l. l.hold.0 <ℤ hold.0)) (sym it.1) (omega (arith, ints, far, begun, most));
+        long = rw it.1 (omega (arith, ints));
       }))
     ]
 sets_short past event range within (events.Rate device rate) same there hold = tt

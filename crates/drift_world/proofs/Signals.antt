@@ -3,7 +3,7 @@ use Rattle.{drift_world.proofs.Arrivals.control_so, run_law.specs.records.Happen
 use Rattle.drift_world.proofs.Words.{◌+◌, ◌==◌, ◌∙◌, ◌∷◌, ◌≡◌, ◌≤◌, ◌⊎◌, Bool, DeviceId, Err, Happening, IsCaused, IsDue, IsFounded, IsIn, IsInRange, Launch}
 use Rattle.drift_world.proofs.Words.{LinkId, List, None, NoteBody, Ok, OnWire, Option, Pcf, Result, Scenario, Signal, Some, Up, VlId, Way, [], ap, arith}
 use Rattle.drift_world.proofs.Words.{control, eq-eqb, false, field, filter, frame_by, frame_from, if◌then◌else◌, in_filter, inl, inr, is_cut, launched, nat_lt}
-use Rattle.drift_world.proofs.Words.{numbered, numbered_in, octets_by, octets_from, option_map_or, place_of, refl, signal_of, subst, suc, sym, time_of, timed}
+use Rattle.drift_world.proofs.Words.{numbered, numbered_in, octets_by, octets_from, place_of, refl, signal_of, subst, suc, sym, time_of, timed}
 use Rattle.{drift_world.proofs.Words.{true, way_from, zero, ℕ}, run_law.specs.timed.Dispatching.is_accepted, world_state.proofs.Made.{made_type, plain_signal}}
 use Rattle.{pcf_codec.specs.{Decoding.decoded, EtherType.pcf_type}, std.proofs.lemmas.Bool.ne_eqb, world_law.specs.world.World.IsOnWire}
 use Rattle.{pcf_codec.specs.declared.refusal.PcfRefusal.PcfRefusal, run_law.specs.{device.Standpoints.standpoint, timed.Receptions.{ArrivesAs, arrival_of}}}
@@ -33,7 +33,8 @@ data PutsThis (h : Happening) (signal : Signal) : Type 0 where
   leaving : (frame : Pcf) → h.frame ≡ Some frame → control (Ok frame) ≡ signal → PutsThis h signal
 
 left_put : (h : Happening) (own : LinkId) (from : Way) {l : Launch} (o : Option Pcf) → h.frame ≡ o
-    → option_map (λ (f : Pcf). (let x : Launch = record { link = own; way = from; signal = control (Ok f) } in x)) o ≡ Some l → PutsThis h l.signal
+    → option_map (λ f. (let x : Launch = record { link = own; way = from; signal = control (Ok f) } in x)) o ≡ Some l
+    → PutsThis h l.signal
 left_put h own from None of e = absurd cc
 left_put h own from {l} (Some f) of e = PutsThis.leaving f of (signal_in (record { link = own; way = from; signal = control (Ok f) }) l e)
 
@@ -62,7 +63,7 @@ module _ {s : Scenario} {front : List Happening} {h : Happening} where
   this_frame frame due (PutsThis.dispatched device link cause vl cycle is e) = absurd cc
   this_frame frame due (PutsThis.sent line link octets is e) =
       ap Happening.frame due.same ∙ ap (frame_by s.network front) is ∙ decoded_of _ _ octets frame e
-  this_frame frame due (PutsThis.leaving f of e) = of ∙ ap (λ (x : Pcf). Some x) (frame_same f frame e)
+  this_frame frame due (PutsThis.leaving f of e) = of ∙ ap (λ x. Some x) (frame_same f frame e)
 
   this_octets : (octets : List ℕ) → IsDue s front h → PutsThis h (timed octets) → h.octets ≡ octets
   this_octets octets due (PutsThis.dispatched device link cause vl cycle is e) = octets_same h.octets octets e
@@ -80,14 +81,14 @@ module _ {s : Scenario} {hs : List Happening} (founded : IsFounded place_of (IsD
   frame_told frame is =
       let at = founded_at s hs it.putting founded (numbered_in hs e.cause it.putting it.there) in
       ap (option_and_then (λ h. h.frame)) it.there
-      ∙ this_frame frame at.due (subst (λ (g : Signal). PutsThis it.putting g) is puts_it)
+      ∙ this_frame frame at.due (rw is at puts_it)
 
   -- and so are other octets
   pub octets_told : (octets : List ℕ) → e.signal ≡ timed octets → octets_from hs e.cause ≡ octets
   octets_told octets is =
       let at = founded_at s hs it.putting founded (numbered_in hs e.cause it.putting it.there) in
-      ap (λ (o : Option Happening). option_map_or (λ h. h.octets) o []) it.there
-      ∙ this_octets octets at.due (subst (λ (g : Signal). PutsThis it.putting g) is puts_it)
+      rw it.there
+      (this_octets octets at.due (rw is at puts_it))
 
 -- ---- frames of the schedule are no control frames
 
@@ -105,7 +106,7 @@ earlier_in t hs h i = in_filter (λ g. nat_lt (time_of g) t) hs h i
 
 not_zero : (hs : List Happening) (n : ℕ) {g : Happening} → numbered hs n ≡ Some g → (n == 0) ≡ false
 not_zero hs zero e = absurd cc
-not_zero hs (suc n) e = ne_eqb (suc n) 0 (λ same. omega (arith, same))
+not_zero hs (suc n) e = ne_eqb (suc n) 0 (λ same. omega arith)
 
 control_taken : (s : Scenario) (js : List Happening) (device : DeviceId) (t : ℕ) (link : LinkId) (cause : ℕ) (r : Result Pcf PcfRefusal) (vl : VlId) (cycle : ℕ)
     → arrivals.Accepted vl cycle ≡ arrival_of s js device t link cause (control r) → ⊥
@@ -125,12 +126,12 @@ module _ (s : Scenario) (hs : List Happening) (founded : IsFounded place_of (IsD
       let within = numbered_within at.front cause g is in
       let number = at.due.number in
       let number_so = number_is s hs k h founded there in (
-        ap (λ l. numbered l cause) at.whole ∙ numbered_front at.front (h ∷ at.rest) cause g is,
-        omega (arith, within, number, number_so, le),
+        rw at.whole (numbered_front at.front (h ∷ at.rest) cause g is),
+        omega arith,
       )
 
   of_cause : (cause : ℕ) {g : Happening} → numbered at.front cause ≡ Some g → octets_from at.front cause ≡ g.octets
-  of_cause cause is = ap (λ (o : Option Happening). option_map_or (λ x. x.octets) o []) is
+  of_cause cause is = rw is
 
   own_octets : {body : NoteBody} → h.note.body ≡ body → h.octets ≡ octets_by s.network at.front body
   own_octets is = ap Happening.octets at.due.same ∙ ap (octets_by s.network at.front) is
@@ -142,8 +143,9 @@ module _ (s : Scenario) (hs : List Happening) (founded : IsFounded place_of (IsD
       let own = own_octets is in
       elim d.at_hand [
         | inl made ↦
-            let zero : (cause == 0) ≡ true = eq-eqb cause 0 made.1 in
-            subst IsPlain (sym (own ∙ ap (λ (b : Bool). if b then tt_frame s.network vl cycle else octets_from at.front cause) zero))
+            let zero = eq-eqb cause 0 made.1 in
+            subst IsPlain (sym (own ∙ ap (λ b. if b then tt_frame s.network vl cycle else octets_from at.front cause)
+            zero))
             (made_type s.network vl cycle [] range refl)
         | inr passed ↦
             let has = passed.1 in
@@ -151,7 +153,8 @@ module _ (s : Scenario) (hs : List Happening) (founded : IsFounded place_of (IsD
             let number = ap (numbered at.front) has.number ∙ by_number s at.front has.taken at.founded i in
             let later = not_zero at.front cause number in
             let all = cause_number cause number in
-            subst IsPlain (sym (own ∙ ap (λ (b : Bool). if b then tt_frame s.network vl cycle else octets_from at.front cause) later
+            subst IsPlain (sym (own ∙ ap (λ b. if b then tt_frame s.network vl cycle else octets_from at.front cause)
+            later
             ∙ of_cause cause number))
             (up cause has.taken all.1 all.0 (ap is_timed has.is))
       ]
@@ -179,8 +182,7 @@ module _ (s : Scenario) (hs : List Happening) (founded : IsFounded place_of (IsD
       (a.becomes ∙ ap (arrival_of s at.front device (time_of h) link cause) is))
   accepted_so {link} {cause} vl cycle (timed octets) a is own =
       let before = founded_at s at.front a.putting at.founded (numbered_in at.front cause a.putting a.there) in
-      let put = subst (λ (g : Signal). PutsThis a.putting g) is
-      (puts_this s a.putting (time_of a.putting) a.putting.note.body refl a.arrives.put) in
+      let put = rw is at (puts_this s a.putting (time_of a.putting) a.putting.note.body refl a.arrives.put) in
       subst IsPlain (sym (own ∙ of_cause cause a.there ∙ this_octets octets before.due put))
       (accepted_by cause vl cycle octets a.there put)
 
@@ -195,15 +197,15 @@ module _ (s : Scenario) (hs : List Happening) (founded : IsFounded place_of (IsD
     (range : IsInRange s.network) where
   all_plain : (n : ℕ) → ArePlainTo hs n
   all_plain zero zero h le there timed_so = absurd cc
-  all_plain zero (suc k) h le there timed_so = absurd (omega (arith, le))
+  all_plain zero (suc k) h le there timed_so = absurd (omega arith)
   all_plain (suc n) k h le there timed_so =
-      plain_next s hs founded range n (all_plain n) k (omega (arith, le)) there h.note.body refl timed_so
+      plain_next s hs founded range n (all_plain n) k (omega arith) there h.note.body refl timed_so
 
   -- octets of the schedule that are on a wire are no control frame
   pub plain_on_wire : {e : OnWire} → IsOnWire s hs e → (octets : List ℕ) → e.signal ≡ timed octets
       → signal_of octets ≡ timed octets
   plain_on_wire {e} it octets is =
-      plain_signal octets (by (subst (λ (g : Signal). PutsThis it.putting g) is (puts_it founded it)))
+      plain_signal octets (by (rw is at (puts_it founded it)))
     where
       by : PutsThis it.putting (timed octets) → IsPlain octets
       by (PutsThis.dispatched device link cause vl cycle body same) =

@@ -13,12 +13,12 @@ many_grains network rules =
     let beta = beta_at network found.jitter found.links in
     let is : IsBeta network (pos beta) = subst (IsBeta network) found.value found in
     let fits = (rules Precision 0).errors beta is in
-    omega (arith, fits)
+    omega arith
 
 -- over one unit of time a reading goes on by less than the precision
 little : (seen rho grain d precision : ℕ) → rho ≤ 1000000 → 1 ≤ grain → 80 * grain ≤ precision → seen ≤ 1 + d
     → 10 ^ 9 * d ≤ rho * 1 + 2 * grain * 10 ^ 9 → seen < precision
-little seen rho grain d precision slow some many at measures = omega (arith, slow, some, many, at, measures)
+little seen rho grain d precision slow some many at measures = omega arith
 
 no_jump : {rho grain : ℕ} (precision : ℕ) {reading : ℕ → ℕ} → rho ≤ 1000000 → 1 ≤ grain → 80 * grain ≤ precision
     → KeepsClockLaws rho grain reading → (t : ℕ) → reading (t + 1) < reading t + precision
@@ -26,23 +26,23 @@ no_jump {rho} {grain} precision {reading} slow some many laws t =
     let one : t + 1 - t ≡ 1 = omega arith in
     let fell = laws.never_falls t (t + 1) (omega arith) in
     let seen = reading (t + 1) - reading t in
-    let measures = subst (λ (n : ℕ). 10 ^ 9 * abs_diff seen n ≤ rho * n + 2 * grain * 10 ^ 9) one (laws.drifts t (t + 1) (omega arith)) in
+    let measures = rw one at (laws.drifts t (t + 1) (omega arith)) in
     let at : seen ≤ 1 + abs_diff seen 1 = omega arith in
     let less = little seen rho grain (abs_diff seen 1) precision slow some many at measures in
-    omega (arith, fell, less)
+    omega arith
 
 -- a reading that begins at 0 is never far ahead
 ahead : (seen rho grain d t : ℕ) → grain ≤ 2 ^ 20 → t ≤ 2 ^ 60 → rho * t ≤ 1000000 * t → seen ≤ t + d
     → 10 ^ 9 * d ≤ rho * t + 2 * grain * 10 ^ 9 → seen ≤ 2 ^ 60 + 2 ^ 51
-ahead seen rho grain d t fine early slow at measures = omega (arith, fine, early, slow, at, measures)
+ahead seen rho grain d t fine early slow at measures = omega arith
 
 low : {rho grain : ℕ} {reading : ℕ → ℕ} → rho ≤ 1000000 → grain ≤ 2 ^ 20 → KeepsClockLaws rho grain reading
     → reading 0 ≡ 0 → (t : ℕ) → t ≤ 2 ^ 60 → reading t ≤ 2 ^ 60 + 2 ^ 51
 low {rho} {grain} {reading} slow fine laws zero_first t early =
     let since : t - 0 ≡ t = omega arith in
-    let seen : reading t - reading 0 ≡ reading t = omega (arith, zero_first) in
-    let drift = subst (λ (n : ℕ). 10 ^ 9 * abs_diff (reading t - reading 0) n ≤ rho * n + 2 * grain * 10 ^ 9) since (laws.drifts 0 t (omega arith)) in
-    let measures = subst (λ (n : ℕ). 10 ^ 9 * abs_diff n t ≤ rho * t + 2 * grain * 10 ^ 9) seen drift in
+    let seen : reading t - reading 0 ≡ reading t = omega arith in
+    let drift = rw since at (laws.drifts 0 t (omega arith)) in
+    let measures = rw seen at drift in
     let at : reading t ≤ t + abs_diff (reading t) t = omega arith in
     ahead (reading t) rho grain (abs_diff (reading t) t) t fine early (mul-le-mul_right t slow) at measures
 
@@ -64,8 +64,8 @@ pub steady : {C : Type 0} (fresh : ℕ → C) (after_step : C → ℕ → ℤ �
 steady fresh after_step reading laws zero_first {network} events device range rules within begun =
     let least = range.grain.least in
     let most = range.grain.most in
-    let some : 1 ≤ amount network.grain = omega (arith, ints, least) in
-    let fine : amount network.grain ≤ 2 ^ 20 = omega (arith, ints, least, most) in
+    let some : 1 ≤ amount network.grain = omega (arith, ints) in
+    let fine : amount network.grain ≤ 2 ^ 20 = omega (arith, ints) in
     steady_by (amount network.precision) range.rho some fine (many_grains network rules)
     (laws network.rho (amount network.grain) (rate_steps events device) range.rho some (history network events device within begun))
     (zero_first (amount network.grain) (rate_steps events device))

@@ -3,7 +3,7 @@ use Rattle.drift_world.proofs.Words.{◌&&◌, ◌==◌, ◌∙◌, ◌∷◌, �
 use Rattle.drift_world.proofs.Words.{Holding, IsIn, IsPermutation-sym, IsStoredBy, List, Network, None, NoteBody}
 use Rattle.drift_world.proofs.Words.{Option, Some, Timed, VlId, [], ap, both_ways, eq-eqb, eqb-true, false, filter}
 use Rattle.drift_world.proofs.Words.{if◌then◌else◌, in_permuted, inl, inr, is_mapped}
-use Rattle.{drift_world.proofs.Words.{map, not, octets_in, octets_of, refl, stored_as, subst, sym, true, ℕ}, run_law.proofs.records.Members.{from_map, in_kept}}
+use Rattle.{drift_world.proofs.Words.{map, not, octets_in, octets_of, refl, stored_as, sym, true, ℕ}, run_law.proofs.records.Members.{from_map, in_kept}}
 use Rattle.world_state.specs.Storing.{IsHeldInstead, IsStoredFor, is_held_of}
 use Rattle.{run_law.specs.timed.Dispatching.is_accepted, std.proofs.lemmas.Bool.{not-true, not_from_false}, world_law.specs.world.Moves.AreTaken}
 use Rattle.{std.proofs.Common.arith, world_law.specs.world.World.Stored}
@@ -43,37 +43,37 @@ module _ (network : Network) (x : Happening) (number : ℕ) (held new : List Hol
         let of = from_map (stored_as network) new e there in
         elim (in_permuted _ _ of.0 (IsPermutation-sym _ _ instead) of.1) [
           | inl fresh ↦
-              let same : e ≡ stored_as network one = of.2 ∙ ap (stored_as network) fresh in
-              inr (subst (λ (s : Stored). (is_accepted s.device s.vl x.note.body ≡ true) × (s.number ≡ number) × (s.octets ≡ x.octets)) (sym same) (
+              let same = of.2 ∙ ap (stored_as network) fresh in
+              inr (rw same (
                 by one.device one.vl ∙ itself,
                 numbered,
                 sym own,
               ))
           | inr old ↦
-              let was = out_of_filter (λ (h : Holding). not (is_held_of one.device one.vl h)) held of.0 old in
-              inl (subst (λ (s : Stored). IsIn s (map (stored_as network) held) × (is_accepted s.device s.vl x.note.body ≡ false)) (sym of.2) (
+              let was = out_of_filter (λ h. not (is_held_of one.device one.vl h)) held of.0 old in
+              inl (rw of.2 (
                 is_mapped (stored_as network) held of.0 was.was,
                 by of.0.device of.0.vl ∙ not-true _ was.passes,
               ))
         ];
     kept = λ e there not_taken.
         let of = from_map (stored_as network) held e there in
-        let is = subst (λ (s : Stored). is_accepted s.device s.vl x.note.body ≡ false) of.2 not_taken in
-        subst (λ s. IsIn s (map (stored_as network) new)) (sym of.2)
-        (is_mapped (stored_as network) new of.0
+        let is = rw of.2 at not_taken in
+        rw of.2 (is_mapped (stored_as network) new of.0
         (in_permuted _ _ of.0 instead
-        (inr (in_kept (λ (h : Holding). not (is_held_of one.device one.vl h)) held of.0 of.1 (not_from_false _ (sym (by of.0.device of.0.vl) ∙ is))))));
+        (inr (in_kept (λ h. not (is_held_of one.device one.vl h)) held of.0 of.1
+        (not_from_false _ (sym (by of.0.device of.0.vl) ∙ is))))));
     all = λ device vl is.
         let same = same_both device.0 one.device.0 vl.0 one.vl.0 (sym (by device vl) ∙ is) in (
           stored_as network one,
           is_mapped (stored_as network) new one (in_permuted _ _ one instead (inl refl)),
-          ap (λ (k : ℕ). let d : DeviceId = record { 0 = k } in d) (sym same.0),
-          ap (λ (k : ℕ). let v : VlId = record { 0 = k } in v) (sym same.1),
+          rw (sym same.0),
+          rw (sym same.1),
         );
   }
     where
       itself : (one.device.0 == one.device.0 && one.vl.0 == one.vl.0) ≡ true
-      itself = ap (λ (b : Bool). b && one.vl.0 == one.vl.0) (eq-eqb one.device.0 one.device.0 refl) ∙ eq-eqb one.vl.0 one.vl.0 refl
+      itself = rw (eq-eqb one.device.0 one.device.0 refl) (eq-eqb one.vl.0 one.vl.0 refl)
 
 -- ---- by the record
 
@@ -94,9 +94,7 @@ module _ (network : Network) (x : Happening) (number : ℕ) (held new : List Hol
   same_taken : new ≡ held → ((device : DeviceId) (vl : VlId) → is_accepted device vl x.note.body ≡ false)
       → AreTaken x number (map (stored_as network) held) (map (stored_as network) new)
   same_taken same none =
-      subst (λ (l : List Holding). AreTaken x number (map (stored_as network) held) (map (stored_as network) l))
-      (sym same)
-      (none_taken x number (map (stored_as network) held) none)
+      rw same (none_taken x number (map (stored_as network) held) none)
 
   -- what the switch took by it is held, and nothing else changes
   pub taken_by : (body : NoteBody) (octets : Option Timed) → x.note.body ≡ body → HasItsOctets body octets

@@ -5,7 +5,7 @@ use Rattle.{drift_world.proofs.Offs.{begins_off, stays_off}, run_law.{proofs.sce
 use Rattle.drift_world.proofs.Words.{◌<◌, ◌∙◌, ◌≡◌, AreWithinHypothesis, DeviceId, FitsWorld, IsOfNetwork, IsSomeAnd}
 use Rattle.drift_world.proofs.Words.{IsWithinHypothesis, Link, LinkId, List, Meaning, Network, None, Note, Off, Option, Some, Stands, What, World, amount, any_in}
 use Rattle.drift_world.proofs.Words.{breaks_at, false, false_from_ne_true, happenings, in_filter, inl, inr, is_broken, length, link_at, nat_le, option_map_or}
-use Rattle.{drift_world.proofs.Words.{parted, refl, scenario, subst, sym, true, ℕ}, net_plan.specs.Places.{device_at, is_end_system, is_master}}
+use Rattle.{drift_world.proofs.Words.{parted, refl, scenario, sym, true, ℕ}, net_plan.specs.Places.{device_at, is_end_system, is_master}}
 use Rattle.{net_plan.specs.declared.tables.Device.Device, precision_law.proofs.Plain.{any_is, any_of_in}, run_law.specs.device.States.state_before}
 use Rattle.{run_law.specs.scenario.Devices.is_end, std.proofs.lemmas.Bool.cases_Bool, world_law.specs.world.World.IsFromEnd}
 use Rattle.net_plan.specs.declared.event.What.TheVariants as events
@@ -15,7 +15,7 @@ use Rattle.run_law.specs.declared.outside.Outside.TheVariants as outside
 
 not_end : (o : Option Device) → option_map_or (λ d. is_end_system d.role) o false ≡ false → IsSomeAnd o (λ d. is_master d.role ≡ true) → ⊥
 not_end None none_such master = absurd master
-not_end (Some d) none_such master = let yes = master_ends d.role master in let bad : true ≡ false = sym yes ∙ none_such in cc
+not_end (Some d) none_such master = let yes = master_ends d.role master in let bad = sym yes ∙ none_such in cc
 
 -- a device that is broken is an end system
 broken_ends : (network : Network) (past : List Event) (device : DeviceId) → AreWithinHypothesis network past → is_end network device ≡ false
@@ -34,14 +34,15 @@ sends_end network past event link octets within here what there = from (link_at 
     lacks (Some l) is none_such broken = broken_ends network past l.child within none_such broken
 
     from : (o : Option Link) → link_at network link ≡ o → IsFromEnd network link
-    from None none = let it = Rattle.drift_world.proofs.Beginnings.found network.link link.0 there in let bad : None ≡ Some it.0 = sym none ∙ it.1 in absurd cc
+    from None none = let it = Rattle.drift_world.proofs.Beginnings.found network.link link.0 there in let bad =
+        sym none ∙ it.1 in absurd cc
     from (Some l) is = elim (cases_Bool (is_end network l.child)) [
-      | inl is_so ↦ subst (λ (o : Option Link). IsSomeAnd o (λ l. is_end network l.child ≡ true)) (sym is) is_so
+      | inl is_so ↦ rw is is_so
       | inr none_such ↦ absurd (here outside.NotBroken (record {
         link = link;
         octets = octets;
         what = what;
-        unbroken = λ broken. lacks (Some l) is none_such (subst (λ (o : Option Link). IsSomeAnd o (λ l. IsBroken past l.child)) is broken);
+        unbroken = λ broken. lacks (Some l) is none_such (rw is at broken);
       }))
     ]
 
@@ -56,7 +57,8 @@ module _ {C M : Type 0} {reading : C → ℕ → ℕ} {stands : Meaning M} (netw
       within outside.NotOff (record {
         device = device;
         what = what;
-        known = inr (inr (any_of_in (Breaks device) it.0 past (in_filter (λ (e : Event). nat_le (amount e.time) world.now) past it.0 it.1)
+        known = inr (inr (any_of_in (Breaks device) it.0 past
+            (in_filter (λ e. nat_le (amount e.time) world.now) past it.0 it.1)
             (broken_by device it.0.what it.2)));
       })
 

@@ -1,6 +1,6 @@
 -- Timers that are right, and stay so.
 use Rattle.{drift_world.proofs.Fits.sized_so, std.proofs.Common.slice_get}
-use Rattle.world_state.specs.{declared.timers.Timer.Timer, timers.Times.AreFrom}
+use Rattle.world_state.specs.{timers.Times.AreFrom}
 use Rattle.drift_world.proofs.Words.{◌*◌, ◌+◌, ◌<◌, ◌^◌, ◌↔◌, ◌∙◌, ◌≡◌, ◌≤ℤ◌, ◌≤◌, ◌⊎◌, AreTimed, Bool, ChangesOnly, DeviceId, IsIn, IsInRange, IsRunning, Meaning}
 use Rattle.drift_world.proofs.Words.{IsSized, IsTimed, Kept, List, Network, Node, None, Option, Some, Units, Waits, ap, arith, cases_eq, cases_lt, inl, inr, ints, keeps}
 use Rattle.drift_world.{proofs.Words.{length, never, pos, refl, subst, sym, ℕ}, specs.Stepping.{ActsAt, IsRekeyed, IsRipeAt, MayRekey, SetsOnly}}
@@ -22,8 +22,8 @@ module _ {C : Type 0} (reading : C → ℕ → ℕ) (clock : C) where
   -- it is not past
   pub not_past : (now : ℕ) (value : Option Units) (time : ℕ) → now ≤ 2 ^ 60 → IsTimeFor reading clock now value time
       → now ≤ time
-  not_past now None time limit is = omega (arith, is, limit)
-  not_past now (Some value) time limit (inl is) = let e = is.0 in omega (arith, e, limit)
+  not_past now None time limit is = omega arith
+  not_past now (Some value) time limit (inl is) = let e = is.0 in omega arith
   not_past now (Some value) time limit (inr is) = is.from_now
 
   -- before it the clock reads less
@@ -31,17 +31,17 @@ module _ {C : Type 0} (reading : C → ℕ → ℕ) (clock : C) where
       → IsTimeFor reading clock now (Some value) time → now ≤ u → u ≤ 2 ^ 60 → value.0 ≤ℤ pos (reading clock u)
       → time ≤ u
   reads_less now value time u low (inl is) from most reached =
-      let above = is.1 in let most_read = low u from most in absurd (omega (arith, ints, above, reached, most_read))
+      let above = is.1 in let most_read = low u from most in absurd (omega (arith, ints))
   reads_less now value time u low (inr is) from most reached =
       elim (cases_lt u time) [
-        | inl sooner ↦ let less = is.not_before u from sooner in absurd (omega (arith, ints, less, reached))
+        | inl sooner ↦ let less = is.not_before u from sooner in absurd (omega (arith, ints))
         | inr le ↦ le
       ]
 
   -- at it, it reads so much
   pub reads_so : (now : ℕ) (value : Units) (time : ℕ) → IsTimeFor reading clock now (Some value) time → time < never
       → value.0 ≤ℤ pos (reading clock time)
-  reads_so now value time (inl is) true_time = let e = is.0 in absurd (omega (arith, e, true_time))
+  reads_so now value time (inl is) true_time = let e = is.0 in absurd (omega arith)
   reads_so now value time (inr is) true_time = is.reached
 
   -- ---- the timers of a device are right
@@ -52,12 +52,12 @@ module _ {C : Type 0} (reading : C → ℕ → ℕ) (clock : C) where
   ripe_timed waiting device now None time low none is = grind arith
   ripe_timed waiting device now (Some point) time low least is = record {
     none = λ w there at u from most reached.
-        let le = least.1 w there at in reads_less now point time u low is from most (omega (arith, ints, le, reached));
+        let le = least.1 w there at in reads_less now point time u low is from most (omega (arith, ints));
     one = λ true_time. (
       least.0.0,
       least.0.1,
       least.0.2,
-      subst (λ (p : Units). p.0 ≤ℤ pos (reading clock time)) (sym least.0.3) (reads_so now point time is true_time),
+      rw least.0.3 (reads_so now point time is true_time),
     );
   }
 
@@ -69,12 +69,13 @@ pub acts_timed : {C M : Type 0} (reading : C → ℕ → ℕ) (stands : Meaning 
     → ActsAt reading stands network clock machine device now time part
 acts_timed reading stands network clock machine device now None time part low none is late = record {
   none = λ node task kept pending u from most reached. absurd (none node kept task pending);
-  one = λ true_time. absurd (omega (arith, is, true_time));
+  one = λ true_time. absurd (omega arith);
   late = λ true_time. late;
 }
 acts_timed reading stands network clock machine device now (Some due) time part low least is late = record {
   none = λ node task kept pending u from most reached.
-      let le = (least node kept).1 task pending in reads_less reading clock now due time u low is from most (omega (arith, ints, le, reached));
+      let le = (least node kept).1 task pending in reads_less reading clock now due time u low is from most
+      (omega (arith, ints));
   one = one;
   late = λ true_time. late;
 }
@@ -82,7 +83,7 @@ acts_timed reading stands network clock machine device now (Some due) time part 
     one : time < never → (node : Node) → keeps stands machine network device node → HasDue network device node (pos (reading clock time))
     one true_time node kept =
         let earliest = (least node kept).0 in let at = earliest.2 in let reads = reads_so reading clock now due time is true_time in
-        (earliest.0, earliest.1, omega (arith, ints, at, reads))
+        (earliest.0, earliest.1, omega (arith, ints))
 
 -- ---- they stay so
 
@@ -103,7 +104,8 @@ still_timed new is clocks machines waiting later ripe act = record {
     ripe = is.ripe.ripe;
     of_ripe = ripe ∙ is.ripe.of_ripe;
     ripens = record {
-      none = λ w there at u from most reached. is.ripe.ripens.none w ((waiting w at).0 there) at u (omega (arith, later, from)) most reached;
+      none = λ w there at u from most reached. is.ripe.ripens.none w ((waiting w at).0 there) at u (omega arith) most
+          reached;
       one = λ true_time. let r = is.ripe.ripens.one true_time in (r.0, (waiting r.0 r.2).1 r.1, r.2, r.3);
     };
   };
@@ -116,7 +118,8 @@ still_timed new is clocks machines waiting later ripe act = record {
     part = is.act.part;
     of_act = act ∙ is.act.of_act;
     acts = record {
-      none = λ node task kept pending u from most reached. is.act.acts.none node task kept pending u (omega (arith, later, from)) most reached;
+      none = λ node task kept pending u from most reached. is.act.acts.none node task kept pending u (omega arith) most
+          reached;
       one = is.act.acts.one;
       late = is.act.acts.late;
     };
@@ -135,24 +138,21 @@ module _ {C M : Type 0} {reading : C → ℕ → ℕ} {stands : Meaning M} {netw
     each = λ other there.
         elim (cases_eq other.0 device.0) [
           | inl e ↦
-              subst (λ d. IsTimed reading stands network new.timers new d) (ap (λ (n : ℕ). let d : DeviceId = record { 0 = n } in d) (sym e))
-              keyed.timed
+              rw (ap (λ (n : ℕ). let d : DeviceId = record { 0 = n } in d) (sym e)) at keyed.timed
           | inr ne ↦
               let same = keyed.sets.same in
               still_timed new (are.each other there)
-              (ap (λ (s : State C M). slice_get s.clocks.items other.0) same ∙ clocks other.0 ne)
-              (ap (λ (s : State C M). slice_get s.machines.items other.0) same ∙ machines other.0 ne)
-              (λ w at. subst (λ (s : State C M). IsIn w s.waiting.items ↔ IsIn w old.waiting.items) (sym same)
-              (waiting w (λ e. ne (sym at ∙ e)) (omega (arith, at, there))))
-              (let now = ap State.time same in omega (arith, now, time))
-              (keyed.sets.others other.0 (apart other.0 ne (λ e. omega (arith, e, there))) ∙ ap (λ (l : List Timer). slice_get l other.0) timers)
+              (rw same (clocks other.0 ne))
+              (rw same (machines other.0 ne))
+              (λ w at. rw same (waiting w (λ e. ne (sym at ∙ e)) (omega arith)))
+              (let now = ap State.time same in omega arith)
+              (keyed.sets.others other.0 (apart other.0 ne (λ e. omega arith)) ∙ ap (λ l. slice_get l other.0) timers)
               (keyed.sets.others (length network.device + other.0)
-              (apart (length network.device + other.0) (λ e. omega (arith, e, of_it)) (λ e. ne (omega (arith, e))))
-              ∙ ap (λ (l : List Timer). slice_get l (length network.device + other.0)) timers)
+              (apart (length network.device + other.0) (λ e. omega arith) (λ e. ne (omega arith)))
+              ∙ ap (λ l. slice_get l (length network.device + other.0)) timers)
         ];
     later = keyed.sets.later
-        (subst (λ n. AreFrom n mid.timers) (sym time)
-        (subst (λ l. AreFrom old.time l) (sym timers) are.later));
+        (rw time (rw timers are.later));
   }
     where
       apart : (slot : ℕ) → (slot ≡ device.0 → ⊥) → (slot ≡ length network.device + device.0 → ⊥)
@@ -163,7 +163,7 @@ module _ {C M : Type 0} {reading : C → ℕ → ℕ} {stands : Meaning M} {netw
   pub rekeyed : {device : DeviceId} {old mid new : State C M} → AreTimed reading stands network old → device.0 < length network.device
       → ChangesOnly device.0 old mid → mid.timers ≡ old.timers → IsRekeyed reading stands network device mid new → AreTimed reading stands network new
   rekeyed {device} {old} {mid} {new} are of_it changes timers keyed =
-      rekeyed_by are of_it (λ i ne. ap (λ (c : _). slice_get c.items i) changes.clocks) changes.machines
+      rekeyed_by are of_it (λ i ne. ap (λ c. slice_get c.items i) changes.clocks) changes.machines
       (λ w ne lt. changes.waiting w ne) changes.time timers keyed
 
   -- a step that leaves what timers are for as it was
@@ -172,13 +172,12 @@ module _ {C M : Type 0} {reading : C → ℕ → ℕ} {stands : Meaning M} {netw
   unmoved old new are clocks machines waiting time timers = record {
     sized = ap length timers ∙ are.sized;
     each = λ device there.
-        still_timed new (are.each device there) (ap (λ (c : _). slice_get c.items device.0) clocks)
-        (ap (λ (l : _). slice_get l device.0) machines)
-        (λ w at. subst (λ l. IsIn w l ↔ IsIn w old.waiting.items) (sym waiting) ((λ i. i), (λ i. i)))
-        (omega (arith, time)) (ap (λ (l : List Timer). slice_get l device.0) timers)
-        (ap (λ (l : List Timer). slice_get l (length network.device + device.0)) timers);
-    later = subst (λ n. AreFrom n new.timers) (sym time)
-        (subst (λ l. AreFrom old.time l) (sym timers) are.later);
+        still_timed new (are.each device there) (rw clocks)
+        (rw machines)
+        (λ w at. rw waiting ((λ i. i), (λ i. i)))
+        (omega arith) (rw timers)
+        (rw timers);
+    later = rw time (rw timers are.later);
   }
 
   -- a step of none of the devices
@@ -188,13 +187,12 @@ module _ {C M : Type 0} {reading : C → ℕ → ℕ} {stands : Meaning M} {netw
     sized = ap length timers ∙ are.sized;
     each = λ device there.
         let time = c.time in
-        still_timed new (are.each device there) (ap (λ (k : _). slice_get k.items device.0) c.clocks)
-        (c.machines device.0 (λ e. omega (arith, e, there, none)))
-        (λ w at. c.waiting w (λ e. omega (arith, e, at, there, none)))
-        (omega (arith, time)) (ap (λ (l : List Timer). slice_get l device.0) timers)
-        (ap (λ (l : List Timer). slice_get l (length network.device + device.0)) timers);
-    later = subst (λ n. AreFrom n new.timers) (sym c.time)
-        (subst (λ l. AreFrom old.time l) (sym timers) are.later);
+        still_timed new (are.each device there) (rw c.clocks)
+        (c.machines device.0 (λ e. omega arith))
+        (λ w at. c.waiting w (λ e. omega arith))
+        (omega arith) (rw timers)
+        (rw timers);
+    later = rw c.time (rw timers are.later);
   }
 
   pub unchanged : (old new : State C M) → AreTimed reading stands network old → ((device : ℕ) → ChangesOnly device old new) → new.timers ≡ old.timers
@@ -227,11 +225,10 @@ module _ {C M : Type 0} (last_step : C → ℕ) (reading : C → ℕ → ℕ) (s
   -- what a state keeps does not depend on its timers
   pub sized_with : IsSized last_step network old → IsSized last_step network state
   sized_with is =
-      subst (λ s. IsSized last_step network s) (sym same)
-      (sized_so (record old { timers = state.timers }) is refl refl refl refl refl refl refl)
+      rw same (sized_so (record old { timers = state.timers }) is refl refl refl refl refl refl refl)
 
   pub running_with : IsRunning reading stands network old → IsRunning reading stands network state
-  running_with is = subst (λ s. IsRunning reading stands network s) (sym same) (record { s = is.s; notes = is.notes; is = is.is })
+  running_with is = rw same (record { s = is.s; notes = is.notes; is = is.is })
 
 -- so timers may be set when others have been
 pub may_still : {C M : Type 0} {last_step : C → ℕ} {reading : C → ℕ → ℕ}
@@ -249,22 +246,20 @@ module _ {C M : Type 0} {reading : C → ℕ → ℕ} {stands : Meaning M} {netw
       let was = ap State.time are.same in
       let now = ap State.time same in
       record {
-        same = same ∙ ap (λ (s : State C M). let k : State C M = record s { timers = new.timers } in k) are.same;
+        same = same ∙ ap (λ s. let k : State C M = record s { timers = new.timers } in k) are.same;
         sized = keyed.sets.sized ∙ are.sized;
-        later = subst (λ n. AreFrom n new.timers) (now ∙ was)
-            (keyed.sets.later (subst (λ n. AreFrom n mid.timers) (sym was) are.later));
+        later = rw (now ∙ was) at (keyed.sets.later (rw was are.later));
         each = λ other less of_it.
             elim (cases_eq other.0 device.0) [
               | inl e ↦
-                  subst (λ d. IsTimed reading stands network new.timers new d) (ap (λ (n : ℕ). let d : DeviceId = record { 0 = n } in d) (sym e))
-                  keyed.timed
+                  rw (ap (λ (n : ℕ). let d : DeviceId = record { 0 = n } in d) (sym e)) at keyed.timed
               | inr ne ↦
-                  still_timed new (are.each other (omega (arith, less, ne)) of_it)
-                  (ap (λ (s : State C M). slice_get s.clocks.items other.0) same)
-                  (ap (λ (s : State C M). slice_get s.machines.items other.0) same)
-                  (λ w at. subst (λ (s : State C M). IsIn w s.waiting.items ↔ IsIn w mid.waiting.items) (sym same) ((λ i. i), (λ i. i)))
-                  (omega (arith, now)) (keyed.sets.others other.0 (λ is. elim is [ inl e ↦ ne e | inr e ↦ omega (arith, e, of_it) ]))
+                  still_timed new (are.each other (omega arith) of_it)
+                  (rw same)
+                  (rw same)
+                  (λ w at. rw same ((λ i. i), (λ i. i)))
+                  (omega arith) (keyed.sets.others other.0 (λ is. elim is [ inl e ↦ ne e | inr e ↦ omega arith ]))
                   (keyed.sets.others (length network.device + other.0)
-                  (λ is. elim is [ inl e ↦ omega (arith, e, there) | inr e ↦ ne (omega (arith, e)) ]))
+                  (λ is. elim is [ inl e ↦ omega arith | inr e ↦ ne (omega arith) ]))
             ];
       }

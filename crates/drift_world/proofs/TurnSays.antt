@@ -20,12 +20,12 @@ module _ {C M : Type 0} {last_step : C → ℕ} {reading : C → ℕ → ℕ} {s
       → IsWell last_step reading stands network new → IfOk result (WorkSays network old new note)
       → IfOk result (TurnsTo reading stands network until old new note)
   work_turns E old until note (Ok Gives) early well says =
-      let time = says.1 in record { whole = λ s notes is. tt; says = (says.0, omega (arith, time, early), says.2); nears = tt }
+      let time = says.1 in record { whole = λ s notes is. tt; says = (says.0, omega arith, says.2); nears = tt }
   work_turns E old {new} until note (Ok GoesOn) early well says =
       let time = says.0 in
       record {
         whole = λ s notes is. tt;
-        says = (omega (arith, time, early), says.1);
+        says = (omega arith, says.1);
         nears = less_nears last_step reading stands network until old new well says.0 says.2;
       }
   work_turns E old until note (Ok Ends) early well says = absurd says

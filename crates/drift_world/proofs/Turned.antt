@@ -1,7 +1,7 @@
 -- A source is worked off: its records are put in, or the first of them is given.
 use Rattle.drift_world.proofs.{ActRecords.{both_put, one_by}, Turning.comes_first}
 use Rattle.drift_world.specs.{Stepping.TurnsPast, Turns.{IsNow, MayWork, source_place}, declared.{source.Source.Source, state.State.State}}
-use Rattle.drift_world.proofs.Words.{if◌then◌else◌, ◌++◌, ◌+◌, ◌∙◌, ◌∷◌, ◌≡◌, ArePutIn, Bool, Happening, InOrder, IsOwn, IsSomePut, Kept, List, Meaning, Network}
+use Rattle.drift_world.proofs.Words.{if◌then◌else◌, ◌++◌, ◌+◌, ◌∙◌, ◌∷◌, ◌≡◌, ArePutIn, Bool, InOrder, IsOwn, IsSomePut, Kept, List, Meaning, Network}
 use Rattle.drift_world.proofs.Words.{None, Note, NoteBody, Option, Scenario, Settled, Some, Stands, StandsAt, TurnsIn, World, [], ap, append-nil, behind}
 use Rattle.drift_world.proofs.Words.{false, happenings}
 use Rattle.drift_world.proofs.Words.{keeps, map, refl, settled_as, settled_at, subst, sym, true, units_of, world_of, ℕ}
@@ -17,12 +17,12 @@ pub one_turn : {C M : Type 0} {reading : C → ℕ → ℕ} (stands : Meaning M)
     → TurnsBy reading (keeps stands) s notes (body ∷ []) world place
     → TurnsIn reading stands network s notes world place (Some z) None
 one_turn {reading} stands network {s} {notes} {world} {place} z {body} order same turn =
-    let body_is : z.body ≡ body = ap (λ (h : Happening). h.note.body) same in
+    let body_is : z.body ≡ body = ap (λ h. h.note.body) same in
     record {
       order = order;
       first_is = same ∙ ap (settled_as s.network (happenings s.network notes) world.now) (sym body_is);
       second_is = tt;
-      by = subst (λ (b : NoteBody). TurnsBy reading (keeps stands) s notes (b ∷ []) world place) (sym body_is) turn;
+      by = rw body_is turn;
     }
 
 -- there is one, or none
@@ -59,13 +59,11 @@ module _ {C M : Type 0} {reading : C → ℕ → ℕ} {stands : Meaning M} {netw
       (behind place)
   all_put_in {first} {second} mid new turn one two late =
       let after : World C (Kept M) = record world { settled = map (settled_at network world.now) new } in
-      let put = subst
-      (λ (l : List Happening). ArePutIn s.network (happenings s.network notes) world.now (body_of first ++ body_of second) l
-      after.settled) (sym shown)
-      (both_put s.network network world.now (happenings s.network notes) first second old mid new one two
+      let put = rw (sym shown) at (both_put s.network network world.now (happenings s.network notes) first second old
+      mid new one two
       (subst InOrder shown turn.order) turn.first_is turn.second_is) in
-      subst (λ (l : List Note). StandsAt reading (keeps stands) s after l (behind place)) (append-nil notes)
-      (turn.by.then_stands after [] (IsTurn.puts late (record { none = refl; put = put; same = refl })))
+      rw (append-nil notes) at (turn.by.then_stands after []
+      (IsTurn.puts late (record { none = refl; put = put; same = refl })))
 
   -- ---- the first is given
 
@@ -74,10 +72,7 @@ module _ {C M : Type 0} {reading : C → ℕ → ℕ} {stands : Meaning M} {netw
       (put : IsSomePut second old rest) (source : is_at_source one.body ≡ true) where
     later_put : ArePutIn s.network (happenings s.network notes) world.now (body_of second) world.settled
         (map (settled_at network world.now) rest)
-    later_put = subst
-        (λ (l : List Happening). ArePutIn s.network (happenings s.network notes) world.now (body_of second) l
-        (map (settled_at network world.now) rest)) (sym shown)
-        (one_by s.network network world.now (happenings s.network notes) second old rest put
+    later_put = rw shown (one_by s.network network world.now (happenings s.network notes) second old rest put
         (subst InOrder shown turn.order) turn.second_is)
 
     -- it is the next
@@ -103,8 +98,8 @@ module _ {C M : Type 0} {reading : C → ℕ → ℕ} {stands : Meaning M} {netw
         let launched = launches next_first turn.first_is in
         let settled : new.settled ≡ map (settled_at network world.now) rest = ap World.settled same in
         turn.by.then_stands new (note ∷ []) (IsTurn.gives one.body (body_of second) refl source (record {
-          note = ap (λ (n : Note). n ∷ []) (is ∙ ap
-              (λ (k : ℕ). let n : Note = record { number = k + 1; time = units_of world.now; body = one.body } in n)
+          note = rw (is ∙ ap
+              (λ k. let n : Note = record { number = k + 1; time = units_of world.now; body = one.body } in n)
               next_first.given);
           launched = record {
             wires = launched.wires;
@@ -112,11 +107,9 @@ module _ {C M : Type 0} {reading : C → ℕ → ℕ} {stands : Meaning M} {netw
             waiting = launched.waiting;
             stored = launched.stored;
           };
-          put = subst
-              (λ (l : List Happening). ArePutIn s.network (happenings s.network notes) world.now (body_of second)
-              world.settled l) (sym settled) later_put;
+          put = rw settled later_put;
           same = same ∙ ap
-              (λ (l : List Happening). let w : World C (Kept M) = record world {
+              (λ l. let w : World C (Kept M) = record world {
                 wires = new.wires;
                 ports = new.ports;
                 waiting = new.waiting;

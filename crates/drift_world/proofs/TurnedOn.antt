@@ -7,7 +7,7 @@ use Rattle.drift_world.proofs.Words.{list_any, never_self, numbered_in, parted, 
 use Rattle.{net_plan.specs.declared.event.Event.Event, run_law.{proofs.runs.Places.before_or_not, specs.records.{Causes.IsOfThisTime, Order.AllBefore}}}
 use Rattle.{run_law.specs.runs.DueRecords.IsEventRecord, std.proofs.lemmas.Bool.{and_from, cases_Bool}, tte_units.proofs.general_lemmas.Bools.same_tests}
 use Rattle.std.specs.List.{slice_get}
-use Rattle.world_law.{proofs.{runs.Applies.{event_cause, event_place}, steps_lemmas.steps.AppliedParts.before_others}, specs.world.World.{Befell, has_outcome}}
+use Rattle.world_law.{proofs.{runs.Applies.{event_cause, event_place}, steps_lemmas.steps.AppliedParts.before_others}, specs.world.World.{has_outcome}}
 use Rattle.net_plan.specs.declared.event.What.TheVariants as events
 use Rattle.run_law.specs.declared.note.NoteBody.TheVariants as kinds
 
@@ -18,7 +18,7 @@ rises s hs founded front [] is = tt
 rises s hs founded front (x ∷ xs) is = (
   λ y there.
       let split = parted y xs there in
-      let whole : hs ≡ (front ++ x ∷ split.0) ++ y ∷ split.1 = is ∙ ap (λ (l : List Happening). front ++ x ∷ l) split.2
+      let whole = is ∙ ap (λ l. front ++ x ∷ l) split.2
       ∙ sym (append_assoc front (x ∷ split.0) (y ∷ split.1)) in
       (founded (front ++ x ∷ split.0) split.1 y whole).0 x (in_right x front (x ∷ split.0) (inl refl)),
   rises s hs founded (front ++ x ∷ []) xs (is ∙ sym (append_assoc front (x ∷ []) xs)),
@@ -40,8 +40,8 @@ split_at (x ∷ xs) p up =
           record {
             front = x ∷ rest.front;
             back = rest.back;
-            whole = ap (λ (l : List Happening). x ∷ l) rest.whole;
-            before = λ y there. elim there [ inl e ↦ subst (λ h. IsBefore (place_of h) p) (sym e) sooner | inr inside ↦ rest.before y inside ];
+            whole = rw rest.whole;
+            before = λ y there. elim there [ inl e ↦ rw e sooner | inr inside ↦ rest.before y inside ];
             none = rest.none;
           }
       | inr later ↦
@@ -52,7 +52,7 @@ split_at (x ∷ xs) p up =
             before = λ y there. absurd there;
             none = λ y there b.
                 elim there [
-                  | inl e ↦ later (subst (λ h. IsBefore (place_of h) p) e b)
+                  | inl e ↦ later (rw e at b)
                   | inr inside ↦ later (chain (place_of x) (place_of y) p (up.0 y inside) b)
                 ];
           }
@@ -82,11 +82,11 @@ module _ {C M : Type 0} (reading : C → ℕ → ℕ) (stands : Meaning M) (s : 
   fell : list_any (λ b. turns_on device b.what) world.befell ≡ true → is_turned_on_at s device world.now ≡ true
   unfolding hs
   fell on =
-      let found = any_in (λ (b : Befell). turns_on device b.what) world.befell on in
+      let found = any_in (λ b. turns_on device b.what) world.befell on in
       let b = found.0 in
       let real = old.untold.real b found.1 in
       let h = real.1 in
-      let there : IsIn h hs = numbered_in hs b.number h real.2.there in
+      let there = numbered_in hs b.number h real.2.there in
       let split = parted h hs there in
       let due = (old.run.founded split.0 split.1 h split.2).1 in
       let r : IsEventRecord s.events h.note.time real.0 b.what = subst (IsCaused s split.0 h.note.time) real.3 due.cause in
@@ -124,12 +124,12 @@ module _ {C M : Type 0} (reading : C → ℕ → ℕ) (stands : Meaning M) (s : 
       } in
       let found = old.run.full split.front split.back y split.whole split.before split.none due (old.befallen.told i e is) in
       let m = found.0 in
-      let at_place : place_of m ≡ place = found.2 in
+      let at_place = found.2 in
       let time_is : time_of m ≡ world.now = ap first_of at_place ∙ now_is in
       let soon : IsBefore (place_of m) (world.now ∷ 2 ∷ []) = subst (λ q. IsBefore q (world.now ∷ 2 ∷ [])) (sym at_place)
       (inr (now_is, inl (omega arith))) in
       elim (before_others m world.now soon) [
-        | inl past ↦ absurd (omega (arith, past, time_is))
+        | inl past ↦ absurd (omega arith)
         | inr here ↦
             let parts = parted m hs found.1 in
             let m_due = (old.run.founded parts.0 parts.1 m parts.2).1 in
@@ -137,8 +137,8 @@ module _ {C M : Type 0} (reading : C → ℕ → ℕ) (stands : Meaning M) (s : 
             let r = c.3 in
             let lines : c.0 ≡ i + 1 = ap third_of (sym (event_place m c.0 c.1 c.2) ∙ at_place) in
             let line_is = r.line_is in
-            let own : r.event ≡ e = some_same r.event e (slice_get s.events i)
-            (subst (λ (n : ℕ). slice_get s.events n ≡ Some r.event) (omega (arith, lines, line_is)) r.is) is in
+            let own = some_same r.event e (slice_get s.events i)
+            (subst (λ n. slice_get s.events n ≡ Some r.event) (omega arith) r.is) is in
             let of = in_get hs m found.1 in
             record {
               number = suc of.0;
@@ -157,7 +157,7 @@ module _ {C M : Type 0} (reading : C → ℕ → ℕ) (stands : Meaning M) (s : 
       let both = and_parts (turns_on device e.what) (amount e.time == world.now) found.2 in
       let at = in_get s.events e found.1 in
       let it = told at.0 e at.1 (eqb-true (amount e.time) world.now both.1) in
-      in_any (λ (b : Befell). turns_on device b.what) world.befell (record { number = it.number; what = e.what })
+      in_any (λ b. turns_on device b.what) world.befell (record { number = it.number; what = e.what })
       (old.untold.all (unsettled it.this) it.number it.line e.what it.h it.this it.body (on_has_outcome device e.what both.0)) both.0
 
   -- the device is turned on at this instant exactly where what befell turns it on

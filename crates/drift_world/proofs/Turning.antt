@@ -4,9 +4,9 @@ use Rattle.drift_world.proofs.{Foremost.timers_later, Rising.settled_in_order, W
 use Rattle.drift_world.{proofs.{AtSource.{IsSourceRank, at_rank, is_late, rank_most, ranks}, Sources.{of_world, sooner_too}}, specs.{Stepping.IsRekeyed, declared.{source.Source.Source, state.State.State}}}
 use Rattle.drift_world.proofs.{Timings.{passed, rekeyed, unchanged}, Words.{numbers_of, option_map_or, own_place, place_of, rank, refl, settled_at, subst, sym, true, world_of, ℕ}}
 use Rattle.drift_world.proofs.Words.{◌++◌, ◌+◌, ◌<◌, ◌^◌, ◌∙◌, ◌∷◌, ◌≡◌, ◌≤◌, AreFirsts, AreComing, AreTimed, Bool, ChangesOnly, ComesFirst, DeviceId}
-use Rattle.drift_world.proofs.Words.{Content, StandsOn, StandsWith, Waits, at_port, false, on_wire, waiting_as}
+use Rattle.drift_world.proofs.Words.{StandsOn, StandsWith, at_port, on_wire, waiting_as}
 use Rattle.world_law.specs.world.World.{is_at_source}
-use Rattle.{std.specs.List.filter_map, world_state.specs.declared.queue.Entry.Entry}
+use Rattle.{std.specs.List.filter_map}
 use Rattle.drift_world.proofs.Words.{SlotTimer, DueAt, Err, Happening, HasItsOctets, HasNothingBefore, IsAt, IsBefore, IsIn, IsRunning, IsScenarioRun, IsSound}
 use Rattle.drift_world.proofs.Words.{IsWell, List, Meaning, Network, NoSourceBefore, Note, Ok, OnErr, OnOk, Option, Result, Scenario, Settled, SourceFirst}
 use Rattle.run_law.specs.records.Ranks.{key}
@@ -23,7 +23,7 @@ use Rattle.std.proofs.Common.{All, slice_get}
 pub ranked_at : {now rank : ℕ} (place : DueAt) → place.at ≡ now → place.rank ≡ rank
     → now ∷ rank ∷ place.device ∷ place.link ∷ place.cause ∷ [] ≡ numbers_of place
 ranked_at {rank} place at is =
-    ap (λ (t : ℕ). t ∷ rank ∷ place.device ∷ place.link ∷ place.cause ∷ []) (sym at)
+    ap (λ t. t ∷ rank ∷ place.device ∷ place.link ∷ place.cause ∷ []) (sym at)
     ∙ ap (λ (r : ℕ). place.at ∷ r ∷ place.device ∷ place.link ∷ place.cause ∷ []) (sym is)
 
 -- the place of a source of the present instant
@@ -108,14 +108,12 @@ module _ {C M : Type 0} {last_step : C → ℕ} {reading : C → ℕ → ℕ} {s
       let shape = shaped reading stands network state source may.foremost.there now in
       let after = none_sooner network state.time state.settled.items w (settled_in_order old)
       (λ z others whole. not_ahead network z shape (may.first z others whole)) in
-      let given = old.given in
-      let numbers = may.room.numbers in
       let many = length-map state.settled.items (settled_at network state.time) in
       record {
         none = nothing_comes_before reading (keeps stands) s (world_of network state) notes w old after
             (of_world stands old may.well.sound.sized may.well.sound.under_way may.foremost.nothing);
         after = after;
-        room = omega (arith, given, numbers, many);
+        room = omega (arith, old.given, may.room.numbers, many);
       }
 
   pub is_at : {state : State C M} {source : Source} → MayWork last_step reading stands network state source → IsNow source
@@ -135,7 +133,7 @@ module _ {C M : Type 0} {last_step : C → ℕ} {reading : C → ℕ → ℕ} {s
   not_own {state} {source} is well same =
       let own : is_at_source is.first.body ≡ true = at_rank is.first.body (subst IsSourceRank same (ranks source)) in
       let late = is_late stands state is.whole well.running.is in
-      let bad : false ≡ true = sym late ∙ own in cc
+      cc
 
   -- where what is settled comes first, it may be given
   pub may_give_first : {state : State C M} {source : Source} → IsWell last_step reading stands network state
@@ -148,8 +146,7 @@ module _ {C M : Type 0} {last_step : C → ℕ} {reading : C → ℕ → ℕ} {s
     before = elim (cases_lt (rank is.first.body) (source_rank source)) [
       | inl lt ↦ nothing_ahead is.first foremost lt
       | inr le ↦
-          let least = is.ahead in
-          absurd (not_own is well (omega (arith, le, least)))
+          absurd (not_own is well (omega (arith, le, is.ahead)))
     ];
   }
 
@@ -166,7 +163,7 @@ module _ {C M : Type 0} {last_step : C → ℕ} {reading : C → ℕ → ℕ} {s
       (of_world stands old sound.sized sound.under_way nothing)
     where
       first_is : (x : Settled) (rest : List Settled) → state.settled.items ≡ x ∷ rest → x ≡ z
-      first_is x rest is = let e : x ∷ rest ≡ z ∷ others = sym is ∙ whole in cc
+      first_is x rest is = cc
 
   pub gives_first : {state : State C M} (may : MayGive reading stands network state) (s : Scenario) {notes : List Note} → IsSound last_step network state
       → (old : Stands reading (keeps stands) s (world_of network state) notes)
@@ -246,8 +243,7 @@ module _ {C M : Type 0} {last_step : C → ℕ} {reading : C → ℕ → ℕ} {s
     well = step.well;
     after = step.after;
     stands_then = λ s notes is.
-        subst (λ l. Stands reading (keeps stands) s (world_of network new) l) (sym (append-nil notes))
-        (step.still s notes is);
+        rw (sym (append-nil notes)) at (step.still s notes is);
   }
 
   -- a turn behind a step
@@ -287,10 +283,7 @@ module _ {C M : Type 0} {last_step : C → ℕ} {reading : C → ℕ → ℕ} {s
     well = passed.well;
     after = passed_after passed;
     stands_then = λ s notes is.
-        subst (λ (l : List Note). Stands reading (keeps stands) s (world_of network new) (notes ++ l))
-        (sym (none_given turn passed.says))
-        (subst (λ (l : List Note). Stands reading (keeps stands) s (world_of network new) l) (sym (append-nil notes))
-        (passed.still s notes is));
+        rw (sym (none_given turn passed.says)) at (rw (sym (append-nil notes)) at (passed.still s notes is));
   }
     where
       none_given : (turn : Turn) → PassSays old new until turn → given_in {E = E} (Ok turn) note ≡ []
@@ -313,28 +306,28 @@ module _ {C M : Type 0} {last_step : C → ℕ} {reading : C → ℕ → ℕ} {s
         clocks = ap State.clocks same;
         time = ap State.time same;
         ended = ap State.ended same;
-        machines = λ i other. ap (λ (t : State C M). slice_get t.machines.items i) same;
+        machines = λ i other. ap (λ t. slice_get t.machines.items i) same;
         waiting = λ w other. (
-          λ there. subst (λ (l : List Waits). IsIn w l) waiting there,
-          λ there. subst (λ (l : List Waits). IsIn w l) (sym waiting) there,
+          λ there. rw (sym waiting) there,
+          λ there. rw (sym waiting) at there,
         );
       })
       (ap State.timers same) (ap State.given same)
       (λ s notes is.
-      subst (λ (t : State C M). Stands reading (keeps stands) s (world_of network t) notes) (sym same)
+      subst (λ t. Stands reading (keeps stands) s (world_of network t) notes) (sym same)
       (subst
-      (λ (l : List (Entry Content)). Stands reading (keeps stands) s
+      (λ l. Stands reading (keeps stands) s
       (record (world_of network mid) { wires = filter_map (on_wire network) l; ports = filter_map at_port l }) notes)
       (sym entries)
       (subst
-      (λ (l : List Waits). Stands reading (keeps stands) s
+      (λ l. Stands reading (keeps stands) s
       (record (world_of network old) {
         waiting = map waiting_as l;
         settled = map (settled_at network old.time) new.settled.items;
       }) notes)
       (sym waiting)
       (subst
-      (λ (l : List Settled). Stands reading (keeps stands) s
+      (λ l. Stands reading (keeps stands) s
       (record (world_of network old) { settled = map (settled_at network old.time) l }) notes)
       (sym items) is))))
 
@@ -347,7 +340,7 @@ module _ {C M : Type 0} {last_step : C → ℕ} {reading : C → ℕ → ℕ} {s
       let nothing = may.foremost.nothing in
       let room = may.room in
       let roomy : State C M = record old { waiting = new.waiting } in
-      subst (λ (t : State C M). MayWork last_step reading stands network t (Arrival place)) (sym same)
+      subst (λ t. MayWork last_step reading stands network t (Arrival place)) (sym same)
       (record {
         range = may.range;
         well = (roomier roomy may.well refl refl items refl).well;
@@ -362,7 +355,7 @@ module _ {C M : Type 0} {last_step : C → ℕ} {reading : C → ℕ → ℕ} {s
           };
           nothing = record {
             under_way = nothing.under_way;
-            waiting = λ w clock is. nothing.waiting w clock (subst (λ (l : List Waits). IsIn w l) items is);
+            waiting = λ w clock is. nothing.waiting w clock (rw (sym items) is);
             acting = nothing.acting;
             befell = nothing.befell;
             clocks = nothing.clocks;
@@ -386,7 +379,8 @@ module _ {C M : Type 0} {last_step : C → ℕ} {reading : C → ℕ → ℕ} {s
 
 pub passed_same : {C M : Type 0} (old new : State C M) (time : ℕ) (early : Bool) → new ≡ record old { time = time; early = early }
     → new ≡ record old { time = new.time; early = new.early }
-passed_same {C} {M} old new time early same = same ∙ ap (λ (t : State C M). let k : State C M = record old { time = t.time; early = t.early } in k) (sym same)
+passed_same {C} {M} old new time early same = same ∙ ap (λ t. let k : State C M =
+    record old { time = t.time; early = t.early } in k) (sym same)
 
 -- a source that is not later is of the present instant
 pub now_so : (source : Source) → ((time : ℕ) → source ≡ Later time → ⊥) → IsNow source
@@ -402,20 +396,24 @@ either_end (Err e) P Q R ok err f g = g err
 pub err_open : {C M : Type 0} (E : Type 0) (old new : State C M) (result : Result Turn E) (until : ℕ) → old.time < until
     → OnErr result (new.time ≡ old.time) → OnErr result (new.time < until)
 err_open E old new (Ok t) until early same = tt
-err_open E old new (Err e) until early same = omega (arith, early, same)
+err_open E old new (Err e) until early same = omega arith
 
 -- where time passes, what is first stays so, and the room is as it was
 pub firsts_passed : {C M : Type 0} {old : State C M} {new : State C M} {place : Option DueAt} {due : Option SlotTimer}
     → new ≡ record old { time = new.time; early = new.early } → AreFirsts old place due → AreFirsts new place due
 firsts_passed {place} {due} same are =
-    subst (λ t. AreFirsts t place due) (sym same)
-    (record { some_place = are.some_place; no_place = are.no_place; some_due = are.some_due; no_due = are.no_due })
+    rw same (record {
+      some_place = are.some_place;
+      no_place = are.no_place;
+      some_due = are.some_due;
+      no_due =
+          are.no_due;
+    })
 
 pub room_passed : {C M : Type 0} {network : Network} {old : State C M} {new : State C M}
     → new ≡ record old { time = new.time; early = new.early } → HasRoom network old → HasRoom network new
 room_passed {network} same room =
-    subst (λ t. HasRoom network t) (sym same)
-    (record { places = room.places; numbers = room.numbers; launches = room.launches })
+    rw same (record { places = room.places; numbers = room.numbers; launches = room.launches })
 
 -- ---- one turn after the other
 

@@ -1,5 +1,5 @@
 -- What a device has to do, and where its acts lead.
-use Rattle.std.specs.Prelude.{◌++◌, ◌+◌, ◌<ℤ◌, ◌<◌, ◌^◌, ◌↔◌, ◌∷◌, ◌≡◌, ◌≤◌, All, List, Option, Some, [], false, pos}
+use Rattle.std.specs.Prelude.{◌++◌, ◌+◌, ◌<ℤ◌, ◌<◌, ◌^◌, ◌↔◌, ◌∷◌, ◌≡◌, All, List, Option, Some, [], false, pos}
 use Rattle.std.specs.Prelude.{slice_get, ℕ}
 use Rattle.drift_world.specs.{Parts.{IsFirstPart, IsNoSooner, IsNoSoonerLeft, part_place, part_rank}, Showing.IsOf}
 use Rattle.drift_world.specs.declared.{part.{Part.Part, ToDo.{ToDo, TheVariants.{Next, Now}}}, state.State.State}

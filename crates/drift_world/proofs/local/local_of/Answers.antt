@@ -11,16 +11,17 @@ read_at xs i {x} lt is = slice_get-get_or xs i x lt ∙ ap Some (sym is)
 -- two numbers of 64 bits are added in 128
 summed : {x y r a : ℤ} → x ≡ r → y ≡ a → FitsSigned w64 r → FitsSigned w64 a
     → to_z w128 (of_z w128 (to_z w128 (of_z w128 x) +ℤ to_z w128 (of_z w128 y))) ≡ r +ℤ a
-summed same0 same1 fits0 fits1 = omega (arith, ints, same0, same1, fits0, fits1)
+summed same0 same1 fits0 fits1 = omega (arith, ints)
 
 wide : (v r a : ℤ) → v ≡ r +ℤ a → FitsSigned w64 r → FitsSigned w64 a → IsWide v
-wide v r a is fits0 fits1 = record { low = omega (arith, ints, is, fits0, fits1); high = omega (arith, ints, is, fits0, fits1) }
+wide v r a is fits0 fits1 = record { low = omega (arith, ints); high = omega (arith, ints) }
 
 sound_shown : {broken : Bool} {state : DeviceState} (reading : ℕ) (adjustment : Units) {r a : ℤ} → broken ≡ false → Synchronised ≡ state → r ≡ pos reading
     → a ≡ adjustment.0 → Some (r +ℤ a) ≡ local_shown broken state reading adjustment
 sound_shown {broken} reading adjustment {a} sound in_step reads adjusts =
-    ap (λ v. Some (v +ℤ a)) reads ∙ ap (λ v. Some (pos reading +ℤ v)) adjusts
-    ∙ ap (λ b. local_shown b Synchronised reading adjustment) (sym sound) ∙ ap (λ s. local_shown broken s reading adjustment) in_step
+    rw reads (ap (λ v. Some (pos reading +ℤ v)) adjusts
+    ∙ ap (λ b. local_shown b Synchronised reading adjustment) (sym sound) ∙ ap
+    (λ s. local_shown broken s reading adjustment) in_step)
 
 none_shown : (broken : Bool) (state : DeviceState) (reading : ℕ) (adjustment : Units) → (state ≡ Synchronised → ⊥)
     → None ≡ local_shown broken state reading adjustment
@@ -42,11 +43,11 @@ returns-then-index-clause-shows g c =
     let broken = z.broken in
     record {
       clock = c.index-clock.result.now;
-      clock_is = read_at w.clocks.items i (omega (arith, there, clocks)) c.index-clock.ensures;
+      clock_is = read_at w.clocks.items i (omega arith) c.index-clock.ensures;
       kept = c.index-kept.result.now;
-      kept_is = read_at w.machines.items i (omega (arith, there, machines)) c.index-kept.ensures;
+      kept_is = read_at w.machines.items i (omega arith) c.index-kept.ensures;
       broken = c.index.result.now;
-      broken_is = read_at w.broken.items i (omega (arith, there, broken)) c.index.ensures;
+      broken_is = read_at w.broken.items i (omega arith) c.index.ensures;
       is = λ network node k. elim c.then-index.branch [
         | then-index-via-then-index v ↦ ap (λ b. local_shown b node.standing.state reading node.standing.adjustment) (sym v.if-index.true)
         | then-index-via-else-index+then-ne v ↦ none_shown c.index.result.now node.standing.state reading node.standing.adjustment
@@ -73,14 +74,14 @@ returns g c =
     record {
       shows = record {
         clock = c.index-clock.result.now;
-        clock_is = read_at w.clocks.items i (omega (arith, there, clocks)) c.index-clock.ensures;
+        clock_is = read_at w.clocks.items i (omega arith) c.index-clock.ensures;
         kept = c.index-kept.result.now;
-        kept_is = read_at w.machines.items i (omega (arith, there, machines)) c.index-kept.ensures;
+        kept_is = read_at w.machines.items i (omega arith) c.index-kept.ensures;
         broken = c.index.result.now;
-        broken_is = read_at w.broken.items i (omega (arith, there, broken)) c.index.ensures;
+        broken_is = read_at w.broken.items i (omega arith) c.index.ensures;
         is = λ network node k. ap Some sum ∙ sound_shown reading node.standing.adjustment c.if-index.false
             (sym in_step ∙ c.state.ensures network c.args.device node k) c.read-reading.ensures
-            (ap (λ (u : Units). u.0) (c.adjustment.ensures network c.args.device node k));
+            (rw (c.adjustment.ensures network c.args.device node k));
       };
       range = wide _ r a sum fits0 fits1;
     }

@@ -3,10 +3,10 @@ use Rattle.drift_world.proofs.{ActRecords.{AreProper, IsFine}, ActSteps.{never_b
 use Rattle.drift_world.proofs.{AtSource.at_rank, Fits.{all_put_some, have_octets, sized_so}}
 use Rattle.drift_world.proofs.{OwnPlaces.{no_change, no_shelf, no_waiter}, Showings.shows_of}
 use Rattle.drift_world.proofs.Turned.{all_put_in, first_given, next_first}
-use Rattle.world_law.specs.{source.Sources.task_place, steps.Acting.task_of, world.{Calls.IsStateOf, World.is_at_source}}
+use Rattle.world_law.specs.{source.Sources.task_place, steps.Acting.task_of, world.{World.is_at_source}}
 use Rattle.drift_world.proofs.Words.{◌+◌, ◌∙◌, ◌≡◌, ◌≤◌, ComesFirst, HasActed, HasItsOctets, IsSomeAnd}
 use Rattle.drift_world.proofs.Words.{List, None, Note, Option, Scenario, Settled, Some, Stands, TurnsIn, ap, arith}
-use Rattle.drift_world.proofs.Words.{World, happenings, inl, is_set, keeps, length, length-set, moment_of, rank, refl}
+use Rattle.drift_world.proofs.Words.{happenings, inl, is_set, keeps, length, length-set, moment_of, rank, refl}
 use Rattle.drift_world.proofs.Words.{slice_get_read, slice_set, subst, sym, true, world_of, ℕ}
 use Rattle.{drift_world.proofs.state.State.act_once.Goals.After-outcomes_of-outcomes, world_law.proofs.giving.GivenParts.some_same}
 use Rattle.std.proofs.Common.{false, is_some, slice_get}
@@ -19,7 +19,8 @@ held : (g : given.Over) (c : After-outcomes_of-outcomes g) → slice_get c.args.
 held g c =
     let lt = c.requires.there in
     let many = c.requires.sound.sized.machines in
-    slice_get_read c.args.self.now.machines.items (length c.args.self.now.machines.items) c.args.device.0 c.index_mut.result.now refl (omega (arith, lt, many))
+    slice_get_read c.args.self.now.machines.items (length c.args.self.now.machines.items) c.args.device.0
+    c.index_mut.result.now refl (omega arith)
     c.index_mut.ensures.value
 
 pub act-requires : goal.act-requires
@@ -27,7 +28,7 @@ act-requires g c =
     let lt = c.requires.there in
     let many = c.requires.sound.sized.machines in
     let read = slice_get_read c.args.self.now.machines.items (length c.args.self.now.machines.items) c.args.device.0 c.index_mut.result.now refl
-    (omega (arith, lt, many)) c.index_mut.ensures.value in
+    (omega arith) c.index_mut.ensures.value in
     asked_to_act g.C.Clock.reading g.M.Machine.stands c.args.network.now c.args.self.now c.args.part c.args.device c.requires.there read
     c.requires.due c.requires.above c.requires.comes c.args.moment c.requires.moment
 
@@ -36,7 +37,7 @@ returns-in_default g c =
     let lt = c.requires.there in
     let many = c.requires.sound.sized.machines in
     let read = slice_get_read c.args.self.now.machines.items (length c.args.self.now.machines.items) c.args.device.0 c.index_mut.result.now refl
-    (omega (arith, lt, many)) c.index_mut.ensures.value in
+    (omega arith) c.index_mut.ensures.value in
     absurd (never_broken g.C.Clock.reading g.M.Machine.stands c.args.network.now c.args.self.now c.args.part c.args.device c.requires.there read
     c.requires.due c.requires.above c.requires.comes
     c.in_default.ensures.none)
@@ -47,22 +48,19 @@ acted_at : (g : given.Over) (c : After-outcomes_of-outcomes g) (s : Scenario) (n
     → HasActed (keeps g.M.Machine.stands) s.network c.args.device (moment_of s c.args.device c.args.self.now.time) c.in-Some.act c.index_mut.result.now
     c.act.new.self
 acted_at g c s notes old =
-    subst (λ m. HasActed (keeps g.M.Machine.stands) s.network c.args.device m c.in-Some.act c.index_mut.result.now c.act.new.self)
-    (c.requires.moment s (shows_of c.args.self.now old))
-    (c.in-Some.ensures.acted s.network c.args.device)
+    rw (c.requires.moment s (shows_of c.args.self.now old)) at (c.in-Some.ensures.acted s.network c.args.device)
 
 pub outcomes_of-outcomes-requires-clause-row : goal.outcomes_of-outcomes-requires-clause-row
 outcomes_of-outcomes-requires-clause-row g c =
     let lt = c.requires.there in
     let many = c.requires.sound.sized.machines in
     let read = slice_get_read c.args.self.now.machines.items (length c.args.self.now.machines.items) c.args.device.0 c.index_mut.result.now refl
-    (omega (arith, lt, many)) c.index_mut.ensures.value in
+    (omega arith) c.index_mut.ensures.value in
     let at = c.requires.comes in
     row_within g.C.Clock.reading g.M.Machine.stands c.args.network.now c.args.self.now c.args.part c.args.device c.requires.there read c.requires.due
     c.requires.above at c.in-Some.act c.act.new.self
-    (subst (λ m. HasActed (keeps g.M.Machine.stands) at.s.network c.args.device m c.in-Some.act c.index_mut.result.now c.act.new.self)
-    (c.requires.moment at.s (shows_of c.args.self.now at.is))
-    (c.in-Some.ensures.acted at.s.network c.args.device))
+    (rw (c.requires.moment at.s (shows_of c.args.self.now at.is)) at (c.in-Some.ensures.acted at.s.network
+    c.args.device))
 
 -- its records are those of the law
 own : (g : given.Over) (c : After-outcomes_of-outcomes g) → let at = c.requires.comes in
@@ -92,31 +90,28 @@ turned g c {s} {notes} {old} first =
     let w = c.args.self.now in
     let lt = c.requires.there in
     let many = c.requires.sound.sized.machines in
-    let network = c.args.network.now in
     let device = c.args.device in
-    let K = g.C.Clock in
     let stands = g.M.Machine.stands in
     let machine = c.index_mut.result.now in
     let after = c.act.new.self in
     let was = slice_get_read w.machines.items (length w.machines.items) device.0 c.index.result.now refl
-    (omega (arith, lt, many)) c.index.ensures in
-    let set = is_set w.machines.items device.0 after (omega (arith, lt, many)) in
+    (omega arith) c.index.ensures in
+    let set = is_set w.machines.items device.0 after (omega arith) in
     let of = shows_of w old in
-    let same : c.index.result.now ≡ machine = some_same _ _ _ was (held g c) in
+    let same = some_same _ _ _ was (held g c) in
     let longer = length-set w.machines.items device.0 after in
-    let now_is : c.index-2.result.now ≡ after = some_same _ _ _
+    let now_is = some_same _ _ _
     (slice_get_read (slice_set w.machines.items device.0 after) (length (slice_set w.machines.items device.0 after))
     device.0
-    c.index-2.result.now refl (omega (arith, lt, many, longer)) c.index-2.ensures) set.there in
-    acted_turns K.reading stands network w c.args.part device lt (held g c) c.requires.due c.requires.above
+    c.index-2.result.now refl (omega arith) c.index-2.ensures) set.there in
+    acted_turns g.C.Clock.reading stands c.args.network.now w c.args.part device lt (held g c) c.requires.due
+    c.requires.above
     c.shown-was.result.state
     c.shown-is.result.state c.shown-was.result.adjustment c.shown-is.result.adjustment c.in-Some.act
     c.outcomes_of-outcomes.result _ set s notes old first
     (acted_at g c s notes old)
-    (subst (λ m. IsStateOf (keeps stands) s.network device m c.shown-was.result.state c.shown-was.result.adjustment) same
-    (c.shown-was.ensures s.network device))
-    (subst (λ m. IsStateOf (keeps stands) s.network device m c.shown-is.result.state c.shown-is.result.adjustment) now_is
-    (c.shown-is.ensures s.network device))
+    (rw same at (c.shown-was.ensures s.network device))
+    (rw now_is at (c.shown-is.ensures s.network device))
     (c.outcomes_of-outcomes.ensures s
     (record { same = of.same; clocks = of.clocks; broken = of.broken; ways = of.ways }))
 
@@ -127,7 +122,7 @@ others : (g : given.Over) (c : After-outcomes_of-outcomes g) (i : ℕ) → (i �
 others g c =
     let lt = c.requires.there in
     let many = c.requires.sound.sized.machines in
-    (is_set c.args.self.now.machines.items c.args.device.0 c.act.new.self (omega (arith, lt, many))).same
+    (is_set c.args.self.now.machines.items c.args.device.0 c.act.new.self (omega arith)).same
 
 -- ---- none of its records stands where it is done
 
@@ -169,7 +164,7 @@ returns-then-not-is_at_source-clause-goes_on g c = λ no.
     let here = (goal.at.returns-then-not-is_at_source-clause-goes_on g c).After-outcomes_of-outcomes in
     let put = c.put_both.ensures in
     let late = c.is_at_source.ensures.no c.if-not-is_at_source.true in
-    let set = is_set w.machines.items device.0 after (omega (arith, lt, many)) in
+    let set = is_set w.machines.items device.0 after (omega arith) in
     record {
       same = refl;
       above = above_then K.reading stands network w c.args.part device lt (held g here) c.requires.due
@@ -184,10 +179,6 @@ returns-then-not-is_at_source-clause-goes_on g c = λ no.
           (acted_at g here s notes was)
           (c.outcomes_of-outcomes.ensures s
           (record { same = of.same; clocks = of.clocks; broken = of.broken; ways = of.ways })) in
-          let world : World _ _ = record (world_of c.args.network.now w) {
-            early = false;
-            machines = slice_set w.machines.items c.args.device.0 c.act.new.self;
-          } in
           let at = all_put_in w.settled.items refl put.0 c.put_both.new.settled.items
           (turned g here first) put.1 put.2
           (acts_late K.reading stands network w c.args.part device lt (held g here) c.requires.due
@@ -202,14 +193,13 @@ returns-then-not-is_at_source-clause-goes_on g c = λ no.
           c.in-Some.act after left (acted_at g here)
           (λ s notes old.
           let of = shows_of w old in
-          left_in {reading = K.reading} stands {network = network} device left is_left {s = s}
+          left_in stands device left is_left
           (record { same = of.same; clocks = of.clocks; broken = of.broken; ways = of.ways }) set.there);
       acted = λ s notes kept old there. (
         c.in-Some.act,
         after,
         set.there,
-        subst (λ m. HasActed (keeps stands) s.network device (moment_of s device w.time) c.in-Some.act m after)
-            (some_same _ _ _ (held g here) there) (acted_at g here s notes old),
+        rw (some_same _ _ _ (held g here) there) at (acted_at g here s notes old),
       );
     }
 
@@ -221,7 +211,7 @@ some_of (Some z) low = refl
 
 -- it is of the rank of an act
 low_of : {o : Option Settled} {z : Settled} → o ≡ Some z → IsSomeAnd o (λ x. rank x.body ≤ 6) → rank z.body ≤ 6
-low_of is low = subst (λ o. IsSomeAnd o (λ x. rank x.body ≤ 6)) is low
+low_of is low = rw is at low
 
 -- it has its octets, and stands where its source does
 fine_of : (g : given.Over) (c : After-outcomes_of-outcomes g) {one : Settled}
@@ -233,10 +223,10 @@ source_of : (one : Settled) → 4 ≤ rank one.body → rank one.body ≤ 6 → 
 source_of one least most =
     at_rank one.body
     (record {
-      least = omega (arith, least);
-      no_change = λ e. omega (arith, e, most);
+      least = omega arith;
+      no_change = λ e. omega arith;
       either =
-          inl (omega (arith, most));
+          inl (omega arith);
     })
 
 -- so it is worked off, where this is its first record
@@ -253,14 +243,7 @@ turned_first : (g : given.Over) (c : After-outcomes_of-outcomes g) {one : Settle
     (task_place s.network c.args.self.now.time c.args.device (task_of c.in-Some.act)) (Some one)
     c.outcomes_of-outcomes.result.second
 turned_first g c is {s} {notes} {old} first =
-    subst (λ o. TurnsIn g.C.Clock.reading g.M.Machine.stands c.args.network.now s notes
-    (record (world_of c.args.network.now c.args.self.now) {
-      early = false;
-      machines = slice_set c.args.self.now.machines.items c.args.device.0 c.act.new.self;
-    })
-    (task_place s.network c.args.self.now.time c.args.device (task_of c.in-Some.act)) o
-    c.outcomes_of-outcomes.result.second) is
-    (turned g c first)
+    rw is at (turned g c first)
 
 pub unwrap-own-requires : goal.unwrap-own-requires
 unwrap-own-requires g c = some_of c.outcomes_of-outcomes.result.first
@@ -291,19 +274,14 @@ give_first-requires-clause-next g c =
     let at = c.requires.comes in
     let w = c.args.self.now in
     let here = (goal.at.give_first-requires-clause-next g c).After-outcomes_of-outcomes in
-    let one = c.unwrap-own.result in
     let turn = turned_first g here c.unwrap-own.ensures at.first in
     let least = (fine_of g here c.unwrap-own.ensures).1 in
     let most = low_of c.unwrap-own.ensures (c.is_at_source.ensures.yes c.if-not-is_at_source.false) in
-    let world : World _ _ = record (world_of c.args.network.now w) {
-      early = false;
-      machines = slice_set w.machines.items c.args.device.0 c.act.new.self;
-    } in
     record {
       s = at.s;
       notes = at.notes;
       next = next_first w.settled.items refl turn c.put_change.new.settled.items
-          c.put_change.ensures.is (source_of one least most);
+          c.put_change.ensures.is (source_of c.unwrap-own.result least most);
       own = turn.first_is;
     }
 
@@ -317,17 +295,17 @@ give_first-requires-clause-capacity g c =
     let least =
     (fine_of g (goal.at.give_first-requires-clause-capacity g c).After-outcomes_of-outcomes
     c.unwrap-own.ensures).1 in
-    no_waiter c.unwrap-own.result.body c.args.self.now.waiting (λ two. omega (arith, two, least))
+    no_waiter c.unwrap-own.result.body c.args.self.now.waiting (λ two. omega arith)
 
 pub give_first-requires-clause-place : goal.give_first-requires-clause-place
 give_first-requires-clause-place g c =
     let most = low_of c.unwrap-own.ensures (c.is_at_source.ensures.yes c.if-not-is_at_source.false) in
-    no_shelf c.unwrap-own.result.body c.args.self.now.stored (λ taken. omega (arith, taken, most))
+    no_shelf c.unwrap-own.result.body c.args.self.now.stored (λ taken. omega arith)
 
 pub returns-clause-machines : goal.returns-clause-machines
 returns-clause-machines g c = λ i apart.
-    ap (λ (t : State _ _). slice_get t.machines.items i) c.give_first.ensures.same
-    ∙ others g (goal.at.returns-clause-machines g c).After-outcomes_of-outcomes i apart
+    rw c.give_first.ensures.same
+    (others g (goal.at.returns-clause-machines g c).After-outcomes_of-outcomes i apart)
 
 pub returns-clause-gives : goal.returns-clause-gives
 returns-clause-gives g c = λ yes.
@@ -339,7 +317,7 @@ returns-clause-gives g c = λ yes.
     let new = c.give_first.new.self in
     let least = (fine_of g here c.unwrap-own.ensures).1 in
     let most = low_of c.unwrap-own.ensures (c.is_at_source.ensures.yes c.if-not-is_at_source.false) in
-    let far = no_change one.body (λ two. omega (arith, two, least)) in
+    let far = no_change one.body (λ two. omega arith) in
     let rebuilt : State _ _ → State _ _ = λ q. record w {
       machines = q.machines;
       early = false;
@@ -352,16 +330,12 @@ returns-clause-gives g c = λ yes.
     } in
     record {
       same = give.same ∙ sym (ap rebuilt give.same);
-      waiting = λ x lt. give.others.waiting x (λ e. omega (arith, e, far, lt));
+      waiting = λ x lt. give.others.waiting x (λ e. omega arith);
       time = ap Note.time give.note;
       then_stands = λ s notes was first.
-          let world : World _ _ = record (world_of c.args.network.now w) {
-            early = false;
-            machines = slice_set w.machines.items c.args.device.0 c.act.new.self;
-          } in
           let turn = turned_first g here c.unwrap-own.ensures first in
           (first_given w.settled.items refl turn rest c.put_change.ensures.is (source_of one least most)
           (world_of c.args.network.now new) give.note
-          (ap (λ (t : State _ _). world_of c.args.network.now t) give.same)
+          (rw give.same)
           (give.launched s notes)).0;
     }

@@ -32,7 +32,7 @@ numbered g c =
     let given_is = ap State.given c.reserve_two.ensures.same in
     let long = ap length c.reserve_two.ensures.items in
     let numbers = c.in-Ok.ensures.numbers in
-    omega (arith, given_is, long, numbers)
+    omega arith
 
 -- the part is due
 due : (g : given.Over) (c : After-reserve_two g) → IsDueAt g.C.Clock.reading g.M.Machine.stands c.args.network.now
@@ -71,14 +71,13 @@ put_off-requires g c = record {
 pub returns-then-not-is_due : goal.returns-then-not-is_due
 returns-then-not-is_due g c =
     let off = c.put_off.ensures in
-    let new = c.put_off.new.self in
     let step = stepped c.requires.may c.acts.invariant off.timed off.sets in
     record {
       kept = step_kept step;
       says = (
         step.time,
         step.given,
-        less_then c.requires.may c.acts.invariant new off.sets step.well c.acts.left
+        less_then c.requires.may c.acts.invariant c.put_off.new.self off.sets step.well c.acts.left
             c.acts.invariant.is_left
             (left_later c.args.part c.acts.left (c.is_due.ensures.no c.if-not-is_due.true) c.acts.invariant.later)
             off.put,
@@ -117,12 +116,11 @@ act_once-requires-clause-moment g c =
 
 pub act_once-requires-clause-launches : goal.act_once-requires-clause-launches
 act_once-requires-clause-launches g c =
-    subst (λ (t : State _ _). length c.args.network.now.link < t.under_way.room)
-    (sym (turn g (goal.at.act_once-requires-clause-launches g c).After-reserve_two).same) c.requires.may.room.launches
+    rw (turn g (goal.at.act_once-requires-clause-launches g c).After-reserve_two).same c.requires.may.room.launches
 
 pub act_once-requires-clause-numbers : goal.act_once-requires-clause-numbers
 act_once-requires-clause-numbers g c =
-    let most = numbered g (goal.at.act_once-requires-clause-numbers g c).In-Ok in omega (arith, most)
+    let most = numbered g (goal.at.act_once-requires-clause-numbers g c).In-Ok in omega arith
 
 pub act_once-requires-clause-due : goal.act_once-requires-clause-due
 act_once-requires-clause-due g c = due g (goal.at.act_once-requires-clause-due g c).After-reserve_two

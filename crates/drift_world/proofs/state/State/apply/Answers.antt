@@ -1,9 +1,9 @@
 use Rattle.{drift_world.proofs.Applies.{any_mapped, waits_more, ways_more}, std.specs.Prelude.All, world_law.proofs.steps_lemmas.steps.AppliedParts.broken_more}
 use Rattle.drift_world.proofs.{Beginnings.found, Words.{not, scenario, subst, sym, true, turns_on, unsigned_abs, waiting_as, way_as, world_of, ℕ}}
 use Rattle.drift_world.proofs.{Elsewhere.{clock_elsewhere, waits_elsewhere}, Fitting.{apart_kept, below_more, ways_short}, TurnedOn.turned_on_is}
-use Rattle.drift_world.proofs.Words.{◌++◌, ◌+◌, ◌<◌, ◌↔◌, ◌∙◌, ◌∷◌, ◌≡◌, AreApart, Bool, Down, IsIn, List, Note, Some, Up, Waits, What}
-use Rattle.drift_world.proofs.Words.{Stands, World, [], amount, ap, arith, befell_as, breaks_at, false, ints, is_broken, is_turned_on_at, keeps, length, list_any, map}
-use Rattle.world_law.{proofs.steps_lemmas.steps.Applied.applied_step, specs.{source.Applying.note_of_event, world.Outcomes.{also_befell, ends_world}}}
+use Rattle.drift_world.proofs.Words.{◌++◌, ◌+◌, ◌<◌, ◌∙◌, ◌∷◌, ◌≡◌, AreApart, Bool, Down, List, Note, Some, Up, What}
+use Rattle.drift_world.proofs.Words.{World, [], amount, ap, arith, breaks_at, ints, is_turned_on_at, keeps, length, list_any, map}
+use Rattle.world_law.{proofs.steps_lemmas.steps.Applied.applied_step, specs.{source.Applying.note_of_event, world.Outcomes.{also_befell}}}
 use Rattle.{net_plan.specs.{Belonging.IsOfNetwork, declared.ids.DeviceId.DeviceId}, world_law.specs.world.World.Befell}
 use Rattle.run_law.specs.declared.note.NoteBody.TheVariants as kinds
 use Rattle.drift_world.proofs.state.State.apply.Goals as goal
@@ -19,7 +19,7 @@ returns-clause-sound g c =
         broken = c.set_broken.ensures.length ∙ z.broken;
         ups = c.set_way.ensures.length ∙ z.ups;
         downs = c.set_way-2.ensures.length ∙ z.downs;
-        stepped = λ k d lt. let stepped = c.set_rate.ensures.stepped k d lt in omega (arith, ints, stepped, time);
+        stepped = λ k d lt. let stepped = c.set_rate.ensures.stepped k d lt in omega (arith, ints);
         limit = z.limit;
         shown = omega arith;
       };
@@ -30,8 +30,8 @@ returns-clause-sound g c =
         downs = ways_short c.args.self.now.downs.items c.set_way-2.new.ways.items Down c.args.event.now.what c.requires.short c.set_way-2.ensures.length
             c.set_way-2.ensures.each c.requires.sound.fit.downs;
         octets = c.requires.sound.fit.octets;
-        below = λ e there. let was = c.requires.sound.fit.below e there in omega (arith, was);
-        waits_below = subst (All (λ (w : Waits). w.cause < c.args.self.now.given + 1 + 1)) (sym c.drop_waiting.ensures)
+        below = λ e there. let was = c.requires.sound.fit.below e there in omega arith;
+        waits_below = subst (All (λ w. w.cause < c.args.self.now.given + 1 + 1)) (sym c.drop_waiting.ensures)
             (below_more (c.args.self.now.given + 1) (λ w. not (breaks_at w.device.0 c.args.event.now.what)) c.args.self.now.waiting.items
             c.requires.sound.fit.waits_below);
         apart = subst AreApart (sym c.drop_waiting.ensures)
@@ -54,10 +54,10 @@ returns-clause-stands g c = λ f h past notes old follows may.
     c.set_broken.new.broken.items
     (map way_as c.set_way.new.ways.items) (map way_as c.set_way-2.new.ways.items) (map waiting_as c.drop_waiting.new.waiting.items) old c.requires.open
     c.requires.time may c.requires.early
-    (let given = old.given in let few = c.if-self.false in omega (arith, given, few))
+    (let given = old.given in let few = c.if-self.false in omega arith)
     follows.same follows.steady
     (λ device lt.
-    let own = found w.clocks.items device.0 (let many = z.clocks in omega (arith, lt, many)) in
+    let own = found w.clocks.items device.0 (let many = z.clocks in omega arith) in
     (_, c.set_rate.ensures.each device own.0 own.1, λ t late. follows.reads device own.0 own.1 t late))
     follows.forward
     (record {
@@ -69,9 +69,7 @@ returns-clause-stands g c = λ f h past notes old follows may.
     (λ device lt. c.set_broken.ensures.each device _ (old.broken device lt) ∙ ap Some (sym (broken_more network f h past event w.time device at)))
     (ways_more network f h past event at w.ups.items w.downs.items c.set_way.new.ways.items c.set_way-2.new.ways.items z.ups z.downs old.ways
     c.set_way.ensures.each c.set_way-2.ensures.each)
-    (λ e. subst (λ (l : List Waits). IsIn e (map waiting_as l) ↔
-    (IsIn e world.waiting × (is_broken (scenario network h (past ++ event ∷ [])) e.device w.time ≡ false))) (sym c.drop_waiting.ensures)
-    (waits_more network f h past event at w.waiting.items old.waiting.sound e)) in
+    (λ e. rw c.drop_waiting.ensures (waits_more network f h past event at w.waiting.items old.waiting.sound e)) in
     let after : List Befell → Bool → World _ _ = λ befell over. record world {
       clocks = c.set_rate.new.clocks.items;
       machines = c.befall_machines.new.machines.items;
@@ -90,24 +88,17 @@ returns-clause-stands g c = λ f h past notes old follows may.
     let befell_is = c.in_ok-keep_befallen.ensures.ok ∙ ap (λ n. world.befell ++ also_befell (n + 1) event.what) old.given in
     let note : ℕ → ℕ → What → Note = λ number line what. record { number = number + 1; time = event.time; body = kinds.Event (line + 1) what } in
     let note_is : note w.given w.lines c.args.event.now.what ≡ note_of_event notes past event =
-    ap (λ (n : ℕ). note n w.lines c.args.event.now.what) old.given ∙ ap (λ (n : ℕ). note (length notes) n c.args.event.now.what) old.lines
+    rw old.given (ap (λ n. note (length notes) n c.args.event.now.what) old.lines)
     in (
       note_is,
-      subst (λ (n : Note). Stands K.reading stands then_
-          (after (map befell_as c.keep_befallen.new.befell.items) c.ends-self.result) (notes ++ n ∷ []))
-          (sym note_is)
-          (subst (λ over. Stands K.reading stands then_ (after (map befell_as c.keep_befallen.new.befell.items) over)
-          (notes ++ note_of_event notes past event ∷ [])) (sym c.ends-self.ensures)
-          (subst (λ l. Stands K.reading stands then_ (after l (ends_world event.what))
-          (notes ++ note_of_event notes past event ∷ []))
-          (sym befell_is) step)),
+      rw note_is (rw c.ends-self.ensures (rw befell_is step)),
     )
 
 pub returns-clause-others : goal.returns-clause-others
 returns-clause-others g c = λ device there away.
     let many = c.requires.sound.sized.clocks in (
       clock_elsewhere g.C.Clock.after_step c.args.self.now.clocks.items c.set_rate.new.clocks.items device c.args.event.now.time c.args.event.now.what
-          (omega (arith, there, many)) away c.set_rate.ensures.each,
+          (omega arith) away c.set_rate.ensures.each,
       c.befall_machines.ensures.others device away,
       waits_elsewhere c.args.self.now.waiting.items device c.args.event.now.what c.drop_waiting.ensures away,
     )
@@ -116,7 +107,7 @@ pub befall_machines-requires : goal.befall_machines-requires
 befall_machines-requires g c =
     let machines = c.requires.sound.sized.machines in
     let mine : (device : DeviceId) → device.0 < length c.args.network.now.device → device.0 < length c.args.self.now.machines.items =
-    λ device of. omega (arith, of, machines) in
+    λ device of. omega arith in
     record {
       turned_on = λ device is. mine device (subst (IsOfNetwork c.args.network.now) is c.requires.of_network);
       broken = λ device is. mine device (subst (IsOfNetwork c.args.network.now) is c.requires.of_network);
@@ -129,12 +120,12 @@ set_rate-requires g c =
     let limit = z.limit in
     let time = c.requires.time in
     let mine : (device : DeviceId) → device.0 < length c.args.network.now.device → device.0 < length c.args.self.now.clocks.items =
-    λ device of. omega (arith, of, clocks) in
+    λ device of. omega arith in
     record {
       there = λ device rate is. mine device (subst (IsOfNetwork c.args.network.now) is c.requires.of_network);
       slow = c.requires.slow;
-      stepped = λ k d lt. let stepped = z.stepped k d lt in omega (arith, ints, stepped, time);
-      limit = omega (arith, ints, limit, time);
+      stepped = λ k d lt. let stepped = z.stepped k d lt in omega (arith, ints);
+      limit = omega (arith, ints);
     }
 
 pub returns-clause-clocks : goal.returns-clause-clocks

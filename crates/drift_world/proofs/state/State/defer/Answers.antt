@@ -1,4 +1,4 @@
-use Rattle.drift_world.proofs.Words.{◌+◌, ◌<◌, ◌∙◌, ◌≡◌, ◌≤◌, DeviceId, List, Network, Some, ap, arith, keeps, length, length-set, pos, refl, slice_set, subst, sym, ℕ}
+use Rattle.drift_world.proofs.Words.{◌+◌, ◌<◌, ◌∙◌, ◌≡◌, ◌≤◌, DeviceId, Some, ap, arith, keeps, length, length-set, pos, refl, slice_set, subst, sym}
 use Rattle.{drift_world.proofs.Showings.shows_of, std.{proofs.lemmas.List.Elements.All-set, specs.List.slice_get}, tte_units.proofs.general_lemmas.Lists.{set_aside, set_same}}
 use Rattle.drift_world.{proofs.Parts.none_sooner, specs.Parts.{IsFirstPart, part_rank}}
 use Rattle.{drift_world.proofs.state.State.defer.Given.Over, world_state.specs.{declared.timers.Timer.Timer, timers.Times.AreFrom}}
@@ -14,7 +14,8 @@ timers_are : (g : Over) (c : After-set g)
 timers_are g c =
     let w = c.args.self.now in
     c.set.ensures
-    ∙ ap (λ (r : ℕ). slice_set w.timers (length c.as_slice-devices.result.now + c.args.device) (let t : Timer = record { time = w.time; rank = r } in t))
+    ∙ ap (λ r. slice_set w.timers (length c.as_slice-devices.result.now + c.args.device) (let t : Timer =
+    record { time = w.time; rank = r } in t))
     (c.number.ensures ∙ c.rank.ensures)
     ∙ ap (λ n. slice_set w.timers (n + c.args.device) (timer g c)) (ap length c.as_slice-devices.ensures)
 
@@ -22,8 +23,8 @@ set_at : (g : Over) (c : After-set g) → slice_get c.set.new.self (length c.arg
 set_at g c =
     let there = c.requires.may.there in
     let slots = c.requires.may.slots in
-    ap (λ (l : List Timer). slice_get l (length c.args.network.now.device + c.args.device)) (timers_are g c)
-    ∙ set_same c.args.self.now.timers (length c.args.network.now.device + c.args.device) (timer g c) (omega (arith, slots, there))
+    rw (timers_are g c)
+    (set_same c.args.self.now.timers (length c.args.network.now.device + c.args.device) (timer g c) (omega arith))
 
 pub returns-clause-timed : goal.returns-clause-timed
 returns-clause-timed g c =
@@ -35,14 +36,12 @@ returns-clause-timed g c =
     let device : DeviceId = record { 0 = c.args.device } in
     let s = c.requires.may.running.s in
     let old = c.requires.may.running.is in
-    let of_it : c.args.device < length s.network.device = subst (λ (n : Network). c.args.device < length n.device) old.same there in
+    let of_it : c.args.device < length s.network.device = rw old.same at there in
     let own = old.clocks device of_it in
     let has = old.devices device of_it in
     let first : (node : _) → keeps S has.0 network device node → IsFirstPart network device node (pos (K.reading own.0 w.time)) c.args.part = λ node kept.
-    subst (λ n. IsFirstPart network device node (pos n) c.args.part) (own.2 w.time (omega arith))
-    (subst (λ k. IsFirstPart k device node (pos (s.reading device w.time)) c.args.part) (sym old.same)
-    (c.requires.first s has.0 node (shows_of w old) has.1
-    (subst (λ k. keeps S has.0 k device node) old.same kept))) in
+    rw (sym (own.2 w.time (omega arith))) (rw (sym old.same) at (c.requires.first s has.0 node (shows_of w old) has.1
+    (rw old.same at kept))) in
     record {
       clock = own.0;
       of_clock = own.1;
@@ -67,8 +66,9 @@ returns-clause-sets g c =
     record {
       same = refl;
       sized = ap length same ∙ length-set w.timers slot (timer g here);
-      others = λ other apart. ap (λ (l : List Timer). slice_get l other) same ∙ set_aside w.timers slot other (timer g here) apart;
-      later = λ all. subst (AreFrom w.time) (sym same) (All-set (λ (t : Timer). w.time ≤ t.time) w.timers slot (timer g here) (omega arith) all);
+      others = λ other apart. rw same (set_aside w.timers slot other (timer g here) apart);
+      later = λ all. subst (AreFrom w.time) (sym same) (All-set (λ t. w.time ≤ t.time) w.timers slot (timer g here)
+          (omega arith) all);
     }
 
 pub returns-clause-put : goal.returns-clause-put

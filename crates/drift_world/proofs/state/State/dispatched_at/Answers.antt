@@ -1,5 +1,5 @@
-use Rattle.{drift_world.proofs.Showings.way_by, std.specs.List.slice_get}
-use Rattle.drift_world.proofs.Words.{◌<◌, ◌∙◌, ◌≡◌, Network, None, Some, WayNow, ap, if◌then◌else◌, is_parent_of, length, slice_get_within, subst}
+use Rattle.{drift_world.proofs.Showings.way_by}
+use Rattle.drift_world.proofs.Words.{◌<◌, ◌∙◌, None, Some, WayNow, ap, is_parent_of, length, slice_get_within, subst}
 use Rattle.{schedule_tables.proofs.EntryLemmas.one_entry, world_state.specs.Acting.{IsDispatched, dispatched_by}}
 use Rattle.drift_world.proofs.state.State.dispatched_at.Goals as goal
 
@@ -17,10 +17,9 @@ returns g c = λ s entry of is.
     let device = c.args.device in
     let found = c.entry_of-entry.result in
     let link = found.row.link in
-    let here : link.0 < length s.network.link = subst (λ (n : Network). link.0 < length n.link) of.same
-    (slice_get_within network.link link.0 found.link c.entry_of-entry.ensures.is.link) in
-    let way = subst (λ n. slice_get (if is_parent_of n device link then w.downs.items else w.ups.items) link.0 ≡ Some c.way_from-way.result)
-    of.same c.way_from-way.ensures in
+    let here : link.0 < length s.network.link =
+    rw of.same at (slice_get_within network.link link.0 found.link c.entry_of-entry.ensures.is.link) in
+    let way = rw of.same at c.way_from-way.ensures in
     let cut = ap WayNow.cut (way_by s w.time w.ups.items w.downs.items link (is_parent_of s.network device link) of.ways
     here way) in
     subst (λ e. IsDispatched s w.stored.items w.time device e c.args.cycle (Some c.dispatched.result))

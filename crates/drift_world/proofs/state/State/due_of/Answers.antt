@@ -1,4 +1,4 @@
-use Rattle.{drift_world.proofs.Words.{arith, keeps, slice_get_read, subst}, world_law.proofs.giving.GivenParts.some_same}
+use Rattle.{drift_world.proofs.Words.{arith, slice_get_read}, world_law.proofs.giving.GivenParts.some_same}
 use Rattle.drift_world.proofs.state.State.due_of.Goals as goal
 
 pub returns : goal.returns
@@ -8,5 +8,6 @@ returns g c = λ machine network d node at is.
     let machines = c.requires.sized.machines in
     let kept = w.machines.ok.0 in
     let same = some_same _ _ _ at
-    (slice_get_read w.machines.items w.machines.len c.args.device c.index.result.now w.machines.ok.0 (omega (arith, machines, there, kept)) c.index.ensures) in
-    c.due.ensures network d node (subst (λ m. keeps g.M.Machine.stands m network d node) same is)
+    (slice_get_read w.machines.items w.machines.len c.args.device c.index.result.now w.machines.ok.0 (omega arith)
+    c.index.ensures) in
+    c.due.ensures network d node (rw same at is)

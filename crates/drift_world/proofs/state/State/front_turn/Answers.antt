@@ -4,9 +4,8 @@ use Rattle.drift_world.proofs.state.State.front_turn.Goals as goal
 
 pub give_next-requires-clause-first : goal.give_next-requires-clause-first
 give_next-requires-clause-first g c =
-    let source = c.source_by-source in
     may_give_first
-    c.requires.may.well source.ensures.foremost (c.if-has_first.ensures.yes refl)
+    c.requires.may.well c.source_by-source.ensures.foremost (c.if-has_first.ensures.yes refl)
 
 pub pass_on-requires-clause-empty : goal.pass_on-requires-clause-empty
 pass_on-requires-clause-empty g c =

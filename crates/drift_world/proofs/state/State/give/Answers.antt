@@ -1,10 +1,9 @@
-use Rattle.drift_world.proofs.{Fits.sound_same, Gave.{changes_since, popped_world, unchanged, with_first}, Words.{settled_at, subst, sym, units_of, world_of, ℕ}}
+use Rattle.drift_world.proofs.{Fits.sound_same, Gave.{changes_since, popped_world, unchanged, with_first}, Words.{settled_at, subst, sym, units_of, world_of}}
 use Rattle.{world_law.{proofs.giving.Given.given_step, specs.{steps.Turns.IsNext, world.World.IsDueAs}}, drift_world.proofs.Words.{IsOwn, Scenario, Some, append-nil, map}}
 use Rattle.drift_world.{proofs.state.State.give.Goals.After-unwrap-first, specs.declared.state.State.State}
-use Rattle.drift_world.proofs.Words.{◌++◌, ◌+◌, ◌<◌, ◌∙◌, ◌∷◌, ◌≡◌, ChangesOnly, DeviceId, HasItsOctets, IfSome, List, NoSourceBefore, Note, Option, Settled}
-use Rattle.drift_world.proofs.Words.{Stands, StandsAt, World, [], ap, behind, changed_device, happenings, keeps, note_of, place_of, refl}
+use Rattle.drift_world.proofs.Words.{◌++◌, ◌+◌, ◌∙◌, ◌∷◌, ◌≡◌, HasItsOctets, List, NoSourceBefore, Note, Settled}
+use Rattle.drift_world.proofs.Words.{Stands, StandsAt, World, [], ap, behind, happenings, keeps, note_of, place_of, refl}
 use Rattle.std.{proofs.lemmas.List.Elements.{All-head, All-tail}, specs.Prelude.{All, option_to_list}}
-use Rattle.world_state.specs.{Frames.room_of, Shelves.HasPlace, declared.contents.HoldSpot.HoldSpot}
 use Rattle.drift_world.proofs.state.State.give.Given as given
 use Rattle.drift_world.proofs.state.State.give.Goals as goal
 
@@ -28,16 +27,16 @@ pub give_first-requires-clause-sound : goal.give_first-requires-clause-sound
 give_first-requires-clause-sound g c =
     let room = c.make_room.ensures in
     let whole = whole_is g (goal.at.give_first-requires-clause-sound g c).After-unwrap-first in
-    let octets = All-tail (λ (z : Settled). HasItsOctets z.body z.octets) c.unwrap-first.result c.pop_front.new.self.items
-    (subst (All (λ (z : Settled). HasItsOctets z.body z.octets)) whole c.requires.sound.fit.octets) in
+    let octets = All-tail (λ z. HasItsOctets z.body z.octets) c.unwrap-first.result c.pop_front.new.self.items
+    (subst (All (λ z. HasItsOctets z.body z.octets)) whole c.requires.sound.fit.octets) in
     sound_same _ c.requires.sound refl refl refl refl refl refl refl refl room.entries room.waiting
     octets
 
 pub give_first-requires-clause-octets : goal.give_first-requires-clause-octets
 give_first-requires-clause-octets g c =
     let whole = whole_is g (goal.at.give_first-requires-clause-octets g c).After-unwrap-first in
-    All-head (λ (z : Settled). HasItsOctets z.body z.octets) c.unwrap-first.result c.pop_front.new.self.items
-    (subst (All (λ (z : Settled). HasItsOctets z.body z.octets)) whole c.requires.sound.fit.octets)
+    All-head (λ z. HasItsOctets z.body z.octets) c.unwrap-first.result c.pop_front.new.self.items
+    (subst (All (λ z. HasItsOctets z.body z.octets)) whole c.requires.sound.fit.octets)
 
 -- the first of what is settled is the next record, also once it is taken out
 next_of : (g : given.Over) (c : After-unwrap-first g) {s : Scenario} {notes : List Note}
@@ -55,8 +54,8 @@ next_of g c {s} {notes} old =
     let hs = happenings s.network notes in
     let z = settled_at c.args.network.now w.time c.unwrap-first.result in
     let rest = map (settled_at c.args.network.now w.time) c.pop_front.new.self.items in
-    let due : IsDueAs s hs z = subst (λ l. IsDueAs s l z) (append-nil hs)
-    (old.are.founded [] rest z (ap (map (settled_at c.args.network.now w.time)) (whole_is g c))).1 in (
+    let due : IsDueAs s hs z = rw (append-nil hs) at (old.are.founded [] rest z
+    (ap (map (settled_at c.args.network.now w.time)) (whole_is g c))).1 in (
       record {
         same = old.same;
         range = old.range;
@@ -67,7 +66,7 @@ next_of g c {s} {notes} old =
         broken = old.broken;
         ways = old.ways;
         founded = old.run.founded;
-        due = subst (λ h. IsDueAs s hs h) due.same due;
+        due = rw due.same at due;
       },
       due.same,
     )
@@ -81,14 +80,13 @@ give_first-requires-clause-next g c =
 pub give_first-requires-clause-capacity : goal.give_first-requires-clause-capacity
 give_first-requires-clause-capacity g c =
     let whole = whole_is g (goal.at.give_first-requires-clause-capacity g c).After-unwrap-first in
-    subst (λ (o : Option DeviceId). IfSome o (λ d. 0 < room_of c.make_room.new.waiting d.0))
-    (c.first_waiter-device.ensures c.unwrap-first.result c.pop_front.new.self.items whole) c.in_default.ensures.capacity
+    rw (c.first_waiter-device.ensures c.unwrap-first.result c.pop_front.new.self.items
+    whole) at c.in_default.ensures.capacity
 
 pub give_first-requires-clause-place : goal.give_first-requires-clause-place
 give_first-requires-clause-place g c =
     let whole = whole_is g (goal.at.give_first-requires-clause-place g c).After-unwrap-first in
-    subst (λ (o : Option HoldSpot). IfSome o (HasPlace c.make_room.new.stored))
-    (c.first_taker-spot.ensures c.unwrap-first.result c.pop_front.new.self.items whole) c.in_default.ensures.place
+    rw (c.first_taker-spot.ensures c.unwrap-first.result c.pop_front.new.self.items whole) at c.in_default.ensures.place
 
 pub returns-clause-stands : goal.returns-clause-stands
 returns-clause-stands g c = λ s notes other rest is.
@@ -121,9 +119,8 @@ returns-clause-stands g c = λ s notes other rest is.
     let by : (it : IsNext K.reading s notes (world_of network popped) first.body
     × IsOwn s.network network w.time (happenings s.network notes) (Some first)) → Steps (with_first network popped first) = λ it o none.
     let launched = c.give_first.ensures.launched s notes it.0 it.1 in
-    subst (λ (t : State _ _). StandsAt K.reading stands s (world_of network t) (notes ++ note_of notes z ∷ []) (behind (place_of z)))
-    (sym c.give_first.ensures.same)
-    (given_step K.reading stands s (with_first network popped first) notes z rest_is (world_of network gave).wires
+    rw c.give_first.ensures.same (given_step K.reading stands s (with_first network popped first) notes z rest_is
+    (world_of network gave).wires
     (world_of network gave).ports (world_of network gave).waiting (world_of network gave).stored o refl none launched.wires
     launched.ports launched.waiting launched.stored) in
     let step : (o : Stands K.reading stands s (world_of network w) notes)
@@ -137,22 +134,15 @@ returns-clause-stands g c = λ s notes other rest is.
     × StandsAt K.reading stands s (world_of network new) (notes ++ note ∷ [])
     (behind (place_of (settled_at network w.time f))) in
     let given : Gives first = λ o none.
-    let same : note ≡ note_of notes z = c.give_first.ensures.note
-    ∙ ap (λ (k : ℕ). let n : Note = record { number = k + 1; time = units_of w.time; body = first.body } in n) o.given in (
+    let same = c.give_first.ensures.note
+    ∙ ap (λ k. let n : Note = record { number = k + 1; time = units_of w.time; body = first.body } in n) o.given in (
       same,
-      subst (λ (n : Note). StandsAt K.reading stands s (world_of network new) (notes ++ n ∷ []) (behind (place_of z)))
-          (sym same) (step o none),
+      rw same (step o none),
     ) in
     subst Gives (heads (sym whole ∙ is)) given
 
 pub returns-clause-others : goal.returns-clause-others
 returns-clause-others g c =
     let w = c.args.self.now in
-    let popped : State _ _ = record w {
-      under_way = c.make_room.new.under_way;
-      waiting = c.make_room.new.waiting;
-      stored = c.make_room.new.stored;
-      settled = c.pop_front.new.self;
-    } in
-    subst (λ (n : Note). ChangesOnly (changed_device n.body) w c.give_first.new.self) (sym c.give_first.ensures.note)
-    (changes_since w refl refl refl refl c.make_room.ensures.waiting c.give_first.ensures.others)
+    rw c.give_first.ensures.note (changes_since w refl refl refl refl c.make_room.ensures.waiting
+    c.give_first.ensures.others)

@@ -1,11 +1,10 @@
 use Rattle.drift_world.proofs.{Fits.sized_so, Givings.launched_on, MayGive.{low_with, may_give, may_in}, Words.world_of}
 use Rattle.{drift_world.proofs.state.State.give_first.Goals.After-launch_octets, world_law.specs.steps.Turns.IsLaunched}
 use Rattle.drift_world.proofs.Gave.{from_ports, from_wire, waits_apart, waits_below, waits_elsewhere, waits_more, wire_is, wire_sound}
-use Rattle.drift_world.proofs.Words.{◌+◌, ◌∙◌, ◌≡◌, ChangesOnly, IfSome, IsGivenOut, IsPutOn, IsSound, IsStoredBy}
-use Rattle.drift_world.proofs.Words.{Note, Units, ap, arith, changed_device, inl, inr, length}
+use Rattle.drift_world.proofs.Words.{◌+◌, ◌∙◌, ◌≡◌, ChangesOnly, IsPutOn, IsSound, IsStoredBy}
+use Rattle.drift_world.proofs.Words.{ap, arith, changed_device, inl, inr, length}
 use Rattle.drift_world.proofs.Words.{refl, subst, sym, units_of, wire_entry}
-use Rattle.{drift_world.specs.declared.state.State.State, world_state.specs.{Shelves.{HasPlace, spot_of}, Sound.IsShort}}
-use Rattle.std.specs.Prelude.{All}
+use Rattle.{drift_world.specs.declared.state.State.State}
 use Rattle.drift_world.proofs.state.State.give_first.Given as given
 use Rattle.drift_world.proofs.state.State.give_first.Goals as goal
 
@@ -20,9 +19,9 @@ gave_all : (g : given.Over) (c : After-launch_octets g)
 gave_all g c =
     let three = c.launch_octets.new.self in
     let number = c.args.self.now.given + 1 in
-    ap (λ (q : State _ _). let r : State _ _ = record q { given = number } in r) c.launch_octets.ensures.same
-    ∙ ap (λ (q : State _ _). let r : State _ _ = record q { under_way = three.under_way; stored = three.stored; given = number } in r)
-    c.launch_frame.ensures.same
+    rw c.launch_octets.ensures.same
+    (ap (λ q. let r : State _ _ = record q { under_way = three.under_way; stored = three.stored; given = number } in r)
+    c.launch_frame.ensures.same)
 
 pub returns-clause-sound : goal.returns-clause-sound
 returns-clause-sound g c =
@@ -37,8 +36,7 @@ returns-clause-sound g c =
     let out = c.launch_frame.ensures.given.1 in
     let wire = wire_entry network w.ups.items w.downs.items first.body first.frame first.octets w.time number in
     let sent : IsPutOn wire two.under_way.entries three.under_way.entries =
-    subst (λ (q : State _ _). IsPutOn (wire_entry network q.ups.items q.downs.items first.body first.frame first.octets q.time number)
-    two.under_way.entries three.under_way.entries) c.launch_frame.ensures.same c.launch_octets.ensures.sent in
+    rw c.launch_frame.ensures.same at c.launch_octets.ensures.sent in
     let on = wire_is w.ups.items w.downs.items c.requires.range number first.body first.frame first.octets w.time in
     let ports = from_ports giving out in
     let wires = from_wire network number two.under_way.entries three.under_way.entries wire on sent in
@@ -63,10 +61,10 @@ returns-clause-sound g c =
         below = λ e there. elim (wires e there) [
           | inl before ↦
               elim (ports e before) [
-                | inl old ↦ let low = fit.below e old in omega (arith, low)
-                | inr port ↦ let cause = port.0 in omega (arith, cause)
+                | inl old ↦ let low = fit.below e old in omega arith
+                | inr port ↦ let cause = port.0 in omega arith
               ]
-          | inr cause ↦ omega (arith, cause)
+          | inr cause ↦ omega arith
         ];
         waits_below = waits_below first.body number w.waiting.items two.waiting.items more fit.waits_below;
         apart = waits_apart first.body number w.waiting.items two.waiting.items more fit.waits_below fit.apart;
@@ -82,17 +80,12 @@ returns-clause-launched g c = λ s notes next own.
     let first = c.args.first in
     let two = c.launch_frame.new.self in
     let three = c.launch_octets.new.self in
-    let number : w.given + 1 ≡ length notes + 1 = ap (λ n. n + 1) next.given in
+    let number : w.given + 1 ≡ length notes + 1 = rw next.given in
     let given = c.launch_frame.ensures.given in
-    let out = subst (λ k. IsGivenOut K.reading network w two first.body first.frame k given.0) number given.1 in
-    let sent = subst (λ k. IsPutOn (wire_entry network w.ups.items w.downs.items first.body first.frame first.octets w.time k)
-    two.under_way.entries three.under_way.entries) number
-    (subst (λ (q : State _ _). IsPutOn (wire_entry network q.ups.items q.downs.items first.body first.frame first.octets q.time (w.given + 1))
-    two.under_way.entries three.under_way.entries) c.launch_frame.ensures.same c.launch_octets.ensures.sent) in
+    let out = rw number at given.1 in
+    let sent = rw number at (rw c.launch_frame.ensures.same at c.launch_octets.ensures.sent) in
     let held : IsStoredBy first.body first.octets (length notes + 1) w.stored.items three.stored.items =
-    subst (λ k. IsStoredBy first.body first.octets k w.stored.items three.stored.items) number
-    (subst (λ (q : State _ _). IsStoredBy first.body first.octets (w.given + 1) q.stored.items three.stored.items) c.launch_frame.ensures.same
-    c.launch_octets.ensures.stored) in
+    rw number at (rw c.launch_frame.ensures.same at c.launch_octets.ensures.stored) in
     let step = launched_on _ K.reading s (sym next.same) w two notes first given.0 three.under_way.entries
     three.stored.items next own (may_in w first next own c.requires.octets) out sent held in
     let so : IsLaunched s notes first.body (world_of network w) (world_of network (record w {
@@ -101,7 +94,7 @@ returns-clause-launched g c = λ s notes next own.
       stored = three.stored;
       given = w.given + 1;
     })) = record { wires = step.wires; ports = step.ports; waiting = step.waiting; stored = step.stored } in
-    subst (λ (q : State _ _). IsLaunched s notes first.body (world_of network w) (world_of network q))
+    subst (λ q. IsLaunched s notes first.body (world_of network w) (world_of network q))
     (sym (gave_all g (goal.at.returns-clause-launched g c).After-launch_octets)) so
 
 pub returns-clause-others : goal.returns-clause-others
@@ -138,7 +131,7 @@ launch_frame-requires g c =
       range = c.requires.range;
       by = may.by;
       young = may.young;
-      room = omega (arith, room);
+      room = omega arith;
       capacity = c.requires.capacity;
       ups = fit.ups;
       downs = fit.downs;
@@ -153,20 +146,19 @@ launch_octets-requires g c =
     let left = c.launch_frame.ensures.room in
     record {
       sized = sized_so c.launch_frame.new.self c.requires.sound.sized (ap State.clocks same)
-          (ap (λ (q : State _ _). length q.machines.items) same) (ap State.broken same) (ap State.ups same)
+          (rw same) (ap State.broken same) (ap State.ups same)
           (ap State.downs same) (ap State.time same) (ap State.shown same);
       range = c.requires.range;
-      room = omega (arith, room, left);
-      place = subst (λ (q : State _ _). IfSome (spot_of c.args.first.body) (HasPlace q.stored)) (sym same) c.requires.place;
-      ups = subst (λ (q : State _ _). All IsShort q.ups.items) (sym same) fit.ups;
-      downs = subst (λ (q : State _ _). All IsShort q.downs.items) (sym same) fit.downs;
+      room = omega arith;
+      place = rw same c.requires.place;
+      ups = rw same fit.ups;
+      downs = rw same fit.downs;
     }
 
 pub returns-clause-note : goal.returns-clause-note
 returns-clause-note g c =
     let now = ap State.time c.launch_octets.ensures.same ∙ ap State.time c.launch_frame.ensures.same in
-    ap (λ (t : Units). let n : Note = record { number = c.args.self.now.given + 1; time = t; body = c.args.first.body } in n)
-    (c.from_amount-note-inside.ensures.value ∙ ap units_of now)
+    rw (c.from_amount-note-inside.ensures.value ∙ ap units_of now)
 
 pub returns-clause-same : goal.returns-clause-same
 returns-clause-same g c =
@@ -179,7 +171,8 @@ returns-clause-same g c =
       given = w.given + 1;
     } in
     gave_all g (goal.at.returns-clause-same g c).After-launch_octets ∙ sym (ap rebuilt (c.launch_octets.ensures.same
-    ∙ ap (λ (q : State _ _). let r : State _ _ = record q { under_way = three.under_way; stored = three.stored } in r) c.launch_frame.ensures.same))
+    ∙ ap (λ q. let r : State _ _ = record q { under_way = three.under_way; stored = three.stored } in r)
+    c.launch_frame.ensures.same))
 
 pub returns-clause-arrived : goal.returns-clause-arrived
 returns-clause-arrived g c =

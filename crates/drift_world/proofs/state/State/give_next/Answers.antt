@@ -1,7 +1,7 @@
 use Rattle.drift_world.{proofs.{Turning.{gives_first, kept_timers, plain_step, step_kept}, state.State.give_next.Goals.In-Ok}, specs.declared.state.State.State}
 use Rattle.drift_world.proofs.Timings.{in_range}
-use Rattle.drift_world.proofs.Words.{◌++◌, ◌∙◌, ◌∷◌, ◌≡◌, ChangesOnly, List, Note, Scenario, Stands, World, [], ap, arith}
-use Rattle.drift_world.proofs.Words.{changed_device, keeps, length, note_of, settled_at, subst, sym, units_of, world_of}
+use Rattle.drift_world.proofs.Words.{◌++◌, ◌∙◌, ◌∷◌, ◌≡◌, List, Note, Scenario, Stands, World, [], ap, arith}
+use Rattle.drift_world.proofs.Words.{keeps, note_of, settled_at, sym, units_of, world_of}
 use Rattle.drift_world.proofs.state.State.give_next.Given as given
 use Rattle.drift_world.proofs.state.State.give_next.Goals as goal
 
@@ -26,7 +26,7 @@ rekey_after-requires-clause-may g c =
     let E = c.in-Ok.ensures in
     record {
       sized = E.sound.sized;
-      slots = ap (λ (t : State _ _). length t.timers) E.same ∙ well.timed.sized;
+      slots = rw E.same well.timed.sized;
       running = record {
         s = run.s;
         notes = run.notes ++ c.give.new.note ∷ [];
@@ -42,11 +42,11 @@ returns-in-Ok-clause-kept g c =
     let time = ap State.time E.same in
     kept_timers (c.give.new.note
     ∷ []) well E.sound
-    (record { clocks = ap State.clocks E.same; ended = ap State.ended E.same; later = omega (arith, time) })
+    (record { clocks = ap State.clocks E.same; ended = ap State.ended E.same; later = omega arith })
     (λ s notes old. (given_so g (goal.at.returns-in-Ok-clause-kept g c).In-Ok old).1)
     c.rekey_after.ensures.same
     (c.rekey_after.ensures.timed c.args.self.now well.timed
-    (subst (λ b. ChangesOnly (changed_device b) c.args.self.now mid) (sym c.body.ensures) E.others)
+    (rw c.body.ensures E.others)
     (ap State.machines E.same) (ap State.timers E.same))
 
 pub returns-in-Ok-clause-says : goal.returns-in-Ok-clause-says
@@ -66,7 +66,7 @@ returns-in-Err-clause-kept g c =
     step_kept (plain_step c.requires.well E.sound E.unmoved
     (ap State.timers E.same)
     (ap World.given E.err)
-    (λ s notes old. subst (λ v. Stands g.C.Clock.reading (keeps g.M.Machine.stands) s v notes) (sym E.err) old))
+    (λ s notes old. rw E.err old))
 
 pub returns-in-Err-clause-err : goal.returns-in-Err-clause-err
 returns-in-Err-clause-err g c = ap State.time c.in-Err.ensures.same

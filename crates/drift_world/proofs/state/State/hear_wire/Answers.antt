@@ -1,9 +1,8 @@
 use Rattle.drift_world.proofs.{Fits.{below_without, have_octets, sized_so}, state.State.hear_wire.Goals.{After-index_mut-machine, After-read}}
 use Rattle.{drift_world.proofs.Hears.{as_sent, heard_octets, heard_turns, may_come, moment_is}, tte_units.proofs.general_lemmas.Lists.{set_aside, set_same}}
 use Rattle.{drift_world.proofs.{OwnPlaces.{arrived_device, arrived_late}, Rising.settled_in_order, Turned.one_turn, Words.{false, subst, sym, world_of}}, world_state.proofs.UnderWays.sound_without}
-use Rattle.drift_world.proofs.Words.{◌+◌, ◌<◌, ◌∙◌, ◌≡◌, DeviceId, Moment, Network, Note, Scenario, Settled, Some, Stands, ap, arith, changed_device}
-use Rattle.world_state.specs.Hearing.{TellsBefore}
-use Rattle.drift_world.proofs.Words.{Kept, List, keeps, length, length-set, length_permutation, moment_of, rank, refl, settled_at, slice_get_read}
+use Rattle.drift_world.proofs.Words.{◌+◌, ◌∙◌, ◌≡◌, DeviceId, Moment, Note, Scenario, Some, Stands, ap, arith, changed_device}
+use Rattle.drift_world.proofs.Words.{List, keeps, length-set, length_permutation, moment_of, rank, refl, settled_at, slice_get_read}
 use Rattle.{std.proofs.Common.{set, slice_get}, world_law.proofs.giving.GivenParts.some_same}
 use Rattle.world_law.specs.world.World.{is_at_source}
 use Rattle.drift_world.proofs.Turning.{is_at}
@@ -17,7 +16,7 @@ held g c =
     let machines = c.requires.may.well.sound.sized.machines in
     let kept = c.args.self.now.machines.ok.0 in
     slice_get_read c.args.self.now.machines.items c.args.self.now.machines.len c.args.place.device c.index_mut-machine.result.now c.args.self.now.machines.ok.0
-    (omega (arith, machines, within, kept)) c.index_mut-machine.ensures.value
+    (omega arith) c.index_mut-machine.ensures.value
 
 now_is : (g : given.Over) (c : After-read g) {s : Scenario} {notes : List Note}
     → Stands g.C.Clock.reading (keeps g.M.Machine.stands) s (world_of c.args.network.now c.args.self.now) notes
@@ -28,11 +27,11 @@ now_is g c {s} old =
     let within = c.requires.may.foremost.there.device in
     let clocks = c.requires.may.well.sound.sized.clocks in
     let held = c.args.self.now.clocks.ok.0 in
-    let own = old.clocks device (subst (λ (n : Network). device.0 < length n.device) old.same within) in
-    moment_is g.C.Clock.reading s c.args.self.now.time device {own = own.0} {clock = c.index.result.now} c.read.result
+    let own = old.clocks device (rw old.same at within) in
+    moment_is g.C.Clock.reading s c.args.self.now.time device c.read.result
     (some_same _ _ _ own.1
     (slice_get_read c.args.self.now.clocks.items c.args.self.now.clocks.len device.0 c.index.result.now c.args.self.now.clocks.ok.0
-    (omega (arith, clocks, within, held)) c.index.ensures))
+    (omega (arith, held)) c.index.ensures))
     own.2 c.from_amount-time.ensures.value c.read.ensures
 
 pub hear_signal-hearing-requires-clause-may : goal.hear_signal-hearing-requires-clause-may
@@ -52,11 +51,10 @@ hear_signal-hearing-requires-clause-as_sent g c =
 pub returns-clause-sound : goal.returns-clause-sound
 returns-clause-sound g c =
     let w = c.args.self.now in
-    let z = c.requires.may.well.sound.sized in
     let fit = c.requires.may.well.sound.fit in
     let took = c.take_wire-signal in
     record {
-      sized = sized_so _ z refl
+      sized = sized_so _ c.requires.may.well.sound.sized refl
           (length-set w.machines.items c.args.place.device c.hear_signal-hearing.new.kept) refl refl refl refl refl;
       under_way = sound_without c.args.network.now w.under_way.entries took.new.under_way.entries _ c.requires.may.well.sound.under_way took.ensures.taken;
       fit = record {
@@ -82,12 +80,12 @@ returns-clause-octets g c =
 
 pub returns-clause-device : goal.returns-clause-device
 returns-clause-device g c = λ two.
-    subst (λ (r : Settled). rank r.body ≡ 2 → changed_device r.body ≡ c.args.place.device) (sym c.arrived-heard.ensures)
+    subst (λ r. rank r.body ≡ 2 → changed_device r.body ≡ c.args.place.device) (sym c.arrived-heard.ensures)
     (arrived_device c.args.place c.hear_signal-hearing.result.arrival c.take_wire-signal.result) two
 
 pub returns-clause-late : goal.returns-clause-late
 returns-clause-late g c = λ not.
-    subst (λ (r : Settled). (rank r.body ≡ 2 → ⊥) → is_at_source r.body ≡ false) (sym c.arrived-heard.ensures)
+    subst (λ r. (rank r.body ≡ 2 → ⊥) → is_at_source r.body ≡ false) (sym c.arrived-heard.ensures)
     (arrived_late c.args.place c.hear_signal-hearing.result.arrival c.take_wire-signal.result) not
 
 pub returns-clause-turns : goal.returns-clause-turns
@@ -108,7 +106,7 @@ returns-clause-turns g c = λ s notes old first.
     heard.new.kept heard.result.arrival (set w.machines.items device.0 heard.new.kept)
     c.requires.may.well.sound.under_way first heard.ensures.hears.1 heard.ensures.hears.2
     (record {
-      there = set_same w.machines.items device.0 heard.new.kept (omega (arith, machines, within, kept));
+      there = set_same w.machines.items device.0 heard.new.kept (omega arith);
       same = λ i apart. set_aside w.machines.items device.0 i heard.new.kept apart;
     }) in
     one_turn g.M.Machine.stands network c.arrived-heard.result (settled_in_order old)
@@ -124,7 +122,7 @@ returns-clause-others g c = record {
 }
 
 pub returns-clause-shorter : goal.returns-clause-shorter
-returns-clause-shorter g c = let same = length_permutation _ _ c.take_wire-signal.ensures.taken in omega (arith, same)
+returns-clause-shorter g c = let same = length_permutation _ _ c.take_wire-signal.ensures.taken in omega arith
 
 pub returns-clause-before : goal.returns-clause-before
 returns-clause-before g c = λ was is at now.
@@ -133,7 +131,7 @@ returns-clause-before g c = λ was is at now.
     let machines = c.requires.may.well.sound.sized.machines in
     let kept = w.machines.ok.0 in
     let heard = c.hear_signal-hearing in
-    subst (λ (m : Kept _). TellsBefore (keeps g.M.Machine.stands) was m heard.result.before)
-    (some_same _ _ _ (set_same w.machines.items c.args.place.device heard.new.kept (omega (arith, machines, within, kept))) now)
-    (subst (λ (m : Kept _). TellsBefore (keeps g.M.Machine.stands) m heard.new.kept heard.result.before)
-    (some_same _ _ _ (held g (goal.at.returns-clause-before g c).After-index_mut-machine) at) heard.ensures.before)
+    rw (some_same _ _ _ (set_same w.machines.items c.args.place.device heard.new.kept
+    (omega (arith, machines, within, kept))) now) at (rw
+    (some_same _ _ _ (held g (goal.at.returns-clause-before g c).After-index_mut-machine)
+    at) at heard.ensures.before)

@@ -1,9 +1,9 @@
 use Rattle.{drift_world.proofs.{Alike.turns_alike, Rising.settled_in_order, Showings.shows_of, Turned.some_turn}, world_state.specs.{Leaving.port_entry, declared.queue.Entry.Entry}}
 use Rattle.{drift_world.proofs.Fits.{below_without, sized_so}, world_law.proofs.steps_lemmas.turns.SourceTurns.left_turn}
-use Rattle.world_law.specs.steps.{Steps.{departure_bodies, departure_now}, Turns.TurnsBy}
-use Rattle.drift_world.proofs.Words.{length_permutation, numbers_of, on_wire, refl, subst, sym, world_of, ℕ}
+use Rattle.world_law.specs.steps.{Steps.{departure_now}}
+use Rattle.drift_world.proofs.Words.{length_permutation, numbers_of, on_wire, refl, subst, sym, world_of}
 use Rattle.{drift_world.proofs.Puts.{departed_is, frame_of_port}, world_state.proofs.UnderWays.{ports_without, sound_without, wires_stay}}
-use Rattle.drift_world.proofs.Words.{◌+◌, ◌∷◌, ◌≡◌, ComesFirst, Content, IsPermutation-sym, None, Port, TurnsIn, World, [], ap}
+use Rattle.drift_world.proofs.Words.{◌+◌, ◌∷◌, ◌≡◌, ComesFirst, Content, IsPermutation-sym, Port, World, []}
 use Rattle.drift_world.proofs.Words.{arith, at_port, departure_body, false, happenings, in_permuted, inl, is_broken, is_given, keeps}
 use Rattle.std.specs.List.{filter_map}
 use Rattle.drift_world.proofs.state.State.leave_port.Goals as goal
@@ -11,10 +11,9 @@ use Rattle.drift_world.proofs.state.State.leave_port.Goals as goal
 pub returns-clause-sound : goal.returns-clause-sound
 returns-clause-sound g c =
     let w = c.args.self.now in
-    let z = c.requires.may.well.sound.sized in
     let fit = c.requires.may.well.sound.fit in
     record {
-      sized = sized_so _ z refl refl refl refl refl refl refl;
+      sized = sized_so _ c.requires.may.well.sound.sized refl refl refl refl refl refl refl;
       under_way = sound_without c.args.network.now w.under_way.entries c.take_port-frame.new.under_way.entries _ c.requires.may.well.sound.under_way
           c.take_port-frame.ensures.taken;
       fit = record {
@@ -29,7 +28,6 @@ returns-clause-sound g c =
 
 pub returns-clause-turns : goal.returns-clause-turns
 returns-clause-turns g c = λ s notes old first.
-    let now_is = c.requires.may.foremost.there.now in
     let w = c.args.self.now in
     let K = g.C.Clock in
     let stands = keeps g.M.Machine.stands in
@@ -40,8 +38,8 @@ returns-clause-turns g c = λ s notes old first.
     let e = port_entry place took.result.0 took.result.1 in
     let taken : Entry Content = record { place = place; content = Port took.result.0 took.result.1 } in
     let hs = happenings s.network notes in
-    let numbers : numbers_of place ≡ place.at ∷ 8 ∷ place.device ∷ place.link ∷ place.cause ∷ [] = ap
-    (λ (r : ℕ). place.at ∷ r ∷ place.device ∷ place.link ∷ place.cause ∷ []) c.requires.may.foremost.there.rank_is in
+    let numbers : numbers_of place ≡ place.at ∷ 8 ∷ place.device ∷ place.link ∷ place.cause ∷ [] =
+    rw c.requires.may.foremost.there.rank_is in
     let there = is_given at_port w.under_way.entries taken e (in_permuted _ _ taken (IsPermutation-sym _ _ took.ensures.taken) (inl refl)) refl in
     let given = frame_of_port (old.ports.real e there).0 in
     let of = shows_of w old in
@@ -49,16 +47,16 @@ returns-clause-turns g c = λ s notes old first.
     let mid : World _ _ = record world { ports = filter_map at_port took.new.under_way.entries; early = false } in
     let after : World _ _ = record mid { wires = filter_map (on_wire network) took.new.under_way.entries } in
     let turn = left_turn K.reading stands s world notes e (filter_map at_port took.new.under_way.entries)
-    old there now_is (subst (ComesFirst K.reading stands s world notes old) numbers first)
+    old there c.requires.may.foremost.there.now (subst (ComesFirst K.reading stands s world notes old) numbers first)
     (ports_without network w.under_way.entries took.new.under_way.entries taken under_way took.ensures.taken e refl) in
-    let placed = subst (λ p. TurnsBy K.reading stands s notes (departure_bodies s e w.time) mid p) (sym numbers) turn in
-    subst (λ o. TurnsIn K.reading g.M.Machine.stands network s notes after (numbers_of place) o None)
-    (sym (c.departure.ensures.is s (record { same = of.same; clocks = of.clocks; broken = of.broken; ways = of.ways })))
-    (some_turn g.M.Machine.stands network (is_broken s e.device w.time) _ (departure_body e (departure_now s e w.time))
+    let placed = rw (sym numbers) at turn in
+    rw (c.departure.ensures.is s (record { same = of.same; clocks = of.clocks; broken = of.broken; ways = of.ways }))
+    (some_turn g.M.Machine.stands network (is_broken s e.device w.time) _
+    (departure_body e (departure_now s e w.time))
     (settled_in_order old) (departed_is s.network network w.time hs e (departure_now s e w.time) given)
     (turns_alike K.reading stands s notes mid (filter_map (on_wire network) took.new.under_way.entries) mid.ports
     (wires_stay network w.under_way.entries took.new.under_way.entries taken under_way took.ensures.taken refl)
     (λ d. (λ i. i, λ i. i)) placed))
 
 pub returns-clause-shorter : goal.returns-clause-shorter
-returns-clause-shorter g c = let same = length_permutation _ _ c.take_port-frame.ensures.taken in omega (arith, same)
+returns-clause-shorter g c = let same = length_permutation _ _ c.take_port-frame.ensures.taken in omega arith

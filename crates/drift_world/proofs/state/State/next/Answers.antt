@@ -1,5 +1,5 @@
-use Rattle.drift_world.{proofs.Turning.{after_then, kept_then}, specs.Turns.{IsKept, TurnsTo, given_in}}
-use Rattle.drift_world.proofs.Words.{◌+◌, ◌∙◌, List, Note, Ok, OutOfMemory, Stands, Turn, ap, append-nil, arith, keeps, refl, subst, sym, world_of}
+use Rattle.drift_world.{proofs.Turning.{after_then, kept_then}, specs.Turns.{IsKept, TurnsTo}}
+use Rattle.drift_world.proofs.Words.{◌+◌, ◌∙◌, List, Note, ap, append-nil, arith, refl, subst, sym}
 use Rattle.drift_world.{proofs.state.State.next.Goals.{After-turn, In-Ok-Ends, In-Ok-GoesOn}, specs.declared.next.Turn.TheVariants.{Ends, GoesOn}}
 use Rattle.drift_world.proofs.state.State.next.Given as given
 use Rattle.drift_world.proofs.state.State.next.Goals as goal
@@ -23,7 +23,8 @@ turn-requires g c =
         well = before.well;
         limit = may.limit;
         early = before.early;
-        ended = λ is. let most = may.ended (sym before.after.ended ∙ is) in let later = before.after.later in omega (arith, most, later);
+        ended = λ is. let most = may.ended (sym before.after.ended ∙ is) in let later = before.after.later in
+            omega arith;
       };
     }
 
@@ -37,8 +38,7 @@ since g c {more} kept = kept_then
 pub returns-in-Ok-Gives-clause-kept : goal.returns-in-Ok-Gives-clause-kept
 returns-in-Ok-Gives-clause-kept g c =
     since g (goal.at.returns-in-Ok-Gives-clause-kept g c).After-turn
-    (subst (λ (t : Turn). IsKept g.C.Clock.last_step g.C.Clock.reading g.M.Machine.stands c.args.network.now c.turns.self c.turn.new.self
-    (given_in {E = OutOfMemory} (Ok t) c.turn.new.note)) c.in-Ok-Gives.field-0-is c.in-Ok-Gives.ensures.kept)
+    (rw c.in-Ok-Gives.field-0-is at c.in-Ok-Gives.ensures.kept)
 
 pub returns-in-Ok-Gives-clause-says : goal.returns-in-Ok-Gives-clause-says
 returns-in-Ok-Gives-clause-says g c =
@@ -49,8 +49,7 @@ returns-in-Ok-Gives-clause-says g c =
 pub returns-in-Ok-Ends-clause-kept : goal.returns-in-Ok-Ends-clause-kept
 returns-in-Ok-Ends-clause-kept g c =
     since g (goal.at.returns-in-Ok-Ends-clause-kept g c).After-turn
-    (subst (λ (t : Turn). IsKept g.C.Clock.last_step g.C.Clock.reading g.M.Machine.stands c.args.network.now c.turns.self c.turn.new.self
-    (given_in {E = OutOfMemory} (Ok t) c.turn.new.note)) c.in-Ok-Ends.field-0-is c.in-Ok-Ends.ensures.kept)
+    (rw c.in-Ok-Ends.field-0-is at c.in-Ok-Ends.ensures.kept)
 
 ended : (g : given.Over) (c : In-Ok-Ends g) → TurnsTo g.C.Clock.reading g.M.Machine.stands c.args.network.now c.args.until c.turns.self c.turn.new.self
     c.turn.new.note Ends
@@ -74,15 +73,12 @@ pub turns-preserved : goal.turns-preserved
 turns-preserved g c =
     let before = c.turns.invariant in
     let says = (gone_on g (goal.at.turns-preserved g c).In-Ok-GoesOn).says in
-    let kept = subst (λ (t : Turn). IsKept g.C.Clock.last_step g.C.Clock.reading g.M.Machine.stands c.args.network.now c.turns.self c.turn.new.self
-    (given_in {E = OutOfMemory} (Ok t) c.turn.new.note)) c.in-Ok-GoesOn.field-0-is c.in-Ok-GoesOn.ensures.kept in
+    let kept = rw c.in-Ok-GoesOn.field-0-is at c.in-Ok-GoesOn.ensures.kept in
     record {
       well = kept.well;
       after = after_then before.after kept.after;
       still = λ s notes is.
-          subst (λ l. Stands g.C.Clock.reading (keeps g.M.Machine.stands) s
-          (world_of c.args.network.now c.turn.new.self) l) (append-nil notes)
-          (kept.stands_then s notes (before.still s notes is));
+          rw (append-nil notes) at (kept.stands_then s notes (before.still s notes is));
       early = says.0;
       given = says.1 ∙ before.given;
     }

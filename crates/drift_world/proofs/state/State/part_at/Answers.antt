@@ -1,6 +1,6 @@
 use Rattle.{device_rules.specs.FirstKinds.{kind_of}, run_law.specs.machines.Calls.HasDue, world_law.proofs.giving.GivenParts.some_same}
-use Rattle.drift_world.{proofs.Parts.{none_sooner, part_least}, specs.Parts.{IsNoSooner, part_of}}
-use Rattle.drift_world.proofs.Words.{◌∙◌, ◌≡◌, ◌≤ℤ◌, amount, ap, arith, keeps, pos, reading_for, slice_get_read, subst, sym}
+use Rattle.drift_world.{proofs.Parts.{none_sooner, part_least}, specs.Parts.{part_of}}
+use Rattle.drift_world.proofs.Words.{◌∙◌, amount, ap, arith, pos, slice_get_read, sym}
 use Rattle.drift_world.proofs.state.State.part_at.Goals as goal
 
 pub returns-then-time-self : goal.returns-then-time-self
@@ -15,20 +15,20 @@ returns g c = λ clock machine network d node own at kept task pending reached.
     let machines = c.requires.sized.machines in
     let held = w.clocks.ok.0 in
     let kept_ok = w.machines.ok.0 in
-    let clock_is : c.index.result.now ≡ clock = some_same _ _ _
-    (slice_get_read w.clocks.items w.clocks.len c.args.device c.index.result.now w.clocks.ok.0 (omega (arith, clocks, there, held)) c.index.ensures) own in
-    let machine_is : c.index-2.result.now ≡ machine = some_same _ _ _
-    (slice_get_read w.machines.items w.machines.len c.args.device c.index-2.result.now w.machines.ok.0 (omega (arith, machines, there, kept_ok))
+    let clock_is = some_same _ _ _
+    (slice_get_read w.clocks.items w.clocks.len c.args.device c.index.result.now w.clocks.ok.0 (omega arith)
+    c.index.ensures) own in
+    let machine_is = some_same _ _ _
+    (slice_get_read w.machines.items w.machines.len c.args.device c.index-2.result.now w.machines.ok.0 (omega arith)
     c.index-2.ensures) at in
-    let reads : c.read-reading.result.0 ≡ pos (K.reading clock c.args.time) = c.read-reading.ensures
+    let reads = c.read-reading.ensures
     ∙ ap (λ t. pos (K.reading c.index.result.now (amount t))) c.from_amount.ensures.value
-    ∙ ap (λ (k : _). pos (K.reading k c.args.time)) clock_is in
-    let due : HasDue network d node c.read-reading.result.0 = (task, pending, subst (λ z. reading_for network node task ≤ℤ z) (sym reads) reached) in
-    subst (λ z. IsNoSooner network d node z c.of.result) reads
-    (none_sooner {network = network} {device = d} {node = node} {reading = c.read-reading.result.0} {part = c.of.result}
+    ∙ ap (λ k. pos (K.reading k c.args.time)) clock_is in
+    let due : HasDue network d node c.read-reading.result.0 = (task, pending, rw reads reached) in
+    (rw reads at (none_sooner
     (record {
       kind = c.first_kind.result;
-      is = c.first_kind.ensures network d node (subst (λ m. keeps g.M.Machine.stands m network d node) (sym machine_is) kept) due;
+      is = c.first_kind.ensures network d node (rw machine_is kept) due;
       of_part = sym c.of.ensures;
-    }))
+    })))
     task pending reached

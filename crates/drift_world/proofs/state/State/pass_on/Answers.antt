@@ -1,15 +1,15 @@
-use Rattle.drift_world.proofs.{Nearings.passing_nears, Words.{inl, inr, keeps, refl, subst, true, world_of, ℕ}, state.State.pass_on.Goals.After-pass_to}
+use Rattle.drift_world.proofs.{Nearings.passing_nears, Words.{inl, inr, keeps, refl, true, world_of, ℕ}, state.State.pass_on.Goals.After-pass_to}
 use Rattle.drift_world.proofs.Sources.{of_world}
 use Rattle.drift_world.{proofs.Turning.{passed_same, passes, whole_run}, specs.{Turns.{IsPassed, IsWhole, PassSays}, declared.state.State.State}}
-use Rattle.drift_world.proofs.Words.{◌+◌, ◌<◌, ◌^◌, ◌∙◌, ◌∷◌, ◌≡◌, ◌≤◌, ◌⊎◌, IsScenarioRun, List, Note, Scenario, Stands, StandsOn, Turn, [], ap, arith, both_ways, false}
+use Rattle.drift_world.proofs.Words.{◌+◌, ◌<◌, ◌^◌, ◌∙◌, ◌≡◌, ◌≤◌, ◌⊎◌, List, Note, Scenario, Stands, StandsOn, Turn, ap, arith, both_ways, false}
 use Rattle.drift_world.proofs.state.State.pass_on.Given as given
 use Rattle.drift_world.proofs.state.State.pass_on.Goals as goal
 
 -- where no time may pass, the time is the last
 last : (time until now : ℕ) (ended : _) → (ended ≡ true ⊎ ((ended ≡ false) × (2 ^ 60 < time))) → now < time → time ≤ until → until ≤ 2 ^ 60 + 1
     → (ended ≡ true → until ≤ now + 1) → time ≡ until
-last time until now ended (inl is) later within limit most = let le = most is in omega (arith, le, later, within)
-last time until now ended (inr far) later within limit most = let gt = far.1 in omega (arith, gt, within, limit)
+last time until now ended (inl is) later within limit most = let le = most is in omega arith
+last time until now ended (inr far) later within limit most = let gt = far.1 in omega arith
 
 -- where nothing is under way before the time, time passes
 still : (g : given.Over) (c : After-pass_to g)
@@ -27,7 +27,6 @@ passed : (g : given.Over) (c : After-pass_to g) (turn : Turn) → PassSays c.arg
     → IsPassed g.C.Clock.last_step g.C.Clock.reading g.M.Machine.stands c.args.network.now c.args.until c.args.self.now c.pass_to.new.self turn
 passed g c turn says whole =
     let r = c.requires in
-    let new = c.pass_to.new.self in
     let same = c.pass_to.ensures.same in
     let later = r.later in
     let time = ap State.time same in
@@ -38,8 +37,8 @@ passed g c turn says whole =
       still = still g c;
       whole = whole;
       says = says;
-      same = passed_same c.args.self.now new c.args.time true same;
-      later = omega (arith, time, later);
+      same = passed_same c.args.self.now c.pass_to.new.self c.args.time true same;
+      later = omega arith;
     }
 
 pub returns-then-self-clause-passed : goal.returns-then-self-clause-passed
@@ -49,13 +48,12 @@ returns-then-self-clause-passed g c =
       well = r.may.well;
       still = λ s notes is. is;
       whole = λ s notes old.
-          subst (λ (t : ℕ). IsScenarioRun s (t ∷ []) notes)
-          (last c.args.time c.args.until c.args.self.now.time c.args.self.now.ended c.then-self.either r.later r.within r.may.limit r.may.ended)
-          (whole_run r.may.well.sound r.nothing
+          rw (last c.args.time c.args.until c.args.self.now.time c.args.self.now.ended c.then-self.either r.later
+          r.within r.may.limit r.may.ended) at (whole_run r.may.well.sound r.nothing
           r.empty r.later old);
       says = λ early most. elim c.then-self.either [
         | inl is ↦ absurd (both_ways c.args.self.now.ended early is)
-        | inr far ↦ let gt = far.1 in let within = r.within in absurd (omega (arith, gt, within, most))
+        | inr far ↦ let gt = far.1 in let within = r.within in absurd (omega arith)
       ];
       same = refl;
       later = omega arith;
@@ -66,7 +64,7 @@ returns-then-time-until-clause-passed g c =
     let time = ap State.time c.pass_to.ensures.same in
     let less = c.if-time-until.true in
     passed g (goal.at.returns-then-time-until-clause-passed g c).After-pass_to _ (
-      omega (arith, time, less),
+      omega arith,
       ap State.given c.pass_to.ensures.same,
     ) (λ s notes is. tt)
 
@@ -75,11 +73,10 @@ returns-else-time-until-clause-passed g c =
     let r = c.requires in
     let within = r.within in
     let not_less = c.if-time-until.false in
-    let at : c.args.time ≡ c.args.until = omega (arith, within, not_less) in
+    let at : c.args.time ≡ c.args.until = omega arith in
     passed g (goal.at.returns-else-time-until-clause-passed g c).After-pass_to _
     (λ early most. record { time = ap State.time c.pass_to.ensures.same ∙ at; early = ap State.early c.pass_to.ensures.same })
-    (λ s notes old. subst (λ (t : ℕ). IsScenarioRun s (t ∷ []) notes) at
-    (whole_run r.may.well.sound r.nothing
+    (λ s notes old. rw at at (whole_run r.may.well.sound r.nothing
     r.empty r.later old))
 
 pub returns-then-time-until-clause-nears : goal.returns-then-time-until-clause-nears

@@ -1,4 +1,4 @@
-use Rattle.drift_world.proofs.Words.{◌∙◌, ◌∷◌, Happening, List, StandsAt, [], ap, keeps, map, settled_at, subst, sym, true, world_of}
+use Rattle.drift_world.proofs.Words.{◌∙◌, ap, keeps, map, settled_at, sym, world_of}
 use Rattle.world_law.proofs.steps_lemmas.steps.Passed.{passed_step}
 use Rattle.drift_world.proofs.state.State.pass_to.Goals as goal
 
@@ -6,9 +6,8 @@ pub returns-clause-stands : goal.returns-clause-stands
 returns-clause-stands g c = λ network s notes old none.
     let w = c.args.self.now in
     let empty = c.requires.none in
-    subst (λ (l : List Happening). StandsAt g.C.Clock.reading (keeps g.M.Machine.stands) s
-    (record (world_of network w) { now = c.args.time; early = true; settled = l }) notes (c.args.time ∷ []))
-    (ap (map (settled_at network w.time)) empty ∙ sym (ap (map (settled_at network c.args.time)) empty))
-    (passed_step g.C.Clock.reading (keeps g.M.Machine.stands) s (world_of network w) notes c.args.time old (ap (map (settled_at network w.time)) empty)
+    rw (ap (map (settled_at network w.time)) empty ∙ sym (ap (map (settled_at network c.args.time))
+    empty)) at (passed_step g.C.Clock.reading (keeps g.M.Machine.stands) s (world_of network w) notes c.args.time
+    old (ap (map (settled_at network w.time)) empty)
     c.requires.later c.requires.limit
     c.requires.open none)

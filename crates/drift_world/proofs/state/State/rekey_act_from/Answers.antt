@@ -1,5 +1,5 @@
-use Rattle.drift_world.proofs.{Dues.acts_by, Words.{◌+◌, ◌<◌, ◌∙◌, ◌≡◌, DeviceId, Network, Some, ap, arith, length, refl, slice_get-get_or, subst, ℕ}}
-use Rattle.{drift_world.specs.Stepping.IsTimedFor, run_law.specs.machines.Tasks.IsDueReading, std.proofs.Common.{get_or, slice_get}}
+use Rattle.drift_world.proofs.{Dues.acts_by, Words.{◌+◌, ◌<◌, ◌∙◌, DeviceId, Some, ap, arith, length, refl, slice_get-get_or, subst}}
+use Rattle.{drift_world.specs.Stepping.IsTimedFor, std.proofs.Common.{get_or}}
 use Rattle.world_state.specs.{declared.timers.Timer.Timer, timers.Times.unset}
 use Rattle.drift_world.proofs.state.State.rekey_act_from.Goals as goal
 
@@ -14,12 +14,12 @@ returns-then-keeps_part g c =
     let device : DeviceId = record { 0 = c.args.device } in
     let s = may.running.s in
     let old = may.running.is in
-    let of_it : c.args.device < length s.network.device = subst (λ (n : Network). c.args.device < length n.device) old.same there in
+    let of_it : c.args.device < length s.network.device = rw old.same at there in
     let own = old.clocks device of_it in
     let has = old.devices device of_it in
     let slot = length network.device + c.args.device in
-    let timer : Timer = get_or w.timers slot unset in
-    let at : slice_get w.timers slot ≡ Some timer = slice_get-get_or w.timers slot unset (omega (arith, slots, there)) in
+    let timer = get_or w.timers slot unset in
+    let at = slice_get-get_or w.timers slot unset (omega arith) in
     let timed = subst (IsTimedFor g.C.Clock.reading S network w c.args.device) c.in-Due.is c.requires.before in
     let before = timed own.0 timer own.1 at in
     record {
@@ -31,10 +31,10 @@ returns-then-keeps_part g c =
         of_machine = has.1;
         act = timer.time;
         part = before.part;
-        of_act = at ∙ ap (λ (r : ℕ). Some (let t : Timer = record { time = timer.time; rank = r } in t)) before.rank_is;
+        of_act = at ∙ ap (λ r. Some (let t : Timer = record { time = timer.time; rank = r } in t)) before.rank_is;
         acts = acts_by S network has.0 device before.part c.in-Due.before
-            (λ node is. subst (λ d. IsDueReading network device node d) (c.is_same.ensures c.if-is_same.true)
-            (c.due_of-due.ensures has.0 network device node has.1 is))
+            (λ node is. rw (c.is_same.ensures c.if-is_same.true) at (c.due_of-due.ensures has.0 network device node
+            has.1 is))
             before.by
             (λ node kept. c.keeps_part.ensures c.if-keeps_part.true timer before.part at before.rank_is own.0 has.0 network device node own.1 has.1 kept);
       };

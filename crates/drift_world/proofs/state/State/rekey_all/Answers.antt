@@ -11,7 +11,7 @@ rekey-requires g c =
     record {
       may = record {
         sized = sized_with K.last_step K.reading S before.same c.requires.may.sized;
-        there = omega (arith, more, len);
+        there = omega arith;
         few = (in_range c.requires.may.running).few_devices;
         slots = before.sized;
         running = running_with K.last_step K.reading S before.same c.requires.may.running;
@@ -23,4 +23,4 @@ loop-device-preserved g c =
     let more = c.loop-device-test.true in
     let len = ap length c.as_slice.ensures in
     set_more
-    c.loop-device.invariant c.rekey.ensures (omega (arith, more, len))
+    c.loop-device.invariant c.rekey.ensures (omega arith)

@@ -1,4 +1,4 @@
-use Rattle.drift_world.proofs.{Elsewhere.its_device, Timings.in_range, Words.{◌+◌, ◌≡◌, ◌⊎◌, DeviceId, IsSomeAnd, Option, length, subst, sym}}
+use Rattle.drift_world.proofs.{Elsewhere.its_device, Timings.in_range, Words.{◌+◌, ◌≡◌, ◌⊎◌, IsSomeAnd, length, subst, sym}}
 use Rattle.drift_world.specs.Stepping.{SetsOnly}
 use Rattle.drift_world.proofs.state.State.rekey_by.Goals as goal
 
@@ -18,5 +18,6 @@ rekey-requires g c =
 pub returns-in-Some-clause-sets : goal.returns-in-Some-clause-sets
 returns-in-Some-clause-sets g c =
     let many = length c.args.network.now.device in
-    subst (λ (o : Option DeviceId). SetsOnly (λ slot. IsSomeAnd o (λ d. (slot ≡ d.0) ⊎ (slot ≡ many + d.0))) c.args.self.now c.rekey.new.self)
+    subst (λ o. SetsOnly (λ slot. IsSomeAnd o (λ d. (slot ≡ d.0) ⊎ (slot ≡ many + d.0))) c.args.self.now
+    c.rekey.new.self)
     c.in-Some.ensures c.rekey.ensures.sets

@@ -1,7 +1,7 @@
 use Rattle.{drift_world.proofs.Timings.{IsLow, not_past, ripe_timed}, tte_units.proofs.general_lemmas.Lists.{set_aside, set_same}}
-use Rattle.drift_world.proofs.Words.{◌<◌, ◌∙◌, ◌≡◌, ◌≤◌, DeviceId, Network, ap, arith, length, length-set, refl, slice_get_read, subst, sym, ℕ}
-use Rattle.std.proofs.Common.{List, slice_get, slice_set}
-use Rattle.{std.proofs.lemmas.List.Elements.All-set, world_law.proofs.giving.GivenParts.some_same, world_state.specs.Timing.{IsLeastPoint, IsTimeFor}}
+use Rattle.drift_world.proofs.Words.{◌<◌, ◌∙◌, ◌≡◌, ◌≤◌, DeviceId, ap, arith, length, length-set, refl, slice_get_read, subst, sym}
+use Rattle.std.proofs.Common.{slice_set}
+use Rattle.{std.proofs.lemmas.List.Elements.All-set, world_law.proofs.giving.GivenParts.some_same}
 use Rattle.{drift_world.proofs.state.State.rekey_ripe.Given.Over, world_state.specs.{declared.timers.Timer.Timer, timers.Times.AreFrom}}
 use Rattle.drift_world.proofs.state.State.rekey_ripe.Goals.{After-set}
 use Rattle.drift_world.proofs.state.State.rekey_ripe.Goals as goal
@@ -13,7 +13,8 @@ timer g c = record { time = c.time_for-ripe.result; rank = 3 }
 timers_are : (g : Over) (c : After-set g) → c.set.new.self ≡ slice_set c.args.self.now.timers c.args.device (timer g c)
 timers_are g c =
     c.set.ensures
-    ∙ ap (λ (r : ℕ). slice_set c.args.self.now.timers c.args.device (let t : Timer = record { time = c.time_for-ripe.result; rank = r } in t)) c.number.ensures
+    ∙ ap (λ r. slice_set c.args.self.now.timers c.args.device (let t : Timer =
+    record { time = c.time_for-ripe.result; rank = r } in t)) c.number.ensures
 
 pub returns-clause-timed : goal.returns-clause-timed
 returns-clause-timed g c =
@@ -26,22 +27,23 @@ returns-clause-timed g c =
     let device : DeviceId = record { 0 = c.args.device } in
     let s = c.requires.may.running.s in
     let old = c.requires.may.running.is in
-    let of_it : c.args.device < length s.network.device = subst (λ (n : Network). c.args.device < length n.device) old.same there in
+    let of_it : c.args.device < length s.network.device = rw old.same at there in
     let own = old.clocks device of_it in
     let clock = own.0 in
-    let same : clock ≡ c.index.result.now = some_same _ _ _ own.1
-    (slice_get_read w.clocks.items w.clocks.len c.args.device c.index.result.now w.clocks.ok.0 (omega (arith, clocks, there, held)) c.index.ensures) in
+    let same = some_same _ _ _ own.1
+    (slice_get_read w.clocks.items w.clocks.len c.args.device c.index.result.now w.clocks.ok.0 (omega arith)
+    c.index.ensures) in
     let low : IsLow K.reading clock w.time = λ u from most.
-    let least = (old.steady device).low u most in let reads = own.2 u from in omega (arith, least, reads) in
-    let point : IsLeastPoint w.waiting.items c.args.device c.least_point-point.result = c.least_point-point.ensures in
+    let least = (old.steady device).low u most in let reads = own.2 u from in omega arith in
+    let point = c.least_point-point.ensures in
     record {
       clock = clock;
       of_clock = own.1;
       ripe = c.time_for-ripe.result;
-      of_ripe = ap (λ (l : List Timer). slice_get l c.args.device) (timers_are g (goal.at.returns-clause-timed g c).After-set)
-          ∙ set_same w.timers c.args.device (timer g (goal.at.returns-clause-timed g c).After-set) (omega (arith, slots, there));
+      of_ripe = rw (timers_are g (goal.at.returns-clause-timed g c).After-set)
+          (set_same w.timers c.args.device (timer g (goal.at.returns-clause-timed g c).After-set) (omega arith));
       ripens = ripe_timed K.reading clock w.waiting.items c.args.device w.time c.least_point-point.result c.time_for-ripe.result low point
-          (subst (λ k. IsTimeFor K.reading k w.time c.least_point-point.result c.time_for-ripe.result) (sym same) c.time_for-ripe.ensures);
+          (rw same c.time_for-ripe.ensures);
     }
 
 pub returns-clause-sets : goal.returns-clause-sets
@@ -53,8 +55,8 @@ returns-clause-sets g c =
     record {
       same = refl;
       sized = ap length same ∙ length-set w.timers c.args.device (timer g here);
-      others = λ other apart. ap (λ (l : List Timer). slice_get l other) same ∙ set_aside w.timers c.args.device other (timer g here) apart;
+      others = λ other apart. rw same (set_aside w.timers c.args.device other (timer g here) apart);
       later = λ all. subst (AreFrom w.time) (sym same)
-          (All-set (λ (t : Timer). w.time ≤ t.time) w.timers c.args.device (timer g here)
+          (All-set (λ t. w.time ≤ t.time) w.timers c.args.device (timer g here)
           (not_past g.C.Clock.reading c.index.result.now w.time c.least_point-point.result ripe c.requires.may.sized.limit c.time_for-ripe.ensures) all);
     }

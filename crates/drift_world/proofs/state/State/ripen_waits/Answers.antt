@@ -25,7 +25,7 @@ held g c =
     (λ clock own. c.requires.reached c.take_first-waits.result clock c.take_first-waits.ensures.is own) at.is in
     let many = c.requires.sound.sized.machines in
     slice_get_read c.args.self.now.machines.items (length c.args.self.now.machines.items) c.take_first-waits.result.device.0 c.index_mut.result.now refl
-    (omega (arith, lt, many))
+    (omega arith)
     c.index_mut.ensures.value
 
 now_is : (g : given.Over) (c : After-index_mut g) {s : Scenario} {notes : List Note}
@@ -48,14 +48,14 @@ from_amount-requires-2 g c =
     (inside g (goal.at.from_amount-requires-2 g c).After-take_first-waits) (λ clock own.
     c.requires.reached c.take_first-waits.result clock c.take_first-waits.ensures.is own) at.is own.1 in
     let same = own.2 in
-    omega (arith, most, same)
+    omega arith
 
 pub index_mut-requires : goal.index_mut-requires
 index_mut-requires g c =
     let lt = within g (goal.at.index_mut-requires g c).After-take_first-waits in
     let many = c.requires.sound.sized.machines in
     let len = c.args.self.now.machines.ok.0 in
-    omega (arith, lt, many, len)
+    omega arith
 
 pub ripen-ripe-requires : goal.ripen-ripe-requires
 ripen-ripe-requires g c =
@@ -93,7 +93,7 @@ returns-clause-turns g c = λ s notes old first.
     let many = c.requires.sound.sized.machines in
     ripened g.M.Machine.stands c.args.self.now c.take_first-waits.new.self.items
     c.ripen-ripe.new.self c.ripen-ripe.result c.take_first-waits.ensures.items c.requires.sound.fit.apart
-    (λ clock own. c.requires.reached one clock c.take_first-waits.ensures.is own) (omega (arith, lt, many))
+    (λ clock own. c.requires.reached one clock c.take_first-waits.ensures.is own) (omega arith)
     (held g (goal.at.returns-clause-turns g c).After-index_mut) first
     (subst (λ m. HasRipened (keeps g.M.Machine.stands) s.network one.device m one.link one.frame one.point c.ripen-ripe.result c.index_mut.result.now
     c.ripen-ripe.new.self) (now_is g (goal.at.returns-clause-turns g c).After-index_mut old)
@@ -108,11 +108,11 @@ returns-clause-others g c =
       clocks = refl;
       time = refl;
       ended = refl;
-      machines = (is_set c.args.self.now.machines.items one.device.0 c.ripen-ripe.new.self (omega (arith, lt, many))).same;
+      machines = (is_set c.args.self.now.machines.items one.device.0 c.ripen-ripe.new.self (omega arith)).same;
       waiting = others_wait one c.args.self.now.waiting.items c.take_first-waits.new.self.items c.take_first-waits.ensures.items;
     }
 
 pub returns-clause-shorter : goal.returns-clause-shorter
 returns-clause-shorter g c =
     let len = length_permutation _ _ c.take_first-waits.ensures.items in
-    omega (arith, len)
+    omega arith

@@ -3,9 +3,9 @@ use Rattle.drift_world.proofs.{OwnPlaces.{judged_far, judged_rank, no_shelf, no_
 use Rattle.{drift_world.{proofs.Fits.{all_put_some, have_octets, sound_same}, specs.declared.state.State.State}, world_state.specs.Ripening.{joined_record, ripe_record}}
 use Rattle.{drift_world.proofs.{Timings.rekeyed_by, Turned.{all_put_in, first_given, next_first, turns_of}}, run_law.specs.declared.steps.Ripe.Ripe}
 use Rattle.drift_world.{proofs.Turning.{is_at, kept_timers, rekeyed_step, runs_on, step_kept}, specs.declared.source.Source.TheVariants.Ripening}
-use Rattle.drift_world.proofs.Words.{◌++◌, ◌+◌, ◌<◌, ◌∙◌, ◌∷◌, ◌≡◌, ◌≤ℤ◌, ChangesOnly, DeviceId, IsSomePut, IsSound, Kept, List, Meaning, Network, Note}
+use Rattle.drift_world.proofs.Words.{◌++◌, ◌+◌, ◌∙◌, ◌∷◌, ◌≡◌, ChangesOnly, IsSound, Kept, List, Meaning, Network, Note}
 use Rattle.drift_world.proofs.Words.{Option, Scenario, Settled, Some, Stands, TurnsIn, Waits, World, [], ap, arith, both_ways}
-use Rattle.drift_world.proofs.Words.{changed_device, keeps, length, pos, rank, refl, ripe_place, subst, sym, true}
+use Rattle.drift_world.proofs.Words.{changed_device, keeps, length, rank, refl, ripe_place, subst, sym, true}
 use Rattle.drift_world.proofs.Words.{waiting_as}
 use Rattle.{drift_world.{proofs.Words.{world_of, ℕ}, specs.Ripening.IsJudged}, std.proofs.Common.{is_some, slice_get}, world_state.specs.Frames.first_of}
 use Rattle.drift_world.specs.Turns.{IsRipe, MayWork}
@@ -20,20 +20,19 @@ ripen_waits-ripened-requires-clause-there g c = ap is_some c.requires.may.foremo
 pub ripen_waits-ripened-requires-clause-reached : goal.ripen_waits-ripened-requires-clause-reached
 ripen_waits-ripened-requires-clause-reached g c = λ w clock at own.
     let it = c.requires.may.foremost.there in
-    let same : c.args.one ≡ w = some_same _ _ _ it.is at in
-    let clocks : it.clock ≡ clock = some_same _ _ _ it.own (ap (λ (v : Waits). slice_get c.args.self.now.clocks.items v.device.0) same ∙ own) in
-    subst (λ k. w.point.0 ≤ℤ pos (g.C.Clock.reading k c.args.self.now.time)) clocks
-    (subst (λ (v : Waits). v.point.0 ≤ℤ pos (g.C.Clock.reading it.clock c.args.self.now.time)) same it.reached)
+    let same = some_same _ _ _ it.is at in
+    let clocks = some_same _ _ _ it.own (rw same own) in
+    rw clocks at (rw same at it.reached)
 
 pub overflow_add-number : goal.overflow_add-number
-overflow_add-number g c = let most = c.requires.may.room.numbers in omega (arith, most)
+overflow_add-number g c = let most = c.requires.may.room.numbers in omega arith
 
 -- the frame that is permanent comes first
 first_ripe : {C M : Type 0} {last_step : C → ℕ} {reading : C → ℕ → ℕ} {stands : Meaning M} {network : Network}
     {state : State C M} {one w : Waits} → MayWork last_step reading stands network state (Ripening one)
     → first_of state.waiting one.device.0 ≡ Some w → MayWork last_step reading stands network state (Ripening w)
 first_ripe {last_step} {reading} {stands} {network} {state} may at =
-    subst (λ (v : Waits). MayWork last_step reading stands network state (Ripening v)) (some_same _ _ _ may.foremost.there.is at) may
+    rw (some_same _ _ _ may.foremost.there.is at) at may
 
 pub ripen_waits-ripened-requires-clause-comes : goal.ripen_waits-ripened-requires-clause-comes
 ripen_waits-ripened-requires-clause-comes g c = λ w at.
@@ -42,7 +41,7 @@ ripen_waits-ripened-requires-clause-comes g c = λ w at.
 
 changed : {C M : Type 0} {reading : C → ℕ → ℕ} {network : Network} {old new : State C M} {one w : Waits} → IsRipe reading network old one
     → first_of old.waiting one.device.0 ≡ Some w → ChangesOnly w.device.0 old new → ChangesOnly one.device.0 old new
-changed {old} {new} ripe at others = subst (λ (v : Waits). ChangesOnly v.device.0 old new) (sym (some_same _ _ _ ripe.is at)) others
+changed {old} {new} ripe at others = rw (some_same _ _ _ ripe.is at) others
 
 -- ---- its record is given
 
@@ -58,30 +57,30 @@ give_first-requires-clause-sound g c =
     let number = c.args.self.now.given + 1 in
     sound_same _ sound refl refl refl refl refl refl refl refl refl refl
     (all_put_some have_octets (joined_record number got.waits.device got.ripe) mid.settled.items c.put_change.new.settled.items
-    (subst (λ (o : Option Settled). IsSomePut o mid.settled.items c.put_change.new.settled.items) c.joined-change.ensures c.put_change.ensures.is)
+    (rw c.joined-change.ensures at c.put_change.ensures.is)
     (joined_fits number got.waits.device got.ripe) sound.fit.octets)
 
 pub give_first-requires-clause-number : goal.give_first-requires-clause-number
 give_first-requires-clause-number g c =
     let numbers = c.requires.may.room.numbers in
     let given = ap State.given c.ripen_waits-ripened.ensures.same in
-    omega (arith, numbers, given)
+    omega (arith, given)
 
 pub give_first-requires-clause-room : goal.give_first-requires-clause-room
 give_first-requires-clause-room g c =
-    subst (λ (t : State _ _). length c.args.network.now.link < t.under_way.room) (sym c.ripen_waits-ripened.ensures.same) c.requires.may.room.launches
+    rw c.ripen_waits-ripened.ensures.same c.requires.may.room.launches
 
 pub give_first-requires-clause-capacity : goal.give_first-requires-clause-capacity
 give_first-requires-clause-capacity g c =
-    let own = ap (λ (z : Settled). rank z.body) c.record_of-record.ensures
+    let own = ap (λ z. rank z.body) c.record_of-record.ensures
     ∙ judged_rank c.ripen_waits-ripened.result.waits c.ripen_waits-ripened.result.ripe (c.is_judged.ensures.0 c.if-is_judged.true) in
-    no_waiter c.record_of-record.result.body c.ripen_waits-ripened.new.self.waiting (λ two. omega (arith, two, own))
+    no_waiter c.record_of-record.result.body c.ripen_waits-ripened.new.self.waiting (λ two. omega arith)
 
 pub give_first-requires-clause-place : goal.give_first-requires-clause-place
 give_first-requires-clause-place g c =
-    let own = ap (λ (z : Settled). rank z.body) c.record_of-record.ensures
+    let own = ap (λ z. rank z.body) c.record_of-record.ensures
     ∙ judged_rank c.ripen_waits-ripened.result.waits c.ripen_waits-ripened.result.ripe (c.is_judged.ensures.0 c.if-is_judged.true) in
-    no_shelf c.record_of-record.result.body c.ripen_waits-ripened.new.self.stored (λ taken. omega (arith, taken, own))
+    no_shelf c.record_of-record.result.body c.ripen_waits-ripened.new.self.stored (λ taken. omega arith)
 
 -- it is worked off, and these are its records
 turned : (g : given.Over) (c : After-ripen_waits-ripened g) {s : Scenario} {notes : List Note}
@@ -108,7 +107,7 @@ turned_by {reading} {stands} {network} {s} {notes} {world} {place} w is {second}
 
 -- it stands where it was permanent
 at_source : (w : Waits) (is : Ripe) {z : Settled} → z ≡ ripe_record w is → IsJudged is → is_at_source z.body ≡ true
-at_source w is same judged = subst (λ (x : Settled). is_at_source x.body ≡ true) (sym same) (judged_source w is judged)
+at_source w is same judged = rw same (judged_source w is judged)
 
 pub give_first-requires-clause-next : goal.give_first-requires-clause-next
 give_first-requires-clause-next g c =
@@ -116,14 +115,13 @@ give_first-requires-clause-next g c =
     let here = (goal.at.give_first-requires-clause-next g c).After-ripen_waits-ripened in
     let got = c.ripen_waits-ripened.result in
     let mid = c.ripen_waits-ripened.new.self in
-    let second = joined_record (c.args.self.now.given + 1) got.waits.device got.ripe in
     let turn = turned_by got.waits got.ripe c.record_of-record.ensures
     (turned g here run.is) in
     record {
       s = run.s;
       notes = run.notes;
       next = next_first mid.settled.items refl turn c.put_change.new.settled.items
-          (subst (λ o. IsSomePut o mid.settled.items c.put_change.new.settled.items) c.joined-change.ensures c.put_change.ensures.is)
+          (rw c.joined-change.ensures at c.put_change.ensures.is)
           (at_source got.waits got.ripe c.record_of-record.ensures (c.is_judged.ensures.0 c.if-is_judged.true));
       own = turn.first_is;
     }
@@ -142,13 +140,12 @@ given_so g c {s} {notes} from =
     let got = c.ripen_waits-ripened.result in
     let mid = c.ripen_waits-ripened.new.self in
     let give = c.give_first.ensures in
-    let second = joined_record (c.args.self.now.given + 1) got.waits.device got.ripe in
     let turn = turned_by got.waits got.ripe c.record_of-record.ensures from in
-    let put = subst (λ o. IsSomePut o mid.settled.items c.put_change.new.settled.items) c.joined-change.ensures c.put_change.ensures.is in
+    let put = rw c.joined-change.ensures at c.put_change.ensures.is in
     let source = at_source got.waits got.ripe c.record_of-record.ensures (c.is_judged.ensures.0 c.if-is_judged.true) in
     (first_given mid.settled.items refl turn
     c.put_change.new.settled.items put source (world_of network c.give_first.new.self) give.note
-    (ap (λ (t : State _ _). world_of network t) give.same) (give.launched s notes)).0
+    (rw give.same) (give.launched s notes)).0
 
 pub rekey_from-requires : goal.rekey_from-requires
 rekey_from-requires g c =
@@ -181,14 +178,13 @@ rekey_from-requires g c =
 
 pub returns-then-is_judged-clause-kept : goal.returns-then-is_judged-clause-kept
 returns-then-is_judged-clause-kept g c =
-    let device : DeviceId = record { 0 = c.args.one.device.0 } in
     let may = c.requires.may in
     let got = c.ripen_waits-ripened.result in
     let rip = c.ripen_waits-ripened.ensures in
     let give = c.give_first.ensures in
     let o = changed
     c.requires.may.foremost.there c.ripen_waits-ripened.ensures.is c.ripen_waits-ripened.ensures.others in
-    let far = ap (λ (x : Settled). changed_device x.body) c.record_of-record.ensures ∙ judged_far got.waits got.ripe in
+    let far = ap (λ x. changed_device x.body) c.record_of-record.ensures ∙ judged_far got.waits got.ripe in
     let few = may.range.few_devices in
     let time = ap State.time give.same ∙ o.time in
     kept_timers _ may.well
@@ -196,15 +192,15 @@ returns-then-is_judged-clause-kept g c =
     (record {
       clocks = ap State.clocks give.same ∙ o.clocks;
       ended = ap State.ended give.same ∙ o.ended;
-      later = omega (arith, time);
+      later = omega arith;
     })
     (λ s notes is. given_so g (goal.at.returns-then-is_judged-clause-kept g c).After-give_first
     (turned g (goal.at.returns-then-is_judged-clause-kept g c).After-ripen_waits-ripened is)) c.rekey_from.ensures.sets.same
     (rekeyed_by may.well.timed may.foremost.there.of
-    (λ i ne. ap (λ (t : State _ _). slice_get t.clocks.items i) give.same ∙ ap (λ (t : State _ _). slice_get t.clocks.items i) rip.same)
-    (λ i ne. ap (λ (t : State _ _). slice_get t.machines.items i) give.same ∙ o.machines i ne)
+    (λ i ne. rw give.same (ap (λ t. slice_get t.clocks.items i) rip.same))
+    (λ i ne. rw give.same (o.machines i ne))
     (λ x ne lt.
-    let aside = give.others.waiting x (λ e. omega (arith, e, far, lt, few)) in
+    let aside = give.others.waiting x (λ e. omega arith) in
     let before = o.waiting x ne in
     (λ i. before.0 (aside.0 i), λ i. aside.1 (before.1 i)))
     time
@@ -222,12 +218,11 @@ still : (g : given.Over) (c : After-settle_ripe g) {s : Scenario} {notes : List 
     (world_of c.args.network.now (record c.ripen_waits-ripened.new.self { settled = c.settle_ripe.new.settled })) notes
 still g c {s} {notes} turn =
     let got = c.ripen_waits-ripened.result in
-    let mid = c.ripen_waits-ripened.new.self in
     let number = c.args.self.now.given + 1 in
     let so = c.settle_ripe.ensures in
     let not : IsJudged got.ripe → ⊥ = λ judged. both_ways c.is_judged.result c.if-is_judged.false
     (c.is_judged.ensures.1 judged) in
-    (all_put_in mid.settled.items refl so.mid c.settle_ripe.new.settled.items turn
+    (all_put_in c.ripen_waits-ripened.new.self.settled.items refl so.mid c.settle_ripe.new.settled.items turn
     (so.at, so.first) so.more (dropped_late number got.waits got.ripe not)).0
 
 sound_after : (g : given.Over) (c : After-settle_ripe g)
@@ -264,7 +259,6 @@ returns-clause-kept g c =
     let rip = c.ripen_waits-ripened.ensures in
     let o = changed
     c.requires.may.foremost.there c.ripen_waits-ripened.ensures.is c.ripen_waits-ripened.ensures.others in
-    let after : State _ _ = record c.ripen_waits-ripened.new.self { settled = c.settle_ripe.new.settled } in
     step_kept (rekeyed_step may.well (sound_after g (goal.at.returns-clause-kept g c).After-settle_ripe) may.foremost.there.of
     (record { clocks = o.clocks; time = o.time; ended = o.ended; machines = o.machines; waiting = o.waiting })
     (ap State.timers rip.same) (ap State.given rip.same)

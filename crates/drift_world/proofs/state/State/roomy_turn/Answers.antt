@@ -19,15 +19,14 @@ pub front_turn-requires : goal.front_turn-requires
 front_turn-requires g c =
     let r = c.requires in
     let up = c.pass_first.ensures.passed in
-    let mid = c.pass_first.new.self in
     let later = up.later in
     record {
       may = record {
         range = r.may.range;
         well = up.well;
         limit = r.may.limit;
-        early = (subst (PassSays c.args.self.now mid c.args.until) c.in-GoesOn.is up.says).0;
-        ended = λ is. let most = r.may.ended (sym (ap State.ended up.same) ∙ is) in omega (arith, most, later);
+        early = (subst (PassSays c.args.self.now c.pass_first.new.self c.args.until) c.in-GoesOn.is up.says).0;
+        ended = λ is. let most = r.may.ended (sym (ap State.ended up.same) ∙ is) in omega arith;
       };
       room = room_passed up.same r.room;
       firsts = firsts_passed up.same (firsts_of g (goal.at.front_turn-requires g c).After-first-due);

@@ -1,4 +1,4 @@
-use Rattle.drift_world.proofs.Words.{Stands, ap, keeps, subst, sym, world_of}
+use Rattle.drift_world.proofs.Words.{Stands, ap, keeps, world_of}
 use Rattle.drift_world.{proofs.{Nearings.{on_both, settled_less}, Turning.{either_end, plain_step}}, specs.declared.state.State.State}
 use Rattle.drift_world.proofs.state.State.settle.Goals as goal
 
@@ -11,11 +11,10 @@ returns-clause-step g c =
     (λ s notes old. either_end c.settle_befallen.result _ _
     (Stands g.C.Clock.reading (keeps g.M.Machine.stands) s after notes)
     (step.stands s notes old) step.err (λ is. is.0)
-    (λ same. subst (λ v. Stands g.C.Clock.reading (keeps g.M.Machine.stands) s v notes) (sym same) old))
+    (λ same. rw same old))
 
 pub returns-clause-less : goal.returns-clause-less
 returns-clause-less g c =
-    let w = c.args.self.now in
     let step = c.settle_befallen.ensures in
     on_both c.settle_befallen.result _ _ _ step.done step.no_more
-    (λ done most. settled_less c.args.network.now w c.requires.may.foremost.there done most step.same)
+    (λ done most. settled_less c.args.network.now c.args.self.now c.requires.may.foremost.there done most step.same)

@@ -1,5 +1,5 @@
 use Rattle.drift_world.proofs.{BefallenLaws.{all_fresh, befallen_behind, numbers_given, octets_settled}, state.State.settle_befallen.Goals.After-settle_all}
-use Rattle.drift_world.proofs.{Fits.{have_octets, sized_so, sound_same}, Nearings.settled_length, Words.{◌+◌, ◌≡◌, ap, arith, keeps, length, refl, subst, sym}}
+use Rattle.drift_world.proofs.{Fits.{have_octets, sized_so, sound_same}, Nearings.settled_length, Words.{◌+◌, ◌≡◌, ap, arith, length, refl, subst, sym}}
 use Rattle.{std.proofs.Common.All, world_state.{proofs.Befallings.{settled_with, sound_settled}, specs.Befalling.AreSettledBy}}
 use Rattle.drift_world.proofs.state.State.settle_befallen.Given as given
 use Rattle.drift_world.proofs.state.State.settle_befallen.Goals as goal
@@ -30,7 +30,6 @@ returns-clause-sound g c =
     let fit = c.requires.may.well.sound.fit in
     let network = c.args.network.now in
     let at = c.requires.may.well.running in
-    let stands = keeps g.M.Machine.stands in
     let after = c.settle_all.new in
     let so = settled_so g (goal.at.returns-clause-sound g c).After-settle_all in
     let under = sound_settled network c.requires.may.range w.broken.items w.ups.items w.time (w.given + 1) w.befell.items w.settled.items after.settled.items
@@ -61,7 +60,7 @@ returns-clause-stands g c = λ s notes old.
     let own = w.befell.ok.0 in
     let given = old.given in
     befallen_behind w old c.requires.may.foremost.there after.settled.items
-    after.under_way.entries c.settle_all.ensures.none (omega (arith, few, len, own, given)) so
+    after.under_way.entries c.settle_all.ensures.none (omega (arith, given)) so
 
 pub returns-clause-no_more : goal.returns-clause-no_more
 returns-clause-no_more g c =
@@ -72,4 +71,4 @@ returns-clause-no_more g c =
     let none : length after.befell.items ≡ 0 = ap length c.settle_all.ensures.none in
     let most = settled_length network w.broken.items w.ups.items w.time w.befell.items w.settled.items after.settled.items w.under_way.entries
     after.under_way.entries so in
-    omega (arith, none, most)
+    omega arith

@@ -1,6 +1,6 @@
 use Rattle.drift_world.proofs.{AtSource.source_at, OwnPlaces.{changes_both, no_change, no_shelf, no_waiter}}
 use Rattle.drift_world.proofs.{Timings.aside, Turned.{first_given, next_first, turns_of}, Turning.kept_timers}
-use Rattle.drift_world.proofs.Words.{◌<◌, ◌∙◌, ChangesOnly, None, Some, ap, arith, changed_device, length, refl, sym, subst, world_of}
+use Rattle.drift_world.proofs.Words.{◌∙◌, None, Some, ap, arith, changed_device, refl, world_of}
 use Rattle.drift_world.specs.declared.{source.Source.TheVariants.Clock, state.State.State}
 use Rattle.drift_world.proofs.state.State.show.Goals as goal
 
@@ -8,26 +8,25 @@ pub give_first-requires-clause-number : goal.give_first-requires-clause-number
 give_first-requires-clause-number g c =
     let numbers = c.requires.may.room.numbers in
     let given = ap State.given c.show_clock-record.ensures.same in
-    omega (arith, numbers, given)
+    omega arith
 
 pub give_first-requires-clause-room : goal.give_first-requires-clause-room
 give_first-requires-clause-room g c =
-    subst (λ (t : State _ _). length c.args.network.now.link < t.under_way.room) (sym c.show_clock-record.ensures.same) c.requires.may.room.launches
+    rw c.show_clock-record.ensures.same c.requires.may.room.launches
 
 pub give_first-requires-clause-capacity : goal.give_first-requires-clause-capacity
 give_first-requires-clause-capacity g c =
     let own = c.show_clock-record.ensures.rank in
-    no_waiter c.show_clock-record.result.body c.show_clock-record.new.self.waiting (λ two. omega (arith, two, own))
+    no_waiter c.show_clock-record.result.body c.show_clock-record.new.self.waiting (λ two. omega arith)
 
 pub give_first-requires-clause-place : goal.give_first-requires-clause-place
 give_first-requires-clause-place g c =
     let own = c.show_clock-record.ensures.rank in
-    no_shelf c.show_clock-record.result.body c.show_clock-record.new.self.stored (λ taken. omega (arith, taken, own))
+    no_shelf c.show_clock-record.result.body c.show_clock-record.new.self.stored (λ taken. omega arith)
 
 pub give_first-requires-clause-next : goal.give_first-requires-clause-next
 give_first-requires-clause-next g c =
-    let well = c.requires.may.well in
-    let run = well.running in
+    let run = c.requires.may.well.running in
     let mid = c.show_clock-record.new.self in
     let one = c.show_clock-record.result in
     let turn = turns_of mid (Some one) None c.requires.may tt
@@ -53,17 +52,17 @@ returns-clause-kept g c =
     let own = shown.rank in
     let far = no_change one.body (λ two. omega (arith, two, own)) in
     let few = may.range.few_devices in
-    let changes : ChangesOnly other w gave = changes_both (shown.others other) give.others in
+    let changes = changes_both (shown.others other) give.others in
     let time = changes.time in
     kept_timers _
     may.well give.sound
-    (record { clocks = changes.clocks; ended = changes.ended; later = omega (arith, time) })
+    (record { clocks = changes.clocks; ended = changes.ended; later = omega arith })
     (λ s notes is.
     let network = c.args.network.now in
     (first_given mid.settled.items refl
     (turns_of mid (Some one) None may tt (shown.turns may.foremost.there.ended) is)
     mid.settled.items refl (source_at (Clock c.args.device) one.body shown.rank) (world_of network gave) give.note
-    (ap (λ (t : State _ _). world_of network t) give.same) (give.launched s notes)).0)
+    (rw give.same) (give.launched s notes)).0)
     refl
-    (aside may.well.timed (omega (arith, far, few)) changes
+    (aside may.well.timed (omega arith) changes
     (ap State.timers give.same ∙ ap State.timers shown.same))

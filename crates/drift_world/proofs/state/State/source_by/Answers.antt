@@ -1,6 +1,6 @@
 use Rattle.drift_world.proofs.Foremost.{arrival_first, clock_first, departure_first, due_after, events_first, from_some, none_before, place_after, placed}
 use Rattle.drift_world.proofs.{Foremost.slot_first, state.State.source_by.Goals.{else-self-2-via-else-self-2, else-self-2-via-then-self-2+else-self-as_slice}}
-use Rattle.drift_world.proofs.Words.{SlotTimer, DueAt, IsFirst, ap, arith, both_ways, length, refl}
+use Rattle.drift_world.proofs.Words.{SlotTimer, IsFirst, ap, arith, both_ways, length, refl}
 use Rattle.drift_world.proofs.state.State.source_by.Goals as goal
 
 pub returns-then-self-clause-foremost : goal.returns-then-self-clause-foremost
@@ -16,7 +16,8 @@ returns-in-Some-clause-foremost g c =
     c.requires.firsts is.0 in
     record {
       there = record {
-        first = from_some (λ (q : DueAt). IsFirst c.args.self.now.under_way.entries q) c.args.place c.requires.firsts.some_place is.0;
+        first = from_some (λ q. IsFirst c.args.self.now.under_way.entries q) c.args.place c.requires.firsts.some_place
+            is.0;
         now = is.1;
         rank_is = is.2;
         device = at.0;
@@ -45,7 +46,8 @@ returns-in-Some-placed_at-clause-foremost g c =
     c.requires.firsts is.0 in
     record {
       there = record {
-        first = from_some (λ (p : DueAt). IsFirst c.args.self.now.under_way.entries p) c.args.place c.requires.firsts.some_place is.0;
+        first = from_some (λ p. IsFirst c.args.self.now.under_way.entries p) c.args.place c.requires.firsts.some_place
+            is.0;
         now = is.1;
         rank_is = is.2;
         device = at.0;
@@ -60,7 +62,7 @@ returns-then-self-as_slice-clause-foremost g c =
     let more = c.if-self-as_slice.true in
     let len = ap length c.as_slice.ensures in
     record {
-      there = record { ended = c.if-self-2.true; next = refl; more = omega (arith, more, len) };
+      there = record { ended = c.if-self-2.true; next = refl; more = omega arith };
       nothing = clock_first
           c.requires.may.well c.requires.firsts c.if-self.false c.in_default.ensures.none c.in_default-slot_at.ensures.none
           c.in_default-placed_at.ensures.none;
@@ -77,10 +79,10 @@ returns-clause-foremost g c =
           (due_after
           c.requires.may.well c.requires.firsts c.in_default-slot_at.ensures.none);
       nothing = none_before
-          c.requires.may.well c.requires.firsts c.least_of.result (omega (arith, within, limit)) c.if-self.false
+          c.requires.may.well c.requires.firsts c.least_of.result (omega arith) c.if-self.false
           (λ ended more. elim c.else-self-2.branch [
             | else-self-2-via-then-self-2+else-self-as_slice v ↦
-                let len = ap length v.as_slice.ensures in let test = v.if-self-as_slice.false in omega (arith, len, test, more)
+                let len = ap length v.as_slice.ensures in let test = v.if-self-as_slice.false in omega arith
             | else-self-2-via-else-self-2 v ↦ both_ways c.args.self.now.ended v.if-self-2.false ended
           ])
           c.least_of.ensures.place c.least_of.ensures.due;

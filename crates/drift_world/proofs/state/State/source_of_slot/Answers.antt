@@ -1,6 +1,6 @@
-use Rattle.drift_world.proofs.Words.{◌-◌, ◌∙◌, ◌∷◌, ◌≡◌, ◌≤◌, DeviceId, SlotTimer, IfNone, Option, Waits, [], ap, arith, inl, length, refl, subst, sym, ℕ}
+use Rattle.drift_world.proofs.Words.{◌-◌, ◌∙◌, ◌∷◌, ◌≡◌, ◌≤◌, DeviceId, SlotTimer, [], ap, arith, inl, length, refl, sym}
 use Rattle.drift_world.proofs.{Sources.{due_acts, due_part, due_ripe, slot_high}, state.State.source_of_slot.Given.Over}
-use Rattle.drift_world.{proofs.state.State.source_of_slot.Goals.{After-of_rank, else-slot-devices, then-slot-devices+in_default}, specs.{Parts.part_rank, Turns.IsActive}}
+use Rattle.drift_world.{proofs.state.State.source_of_slot.Goals.{After-of_rank, else-slot-devices, then-slot-devices+in_default}}
 use Rattle.drift_world.proofs.state.State.source_of_slot.Goals as goal
 
 -- the timer that is due
@@ -16,17 +16,18 @@ high g c =
       | then-slot-devices+in_default w ↦
           let low = w.if-slot-devices.true in
           let ripe = due_ripe c.requires.well.timed c.requires.due
-          (omega (arith, low, len)) (omega (arith, limit)) in
-          let none = subst (λ (o : Option Waits). IfNone o _) w.in_default.is w.ripe_frame.ensures.none in
-          absurd (none ripe.2.0 ripe.0 ripe.2.1 (ap (λ (n : ℕ). let d : DeviceId = record { 0 = n } in d) ripe.2.2) ripe.1 ripe.2.3)
-      | else-slot-devices w ↦ let test = w.if-slot-devices.false in omega (arith, test, len)
+          (omega arith) (omega arith) in
+          let none = rw w.in_default.is at w.ripe_frame.ensures.none in
+          absurd (none ripe.2.0 ripe.0 ripe.2.1 (ap (λ n. let d : DeviceId = record { 0 = n } in d) ripe.2.2) ripe.1
+          ripe.2.3)
+      | else-slot-devices w ↦ let test = w.if-slot-devices.false in omega arith
     ]
 
 pub overflow_sub-result : goal.overflow_sub-result
 overflow_sub-result g c =
     let len : length c.as_slice-devices.result.now ≡ length c.args.network.now.device = ap length c.as_slice-devices.ensures in
     let le = high g c in
-    omega (arith, le, len)
+    omega arith
 
 pub returns-clause-there : goal.returns-clause-there
 returns-clause-there g c =
@@ -35,9 +36,8 @@ returns-clause-there g c =
     let le = high g c in
     let is = due_part c.requires.well.timed c.requires.due le in
     let device : DeviceId = record { 0 = c.args.slot - length c.as_slice-devices.result.now } in
-    subst (λ p. IsActive g.C.Clock.reading g.M.Machine.stands c.args.network.now c.args.self.now p device) (sym (c.of_rank.ensures is.0 is.1))
-    (due_acts c.requires.well.timed c.requires.due device is.0
-    refl limit (omega (arith, le, len)) (let few = is.2 in omega (arith, few, le, len)) is.1)
+    rw (c.of_rank.ensures is.0 is.1) (due_acts c.requires.well.timed c.requires.due device is.0
+    refl limit (omega arith) (let few = is.2 in omega arith) is.1)
 
 pub returns-clause-place : goal.returns-clause-place
 returns-clause-place g c =
@@ -47,7 +47,7 @@ returns-clause-place g c =
     let slot = c.args.slot in
     let now = c.args.self.now.time in
     inl
-    (ap (λ p. now ∷ part_rank p ∷ (slot - length c.as_slice-devices.result.now) ∷ []) (c.of_rank.ensures is.0 is.1)
-    ∙ ap (λ (n : ℕ). now ∷ n ∷ (slot - length c.as_slice-devices.result.now) ∷ []) (sym is.1)
+    (rw (c.of_rank.ensures is.0 is.1)
+    (ap (λ n. now ∷ n ∷ (slot - length c.as_slice-devices.result.now) ∷ []) (sym is.1)
     ∙ ap (λ n. now ∷ c.args.rank ∷ (slot - n) ∷ []) len
-    ∙ ap (λ (n : ℕ). now ∷ c.args.rank ∷ n ∷ []) (sym (slot_high (length c.args.network.now.device) slot le)))
+    ∙ ap (λ n. now ∷ c.args.rank ∷ n ∷ []) (sym (slot_high (length c.args.network.now.device) slot le))))

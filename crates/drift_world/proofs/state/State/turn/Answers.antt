@@ -1,5 +1,4 @@
 use Rattle.drift_world.{proofs.{TurnSays.turns_then, Nearings.{as_far, no_more}}, specs.{Turns.IsStep, declared.state.State.State}}
-use Rattle.world_state.specs.Frames.{Waiting}
 use Rattle.drift_world.proofs.{Turning.{kept_then, roomier, step_kept}, Words.{◌∙◌, ap, arith, sym}, state.State.turn.Goals.After-make_places}
 use Rattle.drift_world.proofs.state.State.turn.Given as given
 use Rattle.drift_world.proofs.state.State.turn.Goals as goal
@@ -11,8 +10,13 @@ made g c =
     let made = c.make_places.ensures in
     let new = c.make_places.new.self in
     roomier new c.requires.may.well
-    (made.same ∙ ap (λ (w : Waiting). let t : State _ _ = record c.args.self.now { under_way = new.under_way; waiting = w; settled = new.settled } in t)
-    (sym (ap State.waiting made.same))) made.entries (ap (λ (t : State _ _). t.waiting.items) made.same) made.items
+    (made.same ∙ ap (λ w. let t : State _ _ = record c.args.self.now {
+      under_way = new.under_way;
+      waiting = w;
+      settled =
+          new.settled;
+    } in t)
+    (sym (ap State.waiting made.same))) made.entries (rw made.same) made.items
 
 pub returns-in-Err : goal.returns-in-Err
 returns-in-Err g c =
@@ -22,7 +26,7 @@ returns-in-Err g c =
       kept = step_kept
           (made g (goal.at.returns-in-Err g c).After-make_places);
       turns = tt;
-      err = omega (arith, time, early);
+      err = omega arith;
     }
 
 pub roomy_turn-requires : goal.roomy_turn-requires
@@ -36,8 +40,8 @@ roomy_turn-requires g c =
         range = may.range;
         well = step.well;
         limit = may.limit;
-        early = omega (arith, time, early);
-        ended = λ is. let most = may.ended (sym step.after.ended ∙ is) in omega (arith, time, most);
+        early = omega arith;
+        ended = λ is. let most = may.ended (sym step.after.ended ∙ is) in omega arith;
       };
       room = c.in_default.ensures.room;
     }

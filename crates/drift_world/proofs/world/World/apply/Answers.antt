@@ -1,7 +1,7 @@
-use Rattle.drift_world.{proofs.Laters.{IsThere, is_there, time_limit}, specs.{Later.{ComesBehind, MayApplyAgain}, Running.{event_note, option_given}}}
+use Rattle.drift_world.{proofs.Laters.{IsThere, is_there, time_limit}, specs.{Later.{ComesBehind}, Running.{event_note, option_given}}}
 use Rattle.{drift_world.proofs.world.World.apply.Goals.In-Ok, net_plan.specs.declared.event.Event.Event}
-use Rattle.drift_world.proofs.Words.{◌++◌, ◌+◌, ◌∙◌, ◌∷◌, IsOfNetwork, IsWithinHypothesis, List, Network, Note}
-use Rattle.drift_world.proofs.Words.{StandsUnder, [], ap, append-nil, arith, both_ways, ints, pos, subst, sym}
+use Rattle.drift_world.proofs.Words.{◌+◌, ◌∙◌, List, Network, Note}
+use Rattle.drift_world.proofs.Words.{ap, append-nil, arith, both_ways, ints, sym}
 use Rattle.drift_world.proofs.world.World.apply.Given as given
 use Rattle.drift_world.proofs.world.World.apply.Goals as goal
 
@@ -11,7 +11,7 @@ next_given-requires g c =
     let limit = time_limit may.events c.args.event.now may.comes.is.is.range may.comes.within in
     record {
       may = record {
-        limit = omega (arith, ints, limit);
+        limit = omega (arith, ints);
         ended = λ ended. absurd (both_ways c.args.self.now.ended may.opens.unended ended);
       };
     }
@@ -19,8 +19,7 @@ next_given-requires g c =
 pub returns-in-Err-clause-stands : goal.returns-in-Err-clause-stands
 returns-in-Err-clause-stands g c = λ network events notes comes.
     let K = g.C.Clock in
-    subst (λ l. StandsUnder K.fresh K.after_step K.reading g.M.Machine.stands network c.next_given.new.self events l) (append-nil notes)
-    (c.in-Err.ensures.stands network events notes comes.is)
+    rw (append-nil notes) at (c.in-Err.ensures.stands network events notes comes.is)
 
 -- the world is where the event may befall it
 there : (g : given.Over) (c : In-Ok g) {network : Network} {events : List Event} {notes : List Note}
@@ -51,18 +50,15 @@ befall-requires g c =
         hold = may.hold;
         events = may.events;
         notes = may.notes;
-        is = subst (λ n. StandsUnder g.C.Clock.fresh g.C.Clock.after_step g.C.Clock.reading g.M.Machine.stands n mid may.events may.notes)
-            (sym is.same) is.so;
-        of_network = subst (λ n. IsOfNetwork n event.what) (sym is.same) may.of_network;
-        within = subst (λ n. IsWithinHypothesis n may.events event) (sym is.same) may.comes.within;
+        is = rw (sym is.same) at is.so;
+        of_network = rw is.same may.of_network;
+        within = rw is.same may.comes.within;
       };
     }
 
 pub returns-in-Ok-befall-clause-stands : goal.returns-in-Ok-befall-clause-stands
 returns-in-Ok-befall-clause-stands g c = λ network events notes comes.
-    subst (λ (note : Note). StandsUnder g.C.Clock.fresh g.C.Clock.after_step g.C.Clock.reading g.M.Machine.stands network c.befall.new.self (events
-    ++ c.args.event.now ∷ [])
-    (notes ++ note ∷ [])) (sym c.note.ensures) (c.in-Ok-befall.ensures.stands network events notes
+    rw c.note.ensures (c.in-Ok-befall.ensures.stands network events notes
     (there g (goal.at.returns-in-Ok-befall-clause-stands g c).In-Ok comes).so comes.within)
 
 pub returns-in-Ok-befall-clause-note : goal.returns-in-Ok-befall-clause-note
@@ -72,7 +68,7 @@ returns-in-Ok-befall-clause-note g c =
 
 pub returns-in-Ok-befall-clause-at : goal.returns-in-Ok-befall-clause-at
 returns-in-Ok-befall-clause-at g c = record {
-  now = ap (λ n. pos n) c.befall.ensures.still.0 ∙ (own g (goal.at.returns-in-Ok-befall-clause-at g c).In-Ok).reached.time;
+  now = rw c.befall.ensures.still.0 (own g (goal.at.returns-in-Ok-befall-clause-at g c).In-Ok).reached.time;
   early = c.befall.ensures.still.1 ∙ (own g (goal.at.returns-in-Ok-befall-clause-at g c).In-Ok).opens.early;
 }
 
@@ -80,10 +76,8 @@ returns-in-Ok-befall-clause-at g c = record {
 
 pub returns-in-Err-befall-clause-stands : goal.returns-in-Err-befall-clause-stands
 returns-in-Err-befall-clause-stands g c = λ network events notes comes.
-    subst (λ w. StandsUnder g.C.Clock.fresh g.C.Clock.after_step g.C.Clock.reading g.M.Machine.stands network w events notes)
-    (sym c.in-Err-befall.ensures.err) (there g (goal.at.returns-in-Err-befall-clause-stands g c).In-Ok comes).so
+    rw c.in-Err-befall.ensures.err (there g (goal.at.returns-in-Err-befall-clause-stands g c).In-Ok comes).so
 
 pub returns-in-Err-befall-clause-err : goal.returns-in-Err-befall-clause-err
 returns-in-Err-befall-clause-err g c =
-    subst (λ w. MayApplyAgain c.args.self.now w c.args.event.now.time) (sym c.in-Err-befall.ensures.err)
-    (own g (goal.at.returns-in-Err-befall-clause-err g c).In-Ok).again
+    rw c.in-Err-befall.ensures.err (own g (goal.at.returns-in-Err-befall-clause-err g c).In-Ok).again

@@ -1,7 +1,7 @@
 use Rattle.{drift_world.proofs.{Elsewhere.timed_by_event, Fits.sound_timers, Onwards.befalls, Shortness.sets_short}, net_plan.specs.declared.event.Event.Event}
 use Rattle.{drift_world.{proofs.Timings.unmoved, specs.declared.state.State.State}, precision_law.proofs.traffic_lemmas.safety_lemmas.Histories.slow_rate}
-use Rattle.drift_world.proofs.Words.{◌*◌, ◌++◌, ◌∙◌, ◌∷◌, ◌≡◌, AreTimed, IsLawful, IsOfNetwork, IsSound, IsWithinHypothesis, List, Network, Note, Stands}
-use Rattle.drift_world.proofs.Words.{StandsUnder, World, [], ap, arith, keeps, length, reading_of, refl, scenario, subst, sym, world_of}
+use Rattle.drift_world.proofs.Words.{◌*◌, ◌++◌, ◌∙◌, ◌∷◌, ◌≡◌, IsLawful, IsWithinHypothesis, List, Network, Note}
+use Rattle.drift_world.proofs.Words.{StandsUnder, World, [], ap, arith, length, reading_of, refl, scenario, sym, world_of}
 use Rattle.drift_world.proofs.world.World.befall.Given as given
 use Rattle.drift_world.proofs.world.World.befall.Goals as goal
 
@@ -10,7 +10,7 @@ apply-requires-clause-slow g c = λ device rate same.
     let may = c.requires.may in
     let most = may.is.is.range.rho in
     let slow = slow_rate c.args.self.now.network may.events c.args.event.now device rate may.within same in
-    omega (arith, most, slow)
+    omega arith
 
 pub apply-requires-clause-short : goal.apply-requires-clause-short
 apply-requires-clause-short g c =
@@ -38,18 +38,17 @@ invariant_of-self g c =
     let new = c.apply.new.self in
     let well = c.self.invariant in
     let kept = c.in-Err.ensures.kept in
-    let view = subst (λ n. world_of n new ≡ world_of n state) c.network-network.ensures.value c.in-Err.ensures.err in
-    let then_ = subst (λ w. Stands K.reading (keeps g.M.Machine.stands) well.running.s w well.running.notes)
-    (sym view) well.running.is in
+    let view = rw c.network-network.ensures.value at c.in-Err.ensures.err in
+    let then_ = rw (sym view) at well.running.is in
     record {
-      sound = subst (λ n. IsSound K.last_step n new) c.network-network.ensures.value c.apply.ensures.sound;
+      sound = rw c.network-network.ensures.value at c.apply.ensures.sound;
       running = record {
         s = well.running.s;
         notes = well.running.notes;
         is = then_;
       };
       timed = unmoved state new well.timed (ap State.clocks kept)
-          (ap (λ (s : State _ _). s.machines.items) kept) (ap (λ (s : State _ _). s.waiting.items) kept) (ap State.time kept)
+          (rw kept) (rw kept) (ap State.time kept)
           (ap State.timers kept);
     }
 
@@ -64,13 +63,14 @@ rekey_by-requires-clause-may g c =
     record {
       sized = c.apply.ensures.sound.sized;
       slots = ap length c.apply.ensures.timers ∙ c.self.invariant.timed.sized
-          ∙ ap (λ (n : Network). 2 * length n.device) (sym c.network-network.ensures.value);
+          ∙ ap (λ n. 2 * length n.device) (sym c.network-network.ensures.value);
       running = record {
         s = scenario network (reading_of K.fresh K.after_step K.reading network events) events;
         notes = may.notes ++ c.in-Ok.note ∷ [];
         is = (befalls (lawful g) c.self.inside.state c.apply.new.self
-            (ap (λ n. world_of n c.self.inside.state) c.network-network.ensures.value ∙ c.self.view_is) c.in-Ok.note
-            (c.self.invariant.sound.sized.clocks ∙ ap (λ (n : Network). length n.device) (sym c.network-network.ensures.value)) may.now
+            (rw c.network-network.ensures.value c.self.view_is) c.in-Ok.note
+            (c.self.invariant.sound.sized.clocks ∙ ap (λ n. length n.device) (sym c.network-network.ensures.value))
+            may.now
             may.hold may.of_network c.in-Ok.ensures.clocks c.in-Ok.ensures.stands may.is
             may.within).is;
       };
@@ -85,14 +85,13 @@ befallen g c {network} {events} {notes} under within =
     let may = c.requires.may in
     let own = c.network-network.result.now in
     let it = befalls (lawful g) c.self.inside.state c.apply.new.self
-    (ap (λ n. world_of n c.self.inside.state) c.network-network.ensures.value ∙ c.self.view_is) c.in-Ok.note
-    (c.self.invariant.sound.sized.clocks ∙ ap (λ (n : Network). length n.device) (sym c.network-network.ensures.value)) may.now
+    (rw c.network-network.ensures.value c.self.view_is) c.in-Ok.note
+    (c.self.invariant.sound.sized.clocks ∙ ap (λ n. length n.device) (sym c.network-network.ensures.value)) may.now
     may.hold may.of_network c.in-Ok.ensures.clocks c.in-Ok.ensures.stands under within in
     let same : world_of own c.apply.new.self ≡ world_of c.self.inside.accepted.now c.rekey_by.new.self =
-    ap (λ n. world_of n c.apply.new.self) c.network-network.ensures.value
-    ∙ ap (λ s. world_of c.self.inside.accepted.now s) (sym c.rekey_by.ensures.sets.same) in
-    subst (λ w. StandsUnder K.fresh K.after_step K.reading g.M.Machine.stands network w (events ++ c.args.event.now ∷ [])
-    (notes ++ c.in-Ok.note ∷ [])) same it
+    rw c.network-network.ensures.value
+    (ap (λ s. world_of c.self.inside.accepted.now s) (sym c.rekey_by.ensures.sets.same)) in
+    rw same at it
 
 pub invariant_of-self-2 : goal.invariant_of-self-2
 invariant_of-self-2 g c =
@@ -104,19 +103,18 @@ invariant_of-self-2 g c =
     let mid = c.apply.new.self in
     let new = c.rekey_by.new.self in
     let sets = c.rekey_by.ensures.sets in
-    let was = subst (λ n. AreTimed K.reading g.M.Machine.stands n state) (sym c.network-network.ensures.value) c.self.invariant.timed in
-    let of_network = subst (λ n. IsOfNetwork n c.args.event.now.what)
-    (sym (c.network-network.ensures.value ∙ ap World.network c.self.view_is)) may.of_network in
+    let was = rw (sym c.network-network.ensures.value) at c.self.invariant.timed in
+    let of_network = rw (sym (c.network-network.ensures.value ∙ ap World.network c.self.view_is)) at may.of_network in
     record {
       sound = sound_timers sets.same
-          (subst (λ n. IsSound K.last_step n mid) c.network-network.ensures.value c.apply.ensures.sound);
+          (rw c.network-network.ensures.value at c.apply.ensures.sound);
       running = record {
         s = scenario network (reading_of K.fresh K.after_step K.reading network events) events;
         notes = may.notes ++ c.in-Ok.note ∷ [];
         is = (befallen g c may.is may.within).is;
       };
-      timed = subst (λ n. AreTimed K.reading g.M.Machine.stands n new) c.network-network.ensures.value
-          (timed_by_event c.args.event.now.what was c.in-Ok.ensures.others c.apply.ensures.timers
+      timed = rw c.network-network.ensures.value at (timed_by_event c.args.event.now.what was c.in-Ok.ensures.others
+          c.apply.ensures.timers
           c.apply.ensures.still.0 of_network sets c.rekey_by.ensures.timed);
     }
 

@@ -1,5 +1,5 @@
-use Rattle.drift_world.{proofs.{Fits.sound_timers, Freshness.{first_sound, first_stands}, Words.world_of}, specs.Beginning.{AreFresh, IsFirstState}}
-use Rattle.drift_world.proofs.Words.{◌∙◌, AreTimed, IsInRange, IsLawful, KeepsRules, StandsUnder, [], ap, length, reading_of, scenario, subst, sym}
+use Rattle.drift_world.{proofs.{Fits.sound_timers, Freshness.{first_sound, first_stands}, Words.world_of}, specs.Beginning.{IsFirstState}}
+use Rattle.drift_world.proofs.Words.{◌∙◌, IsInRange, IsLawful, KeepsRules, StandsUnder, [], ap, length, reading_of, scenario, subst, sym}
 use Rattle.std.proofs.lemmas.List.{length-replicate}
 use Rattle.drift_world.proofs.world.World.begin.Given as given
 use Rattle.drift_world.proofs.world.World.begin.Goals as goal
@@ -20,7 +20,7 @@ rekey_all-requires-clause-may g c =
     let K = g.C.Clock in
     let network = c.network-network.result.now in
     let range = subst IsInRange (sym c.network-network.ensures.value) c.network-network.ensures.range in
-    let are = subst (λ n. AreFresh g.M.Machine.stands n c.args.machines.items) (sym c.network-network.ensures.value) c.requires in
+    let are = rw (sym c.network-network.ensures.value) at c.requires in
     let under = first_stands c.in_ok-state.ensures
     (lawful g) are range
     (subst KeepsRules (sym c.network-network.ensures.value) c.network-network.ensures.rules) in
@@ -34,17 +34,14 @@ rekey_all-requires-clause-may g c =
 first : (g : given.Over) (c : goal.After-rekey_all g)
     → IsFirstState g.C.Clock.fresh g.C.Clock.last_step c.args.accepted.now c.args.machines.items c.in_ok-state.state
 first g c =
-    subst (λ n. IsFirstState g.C.Clock.fresh g.C.Clock.last_step n c.args.machines.items c.in_ok-state.state) c.network-network.ensures.value
-    c.in_ok-state.ensures
+    rw c.network-network.ensures.value at c.in_ok-state.ensures
 
 stands : (g : given.Over) (c : goal.After-rekey_all g)
     → StandsUnder g.C.Clock.fresh g.C.Clock.after_step g.C.Clock.reading g.M.Machine.stands c.args.accepted.now
     (world_of c.args.accepted.now c.rekey_all.new.self) [] []
 stands g c =
     let K = g.C.Clock in
-    subst (λ w. StandsUnder K.fresh K.after_step K.reading g.M.Machine.stands c.args.accepted.now w [] [])
-    (ap (world_of c.args.accepted.now) (sym c.rekey_all.ensures.same))
-    (first_stands (first g c)
+    rw (ap (world_of c.args.accepted.now) (sym c.rekey_all.ensures.same)) at (first_stands (first g c)
     (lawful g) c.requires c.network-network.ensures.range c.network-network.ensures.rules)
 
 pub invariant_of-result : goal.invariant_of-result
@@ -55,7 +52,7 @@ invariant_of-result g c =
       sound = sound_timers c.rekey_all.ensures.same
           (first_sound (first g c) c.network-network.ensures.range c.requires.each);
       running = record { s = scenario network (reading_of K.fresh K.after_step K.reading network []) []; notes = []; is = (stands g c).is };
-      timed = subst (λ n. AreTimed K.reading g.M.Machine.stands n c.rekey_all.new.self) c.network-network.ensures.value c.rekey_all.ensures.timed;
+      timed = rw c.network-network.ensures.value at c.rekey_all.ensures.timed;
     }
 
 pub returns-clause-stands : goal.returns-clause-stands

@@ -1,34 +1,31 @@
-use Rattle.drift_world.{proofs.{Retries.comes_up_to, Words.{keeps_clock_laws, reading_of, scenario, subst, sym, world_of, ℕ}}, specs.Running.next_of}
-use Rattle.drift_world.proofs.Words.{◌++◌, ◌∙◌, ◌∷◌, ◌≡◌, Bool, ComesUpTo, Err, IfOk, IsLawful, IsRunOf, IsScenarioRun, List, Network, Note, Ok, Result}
-use Rattle.drift_world.proofs.Words.{Scenario, Stands, StandsUnder, World, [], amount, ap, arith, begins_at_zero, false, given_by, ints, keeps}
-use Rattle.std.proofs.Common.{slice_get}
+use Rattle.drift_world.{proofs.{Retries.comes_up_to, Words.{keeps_clock_laws, reading_of, scenario, subst, sym, world_of}}, specs.Running.next_of}
+use Rattle.drift_world.proofs.Words.{◌++◌, ◌∷◌, ◌≡◌, Bool, Err, IfOk, IsLawful, IsRunOf, List, Network, Note, Ok, Result}
+use Rattle.drift_world.proofs.Words.{Scenario, Stands, World, [], amount, ap, arith, begins_at_zero, false, given_by, ints, keeps}
 use Rattle.precision_law.{proofs.traffic_lemmas.safety_lemmas.Clocked.before, specs.traffic.safety.{Headline.IsSafeFront, Under.IsUnder}}
 use Rattle.drift_world.proofs.world.World.next_given.Given as given
 use Rattle.drift_world.proofs.world.World.next_given.Goals as goal
 
 -- the view is that of the network that is answered
 viewed : (g : given.Over) (c : goal.After-next g) → world_of c.network.result.now c.self.inside.state ≡ c.args.self.now
-viewed g c = ap (λ n. world_of n c.self.inside.state) c.network.ensures.value ∙ c.self.view_is
+viewed g c = rw c.network.ensures.value c.self.view_is
 
 pub returns-then-until-from_amount-clause-complete : goal.returns-then-until-from_amount-clause-complete
 returns-then-until-from_amount-clause-complete g c = λ network events notes under lt none.
     let now = ap World.now c.self.view_is in
     let test = c.if-until-from_amount.true in
     let is = c.from_amount.ensures.whole in
-    absurd (omega (arith, ints, now, test, is, lt))
+    absurd (omega (arith, ints))
 
 pub returns-clause-stands : goal.returns-clause-stands
 returns-clause-stands g c = λ network events notes under.
     let K = g.C.Clock in
     let S = g.M.Machine.stands in
     let s = scenario network (reading_of K.fresh K.after_step K.reading network events) events in
-    let old = subst (λ w. StandsUnder K.fresh K.after_step K.reading S network w events notes) (sym (viewed g c)) under in
-    let new = subst (λ n. Stands K.reading (keeps S) s (world_of n c.next.new.self)
-    (notes ++ given_by (next_of c.next.result c.next.new.note)))
-    c.network.ensures.value (c.next.ensures.kept.stands_then s notes old.is) in
+    let old = rw (sym (viewed g c)) at under in
+    let new = rw c.network.ensures.value at (c.next.ensures.kept.stands_then s notes old.is) in
     record {
       is = new;
-      clocks = λ device there. ap (λ (k : _). slice_get k.items device.0) c.next.ensures.kept.after.clocks ∙ old.clocks device there;
+      clocks = λ device there. rw c.next.ensures.kept.after.clocks (old.clocks device there);
       of_network = old.of_network;
       times = old.times;
       within = old.within;
@@ -56,9 +53,8 @@ returns-clause-complete g c = λ network events notes under lt.
     let S = g.M.Machine.stands in
     let f = reading_of K.fresh K.after_step K.reading network events in
     let s = scenario network f events in
-    let old = subst (λ w. StandsUnder K.fresh K.after_step K.reading S network w events notes) (sym (viewed g c)) under in
-    let whole = subst (λ (t : ℕ). IfOk c.next.result (λ more. more ≡ false → IsScenarioRun s (t ∷ []) notes)) c.amount.ensures.value
-    (c.next.ensures.complete s notes old.is) in
+    let old = rw (sym (viewed g c)) at under in
+    let whole = rw c.amount.ensures.value at (c.next.ensures.complete s notes old.is) in
     let admitted : IsUnder network events = record {
       range = under.is.range;
       rules = under.is.rules;
@@ -78,12 +74,11 @@ returns-clause-reached g c =
     let K = g.C.Clock in
     let S = g.M.Machine.stands in
     let own = c.self.inside.accepted.now in
-    let state = c.self.inside.state in
     let new = c.next.new.self in
     let Steps = λ (n : Network). (s : Scenario) (notes : List Note) → Stands K.reading (keeps S) s
-    (world_of n state) notes
+    (world_of n c.self.inside.state) notes
     → Stands K.reading (keeps S) s (world_of n new) (notes ++ given_by (next_of c.next.result c.next.new.note)) in
-    subst (λ w. ComesUpTo w (world_of own new) c.args.until (next_of c.next.result c.next.new.note)) c.self.view_is
-    (comes_up_to _ c.next.result c.next.new.note c.args.until c.amount.result c.amount.ensures.whole c.next.ensures.kept.after
+    rw c.self.view_is at (comes_up_to _ c.next.result c.next.new.note c.args.until c.amount.result
+    c.amount.ensures.whole c.next.ensures.kept.after
     c.self.invariant.running (subst Steps c.network.ensures.value c.next.ensures.kept.stands_then)
     c.next.ensures.says)
