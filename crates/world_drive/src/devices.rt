@@ -3,4 +3,4 @@
 mod world;
 
 pub use drift_world::OutOfMemory;
-pub use world::World;
+pub use world::{World, whole_units};

@@ -1,7 +1,7 @@
 -- The least and the greatest of local clocks, device by device.
-use Rattle.{drift_world.specs.Locals.IsWide, run_law.specs.law.Safety.IsInStep, std.{proofs.lemmas.{Bool.cases_lt, Int.{ints, to_z-of_z}}, specs.Int.w128}}
+use Rattle.{drift_world.specs.Locals.IsLocalValue, run_law.specs.law.Safety.IsInStep, std.{proofs.lemmas.{Bool.cases_lt, Int.{ints, to_z-of_z}}, specs.Int.{w128, w64}}}
 use Rattle.{net_plan.specs.declared.ids.DeviceId.DeviceId, run_law.specs.{device.LocalClocks.local, records.Happenings.Happening, scenario.Scenarios.Scenario}}
-use Rattle.std.proofs.Common.{◌+◌, ◌-ℤ◌, ◌<◌, ◌^◌, ◌∙◌, ◌≡◌, ◌≤ℤ◌, ◌⊎◌, FitsSigned, List, None, Option, Some, ap, arith, false, inl, inr, length, neg_ℤ, of_z}
+use Rattle.std.proofs.Common.{◌+◌, ◌-ℤ◌, ◌<ℤ◌, ◌<◌, ◌^◌, ◌∙◌, ◌≡◌, ◌≤ℤ◌, ◌⊎◌, FitsSigned, List, None, Option, Some, ap, arith, false, inl, inr, length, neg_ℤ, of_z}
 use Rattle.{std.{proofs.Common.{pos, refl, rules, subst, sym, to_z, true, ℕ, ℤ}, specs.Prelude.int_lt}, tte_units.proofs.general_lemmas.Integers.through}
 use Rattle.tte_traces.specs.{declared.storms.spreads.Ends.Ends, storms.Spreads.{AreEnds, AreEndsOf, IsOfOne, IsSpreadAt, Widens}}
 
@@ -106,17 +106,29 @@ spread_of s hs t ends are = record {
 wide_fits : (z : ℤ) → neg_ℤ (pos (2 ^ 66)) ≤ℤ z → z ≤ℤ pos (2 ^ 66) → FitsSigned w128 z
 wide_fits z low high = search rules
 
-pub value_is : {z : ℤ} → IsWide z → to_z w128 (of_z w128 z) ≡ z
-value_is {z} w = to_z-of_z w128 z (wide_fits z (omega (arith, ints, w.low)) (omega (arith, ints, w.high)))
+value_fits : (z : ℤ) → neg_ℤ (pos (2 ^ 63)) ≤ℤ z → z <ℤ pos (2 ^ 63) → FitsSigned w64 z
+value_fits z low high = search rules
 
-pub apart_fits : {a b : ℤ} → IsWide a → IsWide b → FitsSigned w128 (a -ℤ b)
-apart_fits {a} {b} x y = wide_fits (a -ℤ b) (omega (arith, ints, x.low, y.high)) (omega (arith, ints, x.high, y.low))
+-- a local value is kept in 64 bits as it is
+pub value_is : {z : ℤ} → IsLocalValue z → to_z w64 (of_z w64 z) ≡ z
+value_is {z} w = to_z-of_z w64 z (value_fits z (omega (arith, ints, w.low)) (omega (arith, ints, w.high)))
 
-pub apart_is : {a b : ℤ} → IsWide a → IsWide b → to_z w128
-    (of_z w128 (to_z w128 (of_z w128 a) -ℤ to_z w128 (of_z w128 b))) ≡ a -ℤ b
+-- a local value in 128 bits is one
+pub wide_is : {z : ℤ} → IsLocalValue z → to_z w128 (of_z w128 z) ≡ z
+wide_is {z} w = to_z-of_z w128 z (wide_fits z (omega (arith, ints, w.low)) (omega (arith, ints, w.high)))
+
+-- a local value goes into 64 bits as it is
+pub units_are : {local z : ℤ} → IsLocalValue local → z ≡ to_z w128 (of_z w128 local) → to_z w64 (of_z w64 z) ≡ local
+units_are small is = ap (λ x. to_z w64 (of_z w64 x)) (is ∙ wide_is small) ∙ value_is small
+
+pub apart_fits : {a b : ℤ} → IsLocalValue a → IsLocalValue b → FitsSigned w64 (a -ℤ b)
+apart_fits {a} {b} x y = value_fits (a -ℤ b) (omega (arith, ints, x.low, y.high)) (omega (arith, ints, x.high, y.low))
+
+pub apart_is : {a b : ℤ} → IsLocalValue a → IsLocalValue b → to_z w64
+    (of_z w64 (to_z w64 (of_z w64 a) -ℤ to_z w64 (of_z w64 b))) ≡ a -ℤ b
 apart_is {a} {b} x y =
-    ap (λ z. to_z w128 (of_z w128 (z -ℤ to_z w128 (of_z w128 b)))) (value_is x)
-    ∙ ap (λ z. to_z w128 (of_z w128 (a -ℤ z))) (value_is y) ∙ to_z-of_z w128 (a -ℤ b) (apart_fits x y)
+    ap (λ z. to_z w64 (of_z w64 (z -ℤ to_z w64 (of_z w64 b)))) (value_is x)
+    ∙ ap (λ z. to_z w64 (of_z w64 (a -ℤ z))) (value_is y) ∙ to_z-of_z w64 (a -ℤ b) (apart_fits x y)
 
 -- numbers that are kept compare as they are
 pub less_kept : (a b x y : ℤ) → x ≡ a → y ≡ b → int_lt x y ≡ true → a ≤ℤ y

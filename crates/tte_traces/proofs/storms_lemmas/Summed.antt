@@ -2,18 +2,18 @@
 use Rattle.{drift_clock.proofs.ExactSegments.{exact_begins, exact_laws}, net_plan.specs.declared.network.Network.Network}
 use Rattle.{drift_clock.specs.Segment.{fresh_segment, segment_reading, stepped_segment}, tte_forms.proofs.Puts.{Ends-gives, PutsLines-fails, PutsLines-more}}
 use Rattle.{fault_hypothesis.proofs.storm_lemmas.Storms.storms_within, net_plan.specs.Ranges.IsInRange, tte_forms.specs.Putting.{PutsLines, Shown, WriteFails}}
-use Rattle.{run_law.specs.{device.LocalClocks.local, scenario.Scenarios.Scenario}, tte_io.specs.Faults.next_count, tte_units.specs.declared.units.Units.Units}
+use Rattle.{tte_io.specs.Faults.next_count, tte_units.specs.declared.units.Units.Units}
 use Rattle.{run_law.specs.records.{Happenings.{Happening, happenings, time_of}, Order.IsIn}, tte_traces.specs.storms.Storms.{EndsStorm, HasStormed, Summarises}}
 use Rattle.{schedule_tables.specs.Rules.KeepsRules, std.{proofs.lemmas.List.append-nil, specs.Io.KnownBytes.Appends}, tte_io.specs.Told.AppendsFront}
-use Rattle.std.proofs.Common.{◌++◌, ◌+◌, ◌^◌, ◌∙◌, ◌∷◌, ◌≡◌, ◌≤ℤ◌, ◌≤◌, FitsSigned, List, Option, Some, [], ap, append_assoc, arith, inl, inr, length}
-use Rattle.{std.proofs.Common.{length-append, pos, refl, rules, subst, sym, ℕ, ℤ}, tte_traces.proofs.storms_lemmas.summary_lemmas.Spreads.within_precision}
-use Rattle.{std.{proofs.lemmas.Int.ints, specs.{Int.{w128, w64}, Prelude.slice_get}}, tte_units.specs.Amount.amount}
+use Rattle.std.proofs.Common.{◌++◌, ◌+◌, ◌∙◌, ◌∷◌, ◌≡◌, ◌≤ℤ◌, ◌≤◌, List, Option, Some, [], ap, append_assoc, arith, inl, inr, length}
+use Rattle.{std.proofs.Common.{length-append, pos, refl, subst, sym, ℕ, ℤ}, tte_traces.proofs.storms_lemmas.summary_lemmas.Spreads.within_precision}
+use Rattle.{std.{proofs.lemmas.Int.ints, specs.Prelude.slice_get}, tte_units.specs.Amount.amount}
 use Rattle.precision_law.{proofs.traffic_lemmas.safety_lemmas.Clocked.ended, specs.traffic.safety.{Headline.IsWholeRun, Under.IsUnder}}
 use Rattle.tte_traces.specs.storms.summary.Lines.{lines_of}
 use Rattle.{tte_forms.proofs.networks.Answers.answered_accepted, tte_traces.specs.{declared.storms.counting.Seen.Seen, storms.summary.Counting.counts_of}}
 use Rattle.tte_forms.specs.{Answering.{AnswersOne, Ends, ForOctets, Gives, GivesAnswer}, declared.status.Status.{Status, TheVariants.{Done, WriteFault}}}
 use Rattle.{tte_forms.specs.networks.Accepting.{IsNetworkAnswer, MeansAccepted}, tte_traces.specs.declared.storms.summary.summary.Summary.Summary}
-use Rattle.tte_traces.specs.{declared.storms.summary.counts.Counts.Counts, storms.{Answer.{IsStormAnswer, exact_scenario}, summary.Spread.IsGreatestSpread}}
+use Rattle.tte_traces.specs.{declared.storms.summary.counts.Counts.Counts, storms.Answer.{IsStormAnswer, exact_scenario}}
 
 -- so many of the lines were put
 pub record HasPutLines (lines : List (List ℕ)) (count : ℕ) (old new : Shown) : Type 0 where
@@ -76,35 +76,10 @@ lines_all {lines} status {old} {now} new h all ends =
 
 -- ---- what the summary tells
 
--- so far apart as nothing at least
-not_below : {s : Scenario} {hs : List Happening} {spread : Units} → IsGreatestSpread s hs spread → pos 0 ≤ℤ spread.0
-not_below {s} {hs} g = elim g.reached [
-  | inl none ↦ omega (arith, ints, none)
-  | inr seen ↦
-      let pair = seen.apart_then in
-      let here = local s hs pair.ahead (time_of seen.seen_at) in
-      g.bound (pos 0) (record {
-        seen_at = seen.seen_at;
-        there = seen.there;
-        correction = seen.correction;
-        apart_then = record {
-          ahead = pair.ahead;
-          behind = pair.ahead;
-          ahead_there = pair.ahead_there;
-          behind_there = pair.ahead_there;
-          ahead_in_step = pair.ahead_in_step;
-          behind_in_step = pair.ahead_in_step;
-          is = omega (arith, ints);
-        };
-      })
-]
-
 -- the run goes well, and the spread is at most the precision
 pub record IsFine (network : Network) (seed cycles : ℕ) (seen : Seen) (h : HasStormed network seed cycles seen) : Type 0 where
   pub run : IsWholeRun fresh_segment stepped_segment segment_reading network h.events h.notes
-  pub least : pos 0 ≤ℤ seen.spread
   pub within : seen.spread ≤ℤ network.precision.0
-  pub small : network.precision.0 ≤ℤ pos (2 ^ 40)
 
 pub is_fine : {network : Network} {seed cycles : ℕ} {seen : Seen} (h : HasStormed network seed cycles seen)
     → cycles ≤ 100000 → IsInRange network → KeepsRules network → IsFine network seed cycles seen h
@@ -124,9 +99,7 @@ is_fine {network} {seed} {cycles} {seen} h few range rules =
     elim (run.run.within g i) [ inl lt ↦ omega (arith, lt) | inr bad ↦ absurd bad.1 ] in
     record {
       run = run;
-      least = not_below h.widest;
       within = within_precision s hs (amount run.end) (record { 0 = seen.spread }) (omega (arith, ints, precision)) bounded run.well.safe.precision h.widest;
-      small = range.precision.most;
     }
 
 pub sums_up : {network : Network} {seed cycles : ℕ} {seen : Seen} {h : HasStormed network seed cycles seen}
@@ -152,11 +125,6 @@ sums_up {seed} {cycles} {seen} {h} fine summary of_seed of_cycles of_counts of_s
           ∙ ap (λ (z : ℤ). made seed cycles (counts_of h.notes) (record { 0 = z }) summary.precision) of_spread
           ∙ ap (made seed cycles (counts_of h.notes) spread) of_precision;
     }
-
--- ---- the numbers as they are kept
-
-pub spread_fits : (z : ℤ) → pos 0 ≤ℤ z → z ≤ℤ pos (2 ^ 40) → FitsSigned w128 z × FitsSigned w64 z
-spread_fits z least most = (search rules, search rules)
 
 -- ---- the answer
 

@@ -17,7 +17,7 @@ use world_drive::{Cut, Observer};
 pub(crate) struct Seen {
     pub(crate) tally: Tally,
     /// How far apart the local clocks were at most, at a time of a correction, in units of 2^-16 ns.
-    pub(crate) spread: i128,
+    pub(crate) spread: i64,
 }
 
 /// Is the record that of a correction?

@@ -1,5 +1,5 @@
 ghost use Rattle.std.specs.Prelude.{◌^◌, ◌≡◌, ◌≤ℤ◌, ◌⊎◌, IfSome, IsSomeAnd, List, pos};
-ghost use Rattle.{drift_world.specs.Locals.IsWide, world_drive.specs.Observing.IsCompleteExact};
+ghost use Rattle.{drift_world.specs.Locals.IsLocalValue, world_drive.specs.Observing.IsCompleteExact};
 ghost use Rattle.net_plan.specs.{Ranges.IsInRange, declared.event.Event.{Event as EventValue}};
 ghost use Rattle.run_law.specs.{declared.note.Note.{Note as NoteValue}, records.Happenings.happenings};
 ghost use Rattle.tte_traces.specs.storms.{Answer.exact_scenario, Spreads.{IsSpreadAt, MayShowExact}};
@@ -7,18 +7,19 @@ ghost use Rattle.tte_units.specs.Amount.{amount};
 
 use net_plan::{DeviceId, Network};
 use tte_units::Units;
+use world_drive::devices::whole_units;
 use world_drive::exact::ExactWorld;
 
 /// The least and the greatest of some local clocks, in units of 2^-16 ns.
 #[derive(Clone, Copy)]
 pub(crate) struct Ends {
-    pub(crate) least: i128,
-    pub(crate) greatest: i128,
+    pub(crate) least: i64,
+    pub(crate) greatest: i64,
 }
 
 /// How far apart the local clocks of the correct synchronised devices are at a time, after all
 /// records of this time; 0 where there are none.
-pub(crate) fn spread_at(world: &ExactWorld<'_>, network: &Network, t: Units) -> i128
+pub(crate) fn spread_at(world: &ExactWorld<'_>, network: &Network, t: Units) -> i64
     requires in_range { IsInRange network.now }
     requires same { world.now.network ≡ network.now }
     requires begun { pos 0 ≤ℤ t.0 }
@@ -31,8 +32,8 @@ pub(crate) fn spread_at(world: &ExactWorld<'_>, network: &Network, t: Units) -> 
     let devices = network.device.as_slice().len() as u32;
     let mut ends = None;
     'devices: for device in 0..devices {
-        match world.local(DeviceId(device), t) {
-            Some(local) => ends = Some(with_local(ends, local)),
+        match world.local_at(DeviceId(device), t) {
+            Some(local) => ends = Some(with_local(ends, whole_units(local).0)),
             None => (),
         }
     }
@@ -43,10 +44,10 @@ pub(crate) fn spread_at(world: &ExactWorld<'_>, network: &Network, t: Units) -> 
 }
 
 /// The least and the greatest, with one more.
-fn with_local(ends: Option<Ends>, local: i128) -> Ends
-    requires wide { IfSome ends (λ e. IsWide e.least × IsWide e.greatest) }
-    requires local { IsWide local }
-    ensures wide { IsWide result.least × IsWide result.greatest }
+fn with_local(ends: Option<Ends>, local: i64) -> Ends
+    requires wide { IfSome ends (λ e. IsLocalValue e.least × IsLocalValue e.greatest) }
+    requires local { IsLocalValue local }
+    ensures wide { IsLocalValue result.least × IsLocalValue result.greatest }
     ensures least { result.least ≤ℤ local }
     ensures greatest { local ≤ℤ result.greatest }
     ensures lesser { IfSome ends (λ e. (result.least ≤ℤ e.least) × (e.greatest ≤ℤ result.greatest)) }
@@ -65,10 +66,10 @@ fn with_local(ends: Option<Ends>, local: i128) -> Ends
     }
 }
 
-fn lesser(a: i128, b: i128) -> i128
-    requires a { IsWide a }
-    requires b { IsWide b }
-    ensures wide { IsWide result }
+fn lesser(a: i64, b: i64) -> i64
+    requires a { IsLocalValue a }
+    requires b { IsLocalValue b }
+    ensures wide { IsLocalValue result }
     ensures one { (result ≡ b) ⊎ (result ≡ a) }
     ensures first { result ≤ℤ a }
     ensures second { result ≤ℤ b }
@@ -76,10 +77,10 @@ fn lesser(a: i128, b: i128) -> i128
     if b < a { b } else { a }
 }
 
-fn greater(a: i128, b: i128) -> i128
-    requires a { IsWide a }
-    requires b { IsWide b }
-    ensures wide { IsWide result }
+fn greater(a: i64, b: i64) -> i64
+    requires a { IsLocalValue a }
+    requires b { IsLocalValue b }
+    ensures wide { IsLocalValue result }
     ensures one { (result ≡ b) ⊎ (result ≡ a) }
     ensures first { a ≤ℤ result }
     ensures second { b ≤ℤ result }

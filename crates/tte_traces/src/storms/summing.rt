@@ -60,7 +60,7 @@ fn told(accepted: &Accepted, seed: u64, cycles: u32, seen: &Seen) -> Summary
         seed,
         cycles,
         counts: seen.tally.counts(),
-        spread: Units(seen.spread as i64),
+        spread: Units(seen.spread),
         precision,
     }
 }

@@ -19,7 +19,7 @@ use std::alloc::Global;
 use tte_units::Units;
 
 /// So many units, where they have fewer than 64 bits.
-fn whole_units(local: i128) -> Units
+pub fn whole_units(local: i128) -> Units
     requires low { neg_ℤ (pos (2 ^ 62)) <ℤ local }
     requires high { local <ℤ pos (2 ^ 62) }
     ensures { result.0 ≡ local }

@@ -44,6 +44,7 @@ impl Tally {
     }
 
     /// Counts one more record, by the line that counts it. There are fewer than 2^64 in all.
+    #[inline(always)]
     pub fn add(&mut self, counted: Counted)
         requires { self.old.records + 1 < 2 ^ 64 }
         ensures { (notes : List NoteValue) (note : NoteValue) → counted ≡ counted_as note.body
