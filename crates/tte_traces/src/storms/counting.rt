@@ -56,6 +56,7 @@ impl<K: Sink> Observer<K> for Seen {
     ghost cut = { λ network events notes instant old put it seen. (refl, seen.unput) };
 
     /// Counts the record. Where it is that of a correction, the spread of its time is to be taken.
+    #[inline(always)]
     fn record(
         &mut self,
         _world: &ExactWorld<'_>,
