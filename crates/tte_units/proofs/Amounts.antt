@@ -3,4 +3,4 @@ use Rattle.{std.proofs.Common.{◌∙◌, ◌≡◌, ◌≤ℤ◌, ap, pos, ℕ}
 use Rattle.tte_units.proofs.general_lemmas.Integers.{whole}
 
 pub units_are : (units : Units) (n : ℕ) → pos 0 ≤ℤ units.0 → amount units ≡ n → units ≡ units_of n
-units_are units n begun same = ap (λ (z : _). let u : Units = record { 0 = z } in u) (whole units.0 begun ∙ ap pos same)
+units_are units n begun same = rw (whole units.0 begun ∙ ap pos same)

@@ -1,5 +1,5 @@
 -- Facts on tests.
-use Rattle.std.proofs.{Common.{◌==◌, ◌||◌, ◌∙◌, ◌≡◌, Bool, MatchBool, None, Some, ap, arith, false, not, refl, sym, true, ℕ}, lemmas.Bool.eqb-true}
+use Rattle.std.proofs.{Common.{◌==◌, ◌||◌, ◌≡◌, Bool, MatchBool, None, Some, arith, false, not, refl, sym, true, ℕ}}
 use Rattle.{std.specs.Prelude.{◌&&◌, if◌then◌else◌}, tte_units.proofs.general_lemmas.Options.one}
 
 pub or_none : (a : Bool) → (a || false) ≡ a
@@ -28,8 +28,8 @@ pub not_both : (b : Bool) → b ≡ true → b ≡ false → ⊥
 not_both b t f = cc
 
 pub turned : (a b : ℕ) (r : Bool) → (a == b) ≡ r → (b == a) ≡ r
-turned a b true e = let same : a ≡ b = eqb-true a b e in grind (arith, same)
-turned a b false e = grind (arith, e)
+turned a b true e = grind arith
+turned a b false e = grind arith
 
 pub both_left : (a b : Bool) → (a && b) ≡ true → a ≡ true
 both_left true b e = refl
@@ -49,4 +49,4 @@ same_tests false true up down = down refl
 same_tests false false up down = refl
 
 pub takes_by : (off broken : Bool) → off ≡ false → broken ≡ false → (not off && not broken) ≡ true
-takes_by off broken a b = ap (λ (x : Bool). not x && not broken) a ∙ ap (λ (x : Bool). not x) b
+takes_by off broken a b = rw a (rw b)

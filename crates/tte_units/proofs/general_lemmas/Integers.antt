@@ -32,7 +32,7 @@ pub not_less : (a b : ℤ) → int_lt a b ≡ false → b ≤ℤ a
 not_less a b h = grind (arith, ints)
 
 pub further : (x y z a : ℤ) → x ≤ℤ (y +ℤ a) → y ≤ℤ z → x ≤ℤ (z +ℤ a)
-further x y z a h k = omega (arith, ints, h, k)
+further x y z a h k = omega (arith, ints)
 
 pub never_less : (x : ℤ) → x ≤ℤ x
 never_less x = omega (arith, ints)
@@ -57,4 +57,4 @@ pub int_le-false : (a b : ℤ) → b <ℤ a → int_le a b ≡ false
 int_le-false a b e = grind (arith, ints)
 
 pub ahead_yet : (reading a changed v : ℤ) → changed ≡ (reading +ℤ a) → changed <ℤ v → reading <ℤ (v -ℤ a)
-ahead_yet reading a changed v is lt = omega (arith, ints, is, lt)
+ahead_yet reading a changed v is lt = omega (arith, ints)

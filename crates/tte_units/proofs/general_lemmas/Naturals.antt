@@ -9,10 +9,10 @@ eqb_same n = grind (arith)
 
 -- the index is an old one or the new one
 pub below_next : (o n : ℕ) → o < n + 1 → (o < n) ⊎ (o ≡ n)
-below_next o n lt = elim (cases_lt o n) [ inl less ↦ inl less | inr more ↦ inr (omega (arith, lt, more)) ]
+below_next o n lt = elim (cases_lt o n) [ inl less ↦ inl less | inr more ↦ inr (omega arith) ]
 
 pub unequal : (a b : ℕ) → (a ≡ b → ⊥) → (a == b) ≡ false
-unequal a b n = grind (arith, n)
+unequal a b n = grind arith
 
 pub less_than_next : (n m : ℕ) → n < m → n < m + 1
 less_than_next n m h = omega arith
@@ -25,9 +25,9 @@ pub none_less : (n : ℕ) → n < n → ⊥
 none_less n h = omega arith
 
 pub cmp_equal : (o : Ordering) (n m : ℕ) → MatchOrdering o (n < m) (n ≡ m) (m < n) → n ≡ m → o ≡ Equal
-cmp_equal Less n m k e = absurd (omega (arith, k, e))
+cmp_equal Less n m k e = absurd (omega arith)
 cmp_equal Equal n m k e = refl
-cmp_equal Greater n m k e = absurd (omega (arith, k, e))
+cmp_equal Greater n m k e = absurd (omega arith)
 
 pub cases_of : (a b : ℕ) → (a < b) ⊎ ((a ≡ b) ⊎ (b < a))
 cases_of a b = grind arith

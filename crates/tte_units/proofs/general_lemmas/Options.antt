@@ -1,14 +1,14 @@
 -- Facts on options.
-use Rattle.std.proofs.{Common.{◌∙◌, ◌≡◌, ◌⊎◌, Bool, None, Option, Some, cond, false, inl, inr, refl, subst, sym, true, ℕ}, lemmas.Option.same_Some}
+use Rattle.std.proofs.{Common.{◌≡◌, ◌⊎◌, Bool, None, Option, Some, cond, false, inl, inr, refl, subst, true, ℕ}, lemmas.Option.same_Some}
 use Rattle.std.specs.{Option.{option_map, option_map_or}, Prelude.{IsSome, IsSomeAnd, is_some}}
 
 -- what an option holds is one
 pub one : {X : Type 0} (o : Option X) (x y : X) → o ≡ Some x → o ≡ Some y → x ≡ y
-one o x y e f = let same : Some x ≡ Some y = sym e ∙ f in cc
+one o x y e f = cc
 
 -- a value is known to have a property, and back
 pub closed : {X : Type 0} (P : X → Type 0) (o : Option X) (x : X) → o ≡ Some x → P x → IsSomeAnd o P
-closed P o x e h = subst (λ (s : Option _). IsSomeAnd s P) (sym e) h
+closed P o x e h = rw e h
 
 -- the value behind `IsSomeAnd`, and back
 pub opened : {X : Type 0} (P : X → Type 0) (o : Option X) → IsSomeAnd o P → (x : X) × (o ≡ Some x) × P x
@@ -33,10 +33,10 @@ same_by true x y o q e more = e
 same_by false x y o q e more = more e
 
 pub some_same : {X : Type 0} (x y : X) (o : Option X) → o ≡ Some x → o ≡ Some y → x ≡ y
-some_same x y o a b = let e : Some x ≡ Some y = sym a ∙ b in cc
+some_same x y o a b = cc
 
 pub same_next : (o : Option ℕ) (a b : ℕ) → o ≡ Some a → o ≡ Some b → a ≡ b
-same_next o a b e f = let g : Some a ≡ Some b = sym e ∙ f in cc
+same_next o a b e f = cc
 
 pub some_or_none : {X : Type 0} (o : Option X) → ((y : X) × (o ≡ Some y)) ⊎ (o ≡ None)
 some_or_none None = inr refl
@@ -60,8 +60,8 @@ passed test None e = absurd cc
 passed test (Some x) e = (x, refl, e)
 
 pub at_known : {X : Type 0} (P : X → Type 0) (o : Option X) (x : X) → o ≡ Some x → IsSomeAnd o P → P x
-at_known P o x e h = subst (λ (s : Option _). IsSomeAnd s P) e h
+at_known P o x e h = rw e at h
 
 pub of_by : {X : Type 0} (P : X → Type 0) (b : Bool) (x y : X) (o : Option X) → cond b (Some x) o ≡ Some y → P x → (o ≡ Some y → P y) → P y
-of_by P true x y o e px more = subst P (let h : x ≡ y = cc in h) px
+of_by P true x y o e px more = subst P (cc) px
 of_by P false x y o e px more = more e
