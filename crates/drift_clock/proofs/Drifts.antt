@@ -1,5 +1,5 @@
 -- What is counted in a short stretch, reckoned by its drift.
-use Rattle.std.proofs.Common.{◌*ℤ◌, ◌*◌, ◌+ℤ◌, ◌+◌, ◌-ℤ◌, ◌-◌, ◌/◌, ◌<◌, ◌^◌, ◌∙◌, ◌≡◌, ◌≤◌, ap, arith, neg_ℤ, negsuc, of_z, pos, suc, to_z}
+use Rattle.std.proofs.Common.{◌*ℤ◌, ◌*◌, ◌+ℤ◌, ◌+◌, ◌-ℤ◌, ◌-◌, ◌/◌, ◌<◌, ◌^◌, ◌∙◌, ◌≡◌, ◌≤◌, ap, arith, negsuc, of_z, pos, suc, to_z}
 use Rattle.std.proofs.{Common.{unsigned_abs, w64, ℕ, ℤ}, Math.{IntN.{negsuc-*ℤ-pos, pos-*ℤ-pos}, Nat.{div-div-eq-div-mul, mul-le-mul_right}}}
 use Rattle.std.{proofs.lemmas.{Bool.cases_lt, Grind.div_ceil_times, Int.{fits_signed_from_abs, ints, to_z-of_z, to_z_pos}}, specs.Int.div_ceil}
 use Rattle.drift_clock.specs.{Counts.{gain, rounded}, Segment.counted, SegmentLaws.gain_near}
@@ -55,20 +55,15 @@ pub lack_read : (r : ℤ) (n part each : ℕ) (d : ℤ) → unsigned_abs r ≤ 1
     ≡ 1000000000 * n + each * 4500000000
 lack_read r n part each d slow short less each_is is small =
     let near = gain_near r 1000000 slow (omega arith) in
-    let low : 999000000 ≤ each = let l = near.0 in omega arith in
-    let high : each ≤ 1001000000 = let h = near.1 in omega arith in
     let base = 4500000000 * each - part in
-    let much : 4400000000000000000 ≤ base = omega arith in
-    let most : base ≤ 4504500000000000000 = omega arith in
-    let back : base + part ≡ 4500000000 * each = omega arith in
     let read : to_z w64 base -ℤ to_z w64 (of_z w64 d) ≡ pos base -ℤ d =
-    ap (λ z. z -ℤ to_z w64 (of_z w64 d)) (pos_read base (omega arith))
-    ∙ ap (λ (z : ℤ). pos base -ℤ z) (reads d (omega arith)) in
+    rw (pos_read base (omega arith))
+    ((rw (reads d (omega arith)))) in
     let whole : to_z w64 (of_z w64 (to_z w64 base -ℤ to_z w64 (of_z w64 d))) ≡ pos base -ℤ (r *ℤ pos n) =
-    ap (λ z. to_z w64 (of_z w64 z)) read
-    ∙ reads (pos base -ℤ d) (omega (arith, ints)) ∙ ap (λ (z : ℤ). pos base -ℤ z) is in
-    let counted = without_drift r n base _ slow short much whole in
-    let same : each * n ≡ gain r * n = ap (λ k. k * n) each_is in
+    rw read
+    (reads (pos base -ℤ d) (omega (arith, ints)) ∙ (rw is)) in
+    let counted = without_drift r n base _ slow short (omega arith) whole in
+    let same : each * n ≡ gain r * n = rw each_is in
     omega (arith, counted)
 
 -- ---- quotients rounded up

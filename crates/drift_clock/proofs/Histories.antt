@@ -1,5 +1,5 @@
 -- Rate steps in the order of time.
-use Rattle.std.proofs.{Common.{◌<◌, ◌∙◌, ◌∷◌, ◌≡◌, ◌≤◌, List, [], ap, arith, refl, suc, unsigned_abs, ℕ}, lemmas.Bool.{le-leb, lt-leb}}
+use Rattle.std.proofs.{Common.{◌<◌, ◌∙◌, ◌∷◌, ◌≡◌, ◌≤◌, List, [], arith, refl, suc, unsigned_abs, ℕ}, lemmas.Bool.{le-leb, lt-leb}}
 use Rattle.std.{proofs.lemmas.List.Sorted.IsNonDecreasingBy-drop, specs.{List.Sorted.IsNonDecreasingBy, Prelude.All}}
 use Rattle.drift_clock.specs.RateSteps.{IsHistory, RateStep, up_to}
 
@@ -44,4 +44,5 @@ up_to-none rho t from (s ∷ steps) i lt = up_to-late t s steps (omega (arith, i
 
 pub up_to-all : (t : ℕ) (steps : List RateStep) → All (λ s. s.at ≤ t) steps → up_to t steps ≡ steps
 up_to-all t [] all = refl
-up_to-all t (s ∷ steps) all = up_to-cons t s steps (all 0 s (omega arith)) ∙ ap (λ xs. s ∷ xs) (up_to-all t steps (rest_within (λ x. x.at ≤ t) s steps all))
+up_to-all t (s ∷ steps) all = up_to-cons t s steps (all 0 s (omega arith)) ∙
+    (rw (up_to-all t steps (rest_within (λ x. x.at ≤ t) s steps all)))

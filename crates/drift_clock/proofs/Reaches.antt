@@ -68,13 +68,11 @@ steady_reaches grain s n m some whole enough least short = grind (arith, cases_l
 -- a reading comes to a value but once
 pub one_reach : (reading : ℕ → ℕ) (from v : ℤ) (u t : ℕ) → IsReach reading from v (pos u) → IsReach reading from v (pos t) → u ≡ t
 one_reach reading from v u t a b =
-    let from_u = a.from_on in
-    let from_t = b.from_on in
     elim (cases_lt u t) [
-      | inl lt ↦ let less = b.not_before u from_u (omega (arith, ints)) in let reached = a.reached in
+      | inl lt ↦ let less = b.not_before u a.from_on (omega (arith, ints)) in let reached = a.reached in
           absurd (omega (arith, ints))
       | inr ge ↦ elim (cases_lt t u) [
-        | inl lt ↦ let less = a.not_before t from_t (omega (arith, ints)) in let reached = b.reached in
+        | inl lt ↦ let less = a.not_before t b.from_on (omega (arith, ints)) in let reached = b.reached in
             absurd (omega (arith, ints))
         | inr le ↦ omega arith
       ]

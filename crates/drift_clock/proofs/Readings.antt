@@ -37,12 +37,11 @@ count_first after_step count law rho from c (s ∷ steps) i =
     elim (cases_lt from s.at) [
       | inl later ↦ reading_at-early after_step count c rho from s steps from i later
       | inr now ↦
-          let same : s.at ≡ from = omega (arith, i.0) in
           let next = after_step c s.at s.rate in
           let rest = count_first after_step count law rho s.at next steps i.2 in
-          let here = rest ∙ law.keeps c s.at s.rate in
           reading_at-cons after_step count c s steps from now ∙
-          subst (λ t. reading_at after_step count next steps t ≡ count c t) same here
+          subst (λ t. reading_at after_step count next steps t ≡ count c t) (omega (arith, i.0))
+          (rest ∙ law.keeps c s.at s.rate)
     ]
 
 -- between any two times from there on the count advances rightly
@@ -62,12 +61,11 @@ along after_step count law rho from c (x ∷ steps) small i runs s t after le =
             | inr both ↦
                 rw (reading_at-cons after_step count c x steps s both, reading_at-cons after_step count c x steps t late) (rest s t both le)
             | inl across ↦
-                let first = runs s x.at after (omega arith) in
                 let here : reading_at after_step count next steps x.at ≡ count c x.at = count_first after_step count law rho x.at next steps i.2
                 ∙ law.keeps c x.at x.rate in
                 let second = subst (λ (n : ℕ). Advances rho (t - x.at) n (reading_at after_step count next steps t)) here (rest x.at t (omega arith) late) in
                 rw (reading_at-early after_step count c rho from x steps s i across, reading_at-cons after_step count c x steps t late)
-                (join rho (x.at - s) (t - x.at) _ _ _ (t - s) first second (omega arith))
+                (join rho (x.at - s) (t - x.at) _ _ _ (t - s) (runs s x.at after (omega arith)) second (omega arith))
           ]
     ]
 
@@ -92,7 +90,8 @@ reads : {C : Type 0} (fresh : ℕ → C) (after_step : C → ℕ → ℤ → C) 
     (reading_at after_step count (fresh g) steps t)
 reads fresh after_step reading grain count law g steps t =
     let value = value_after after_step (fresh g) (up_to t steps) in
-    law.reads_count value t ∙ ap (λ n. rounded n (count value t)) (grain_after after_step grain law.keeps_grain (fresh g) (up_to t steps) ∙ law.has_grain g)
+    law.reads_count value t ∙ (rw (grain_after after_step grain law.keeps_grain (fresh g) (up_to t steps) ∙
+    law.has_grain g))
 
 forward : (rho d a b : ℕ) → rho ≤ 1000000 → Advances rho d a b → a ≤ b
 forward rho d a b small near =

@@ -1,5 +1,5 @@
 -- The law of slip, from the clock laws.
-use Rattle.std.proofs.{Common.{◌*◌, ◌+◌, ◌-◌, ◌/◌, ◌<◌, ◌^◌, ◌≡◌, ◌≤◌, arith, inl, inr, pos, ℕ}, Math.Nat.{mul-le-mul_left, mul-le-mul_right}}
+use Rattle.std.proofs.{Common.{◌*◌, ◌+◌, ◌-◌, ◌<◌, ◌^◌, ◌≡◌, ◌≤◌, arith, inl, inr, pos, ℕ}, Math.Nat.{mul-le-mul_left, mul-le-mul_right}}
 use Rattle.std.{proofs.lemmas.{Bool.cases_lt, Int.ints}, specs.Int.abs_diff}
 use Rattle.drift_clock.specs.{ClockLaws.KeepsClockLaws, Reach.IsReach, Slips.{SlipsLittle, grained_slip}}
 

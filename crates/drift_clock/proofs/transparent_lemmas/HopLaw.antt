@@ -1,5 +1,5 @@
 -- The path error, from what the hops of a path add up to.
-use Rattle.std.proofs.Common.{◌*◌, ◌+◌, ◌-◌, ◌/◌, ◌<◌, ◌^◌, ◌∷◌, ◌≡◌, ◌≤◌, List, [], arith, length, refl, suc, ℕ}
+use Rattle.std.proofs.Common.{◌*◌, ◌+◌, ◌-◌, ◌/◌, ◌^◌, ◌∷◌, ◌≡◌, ◌≤◌, List, [], arith, length, refl, suc, ℕ}
 use Rattle.std.{proofs.{Math.Nat.{mul-le-mul_left, mul-le-mul_right}, lemmas.List.Sums.sum_by-cons}, specs.{List.sum_by, Prelude.All}}
 use Rattle.drift_clock.specs.transparent.Hops.{Hop, IsHop, PermanentInTime, growth, travel}
 

@@ -1,4 +1,4 @@
-use Rattle.{drift_clock.specs.{RateSteps.up_to, Steady.steady_reading}, std.proofs.{Common.{ap, refl}, lemmas.List.Folds.fold_stays}}
+use Rattle.{drift_clock.specs.{RateSteps.up_to}, std.proofs.{Common.{refl}, lemmas.List.Folds.fold_stays}}
 use Rattle.drift_clock.proofs.laws.steady_law.Goals as goal
 
 pub returns : goal.returns

@@ -1,4 +1,4 @@
-use Rattle.std.proofs.{Common.{◌*◌, ◌-◌, ◌∙◌, ◌≡◌, ◌≤◌, ap, arith, sym, ℕ}, Math.Nat.mul-le-mul_right, lemmas.Int.ints}
+use Rattle.std.proofs.{Common.{◌*◌, ◌-◌, ◌∙◌, ◌≤◌, ap, arith, sym, ℕ}, Math.Nat.mul-le-mul_right, lemmas.Int.ints}
 use Rattle.drift_clock.specs.{Counts.gain, Segment.{Segment, counted, segment_count}, SegmentLaws.gain_near}
 use Rattle.drift_clock.proofs.segment.SegmentClockClock.rate.Goals as goal
 

@@ -1,13 +1,11 @@
-use Rattle.std.proofs.Common.{◌%◌, ◌*◌, ◌+◌, ◌<◌, ◌^◌, ◌≡◌, ◌≤◌, ap, arith, pos, subst, sym, unsigned_abs, ℕ}
+use Rattle.std.proofs.Common.{◌%◌, ◌*◌, ◌+◌, ◌<◌, ◌^◌, ◌≡◌, ◌≤◌, ap, arith, pos, sym, unsigned_abs}
 use Rattle.std.proofs.lemmas.Int.{ints}
 use Rattle.drift_clock.proofs.Reaches.{IsCounted, counts_on, reach_from, segment_comes, segment_reached}
-use Rattle.drift_clock.specs.Reach.{IsReach}
-use Rattle.drift_clock.specs.Segment.{Segment, segment_count, segment_reading}
+use Rattle.drift_clock.specs.Segment.{segment_count, segment_reading}
 use Rattle.drift_clock.proofs.segment.SegmentClockClock.reach.Goals as goal
 
 pub returns-then-v-le0 : goal.returns-then-v-le0
 returns-then-v-le0 c =
-    let below = c.if-v-le0.true in
     record {
       from_on = omega (arith, ints);
       reached = omega (arith, ints);
@@ -63,7 +61,6 @@ returns c =
     let some : 1 ≤ s.grain = omega (arith, c.self.invariant.0.some_grain) in
     let whole : m % s.grain ≡ 0 = rw grain at c.full_grains-goal.ensures.whole in
     let least : m < n + s.grain = rw grain at c.full_grains-goal.ensures.least in
-    let ahead = c.if-reached-amount.false in
     let counted : IsCounted s m c.time_of-reached.result = record {
       counted = c.time_of-reached.ensures.counted;
       not_before = c.time_of-reached.ensures.not_before;

@@ -1,4 +1,4 @@
-use Rattle.{drift_clock.{proofs.Drifts.whole_grains, specs.{Counts.rounded, Segment.{Segment, segment_count}}}, std.proofs.Common.{◌∙◌, ap, pos, sym, ℕ}}
+use Rattle.{drift_clock.{proofs.Drifts.whole_grains, specs.{Counts.rounded, Segment.{segment_count}}}, std.proofs.Common.{◌∙◌, ap, pos, sym}}
 use Rattle.drift_clock.proofs.segment.SegmentClockClock.read.Goals as goal
 
 pub returns : goal.returns
@@ -10,4 +10,4 @@ returns c =
     c.from_amount.ensures.whole
     ∙ ap pos (c.in_grains.ensures ∙ whole ∙ ap (rounded grain) c.count_at-whole.ensures.count
     ∙ ap (λ x. rounded x.grain (segment_count s c.amount.result)) c.self.view_is
-    ∙ ap (λ t. rounded s.grain (segment_count s t)) c.amount.ensures.value)
+    ∙ (rw c.amount.ensures.value))

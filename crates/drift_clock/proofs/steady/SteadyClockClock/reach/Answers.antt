@@ -1,4 +1,4 @@
-use Rattle.std.proofs.{Common.{◌%◌, ◌*◌, ◌+◌, ◌/◌, ◌<◌, ◌≡◌, ◌≤◌, arith, unsigned_abs, ℕ}, lemmas.Int.ints}
+use Rattle.std.proofs.{Common.{◌%◌, ◌*◌, ◌+◌, ◌/◌, ◌<◌, ◌≡◌, ◌≤◌, arith, unsigned_abs}, lemmas.Int.ints}
 use Rattle.drift_clock.proofs.Reaches.{reach_from, steady_reaches}
 use Rattle.drift_clock.proofs.steady.SteadyClockClock.reach.Goals as goal
 
