@@ -1,5 +1,5 @@
 -- One more call.
-use Rattle.std.proofs.{Common.{◌++◌, ◌∙◌, ◌∷◌, ◌≡◌, ◌⊎◌, List, None, Option, [], ap, fold, inl, inr, refl, subst, sym, ℕ}, lemmas.List.Sums.fold_push}
+use Rattle.std.proofs.{Common.{◌++◌, ◌∙◌, ◌∷◌, ◌≡◌, ◌⊎◌, List, None, Option, [], inl, inr, refl, sym, ℕ}, lemmas.List.Sums.fold_push}
 use Rattle.tte_units.specs.declared.units.Units.{Units}
 use Rattle.sync_state.specs.Calls.{Call, IsAnswered, StandsAfter, after, after_all, next_adjustment, next_integrated, next_number, next_state}
 use Rattle.sync_state.specs.{Standing.{Standing, adjustment_at_start, state_at_start}, declared.{plan.SyncPlan.SyncPlan, state.State.State}}
@@ -12,9 +12,7 @@ push_split [] y (p ∷ []) x qs same = absurd (cc)
 push_split [] y (p ∷ (q ∷ ps)) x qs same = absurd (cc)
 push_split (a ∷ xs) y [] x qs same = inl (xs, cc)
 push_split (a ∷ xs) y (p ∷ ps) x qs same =
-    let rest : xs ++ y ∷ [] ≡ ps ++ x ∷ qs = cc in
-    let first : a ≡ p = cc in
-    elim (push_split xs y ps x qs rest) [
+    elim (push_split xs y ps x qs cc) [
       | inl front ↦ inl (front.0, cc)
       | inr last ↦ inr (cc, last.1)
     ]
@@ -32,17 +30,15 @@ made plan state adjustment number integrated = record {
 after_all-push : (plan : SyncPlan) (start : Option Units) (calls : List Call) (call : Call) → after (after_all plan start calls) call ≡ after_all plan start
     (calls ++ call ∷ [])
 after_all-push plan start calls call =
-    let now : Standing = after (after_all plan start calls) call in
-    let later : List Call = calls ++ call ∷ [] in
+    let now = after (after_all plan start calls) call in
+    let later = calls ++ call ∷ [] in
     let s = sym (fold_push next_state (state_at_start start) calls call) in
     let a = sym (fold_push next_adjustment (adjustment_at_start start) calls call) in
     let n = sym (fold_push next_number 1 calls call) in
-    let i = sym (fold_push next_integrated None calls call) in
-    ap (λ (x : State). made plan x now.adjustment now.number now.integrated) s
-    ∙ ap (λ (x : Units). made plan (fold next_state (state_at_start start) later) x now.number now.integrated) a
-    ∙ ap (λ (x : ℕ). made plan (fold next_state (state_at_start start) later) (fold next_adjustment (adjustment_at_start start) later) x now.integrated) n
-    ∙ ap (λ (x : Option ℕ). made plan (fold next_state (state_at_start start) later) (fold next_adjustment (adjustment_at_start start) later)
-    (fold next_number 1 later) x) i
+    rw s
+    (rw a
+    ((rw n
+    ((rw (sym (fold_push next_integrated None calls call)))))))
 
 pub stands_at_start : (plan : SyncPlan) (start : Option Units) → StandsAfter plan start [] (after_all plan start [])
 stands_at_start plan start = record { stands = refl; answered = λ earlier later call same. absurd (no_split earlier call later same) } where
@@ -53,11 +49,10 @@ stands_at_start plan start = record { stands = refl; answered = λ earlier later
 pub one_more : (plan : SyncPlan) (start : Option Units) (calls : List Call) (s t : Standing) (call : Call) → IsAnswered s call → t ≡ after s call
     → StandsAfter plan start calls s → StandsAfter plan start (calls ++ call ∷ []) t
 one_more plan start calls s t call answered step is = record {
-  stands = step ∙ ap (λ (u : Standing). after u call) is.stands ∙ after_all-push plan start calls call;
+  stands = step ∙ (rw is.stands (after_all-push plan start calls call));
   answered = λ earlier later x same.
       elim (push_split calls call earlier x later same) [
         | inl front ↦ is.answered earlier front.0 x front.1
-        | inr last ↦ subst (λ (cs : List Call). IsAnswered (after_all plan start cs) x) last.0
-            (subst (λ (y : Call). IsAnswered (after_all plan start calls) y) last.1 (subst (λ (u : Standing). IsAnswered u call) is.stands answered))
+        | inr last ↦ rw last.0 at (rw last.1 at (rw is.stands at answered))
       ];
 }

@@ -1,5 +1,5 @@
 -- Laws of the verdicts.
-use Rattle.std.proofs.Common.{◌+ℤ◌, ◌-ℤ◌, ◌∙◌, ◌≡◌, Bool, None, Option, Some, ap, arith, false, if◌then◌else◌, nat_le, option_and_then, option_map, refl, sym}
+use Rattle.std.proofs.Common.{◌+ℤ◌, ◌-ℤ◌, ◌∙◌, ◌≡◌, None, Option, Some, ap, arith, false, if◌then◌else◌, nat_le, option_and_then, option_map, refl, sym}
 use Rattle.{std.proofs.Common.{true, ℤ}, sync_state.specs.{Plan.expected_at, Standing.Standing}}
 use Rattle.{std.proofs.lemmas.{Int.ints, Option.same_Some}, tte_units.{proofs.Means.mean_of-floor, specs.{Mean.{IsMean, mean_of}, declared.units.Units.Units}}}
 use Rattle.{sync_state.specs.Verdicts.{HasVerdict, deviation_by, deviation_on}, tte_units.specs.declared.frames.channel.Channel.TheVariants.{A, B}}
@@ -34,9 +34,9 @@ same_mean a b k m n before after = omega (arith, ints, before.least, before.most
 correction-more : (k : ℤ) (a b : Option Units) (by : Units) → correction_of a b ≡ Some by
     → correction_of (option_map (more k) a) (option_map (more k) b) ≡ Some (more k by)
 correction-more k (Some a) (Some b) by same =
-    let value : mean_of (a.0 +ℤ k) (b.0 +ℤ k) ≡ mean_of a.0 b.0 +ℤ k =
+    let value =
     same_mean a.0 b.0 k (mean_of a.0 b.0) (mean_of (a.0 +ℤ k) (b.0 +ℤ k)) (mean_of-floor a.0 b.0) (mean_of-floor (a.0 +ℤ k) (b.0 +ℤ k)) in
-    ap (λ (z : ℤ). Some (record { 0 = z })) value ∙ ap (λ (u : Units). Some (more k u)) (same_Some _ by same)
+    rw value (ap (λ u. Some (more k u)) (same_Some _ by same))
 correction-more k (Some a) None by same = ap (option_map (more k)) same
 correction-more k None (Some b) by same = ap (option_map (more k)) same
 correction-more k None None by same = absurd (cc)
@@ -52,11 +52,11 @@ deviation-other : (s : Standing) (other : Units) (best : Option HeardFrame)
     (option_and_then (λ frame. if nat_le s.plan.threshold (count_of frame.members) then Some (deviation_by s frame) else None) best)
 deviation-other s other None = refl
 deviation-other s other (Some frame) =
-    let k : ℤ = s.adjustment.0 -ℤ other.0 in
+    let k = s.adjustment.0 -ℤ other.0 in
     let at : deviation_by (record s { adjustment = other }) frame ≡ more k (deviation_by s frame) =
-    ap (λ (z : ℤ). record { 0 = z }) (back (expected_at s.plan s.number) frame.point.0 s.adjustment.0 other.0) in
+    rw (back (expected_at s.plan s.number) frame.point.0 s.adjustment.0 other.0) in
     elim (nat_le s.plan.threshold (count_of frame.members)) as
-    (λ (b : Bool). (if b then Some (deviation_by (record s { adjustment = other }) frame) else None) ≡ option_map (more k)
+    (λ b. (if b then Some (deviation_by (record s { adjustment = other }) frame) else None) ≡ option_map (more k)
     (if b then Some (deviation_by s frame) else None)) [
       | true ↦ ap Some at
       | false ↦ refl
@@ -68,14 +68,13 @@ sum_is x b y = omega (arith, ints)
 pub by_points : (s : Standing) (heard : Summary) (by other : Units) → HasVerdict s heard (Corrected by) → HasVerdict (record s { adjustment = other }) heard
     (Corrected (record { 0 = (s.adjustment.0 +ℤ by.0) -ℤ other.0 }))
 by_points s heard by other is =
-    let k : ℤ = s.adjustment.0 -ℤ other.0 in
-    let a = deviation-other s other heard.best_a in
+    let k = s.adjustment.0 -ℤ other.0 in
     let b = deviation-other s other heard.best_b in (
       λ at. is.0 (record { joining = at.joining; cycle = at.cycle }),
       is.1,
       is.2,
-      ap (λ (o : Option Units). correction_of o (deviation_on (record s { adjustment = other }) heard B)) a
-          ∙ ap (λ (o : Option Units). correction_of (option_map (more k) (deviation_on s heard A)) o) b
-          ∙ correction-more k (deviation_on s heard A) (deviation_on s heard B) by is.3
-          ∙ ap (λ (z : ℤ). Some (record { 0 = z })) (sum_is s.adjustment.0 by.0 other.0),
+      rw (deviation-other s other heard.best_a)
+          (rw b
+          (correction-more k (deviation_on s heard A) (deviation_on s heard B) by is.3
+          ∙ (rw (sum_is s.adjustment.0 by.0 other.0)))),
     )

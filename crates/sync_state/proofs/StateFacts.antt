@@ -1,11 +1,11 @@
 -- States, and the points of a cycle in them.
-use Rattle.{std.proofs.Common.{◌∙◌, ◌≡◌, ◌≤◌, Bool, IfSome, None, Option, Some, ap, false, if◌then◌else◌, sym, true, ℕ}, sync_state.specs.Verdicts.deviation_by}
+use Rattle.{std.proofs.Common.{◌≡◌, ◌≤◌, Bool, IfSome, None, Option, Some, false, if◌then◌else◌, true, ℕ}, sync_state.specs.Verdicts.deviation_by}
 use Rattle.std.{proofs.lemmas.Bool.le-leb, specs.Prelude.{nat_le, option_and_then}}
 use Rattle.{sync_state.specs.{Standing.{Standing, point_in}, membership.{BestFrame.Qualifies, Members.count_of}}, tte_units.specs.declared.units.Units.Units}
 use Rattle.sync_state.specs.declared.{membership.frame.HeardFrame.HeardFrame, state.State.{State, TheVariants.{Integrating, Joining, Off, Synchronised}}}
 
 pub no_point : (state : State) (number cycle : ℕ) → state ≡ Integrating → point_in state number ≡ Some cycle → ⊥
-no_point state number cycle is next = let bad : None ≡ Some cycle = sym (ap (λ (x : State). point_in x number) is) ∙ next in cc
+no_point state number cycle is next = cc
 
 pub no_longer : Integrating ≡ Synchronised → ⊥
 no_longer e = cc
@@ -27,7 +27,7 @@ pub deviates : (s : Standing) (o : Option HeardFrame) → Qualifies s.plan.thres
     × (option_and_then (λ frame. if nat_le s.plan.threshold (count_of frame.members) then Some (deviation_by s frame) else None) o ≡ Some d)
 deviates s None q = absurd q
 deviates s (Some frame) q =
-    (deviation_by s frame, ap (λ (b : Bool). if b then Some (deviation_by s frame) else None) (le-leb s.plan.threshold (count_of frame.members) q))
+    (deviation_by s frame, rw (le-leb s.plan.threshold (count_of frame.members) q))
 
 -- and the point is that of the number
 pub number_in : (state : State) (n cycle : ℕ) → point_in state n ≡ Some cycle → cycle ≡ n

@@ -1,6 +1,6 @@
 -- What a correction point comes to.
-use Rattle.std.proofs.Common.{◌+ℤ◌, ◌-ℤ◌, ◌↔◌, ◌≡◌, ◌≤◌, Bool, IfSome, IsSome, IsSomeAnd, IsTrue, None, Option, Some, arith, false, if◌then◌else◌, leb, max}
-use Rattle.{std.proofs.Common.{nat_le, option_and_then, option_map, refl, subst, sym, true, ℕ, ℤ}, sync_state.specs.declared.answers.Verdict.Verdict}
+use Rattle.std.proofs.Common.{◌+ℤ◌, ◌-ℤ◌, ◌↔◌, ◌≡◌, ◌≤◌, IfSome, IsSome, IsSomeAnd, IsTrue, None, Option, Some, arith, false, if◌then◌else◌, leb, max}
+use Rattle.{std.proofs.Common.{nat_le, option_and_then, option_map, refl, sym, true, ℕ, ℤ}, sync_state.specs.declared.answers.Verdict.Verdict}
 use Rattle.{std.proofs.lemmas.{Bool.{le-leb, leb-true}, Int.ints}, sync_state.specs.membership.Summary.Summary, tte_units.specs.declared.units.Units.Units}
 use Rattle.{std.proofs.lemmas.Option.same_Some, sync_state.specs.Calls.adjustment_by, tte_units.{proofs.Means.mean_of-floor, specs.Mean.{IsMean, mean_of}}}
 use Rattle.{std.specs.Option.unwrap_or, sync_state.specs.{Plan.expected_at, Standing.Standing}}
@@ -18,8 +18,8 @@ pub outnumbered : (heard : Summary) (a b most outside : ℕ) → a ≡ members_o
     → outside ≡ count_of heard.outside → IsTrue (leb most outside) ↔ IsOutnumbered heard
 outnumbered heard a b most outside is_a is_b is_most is_outside = (forth, back) where
   forth : IsTrue (leb most outside) → IsOutnumbered heard
-  forth test A = (best_within heard.best_a (count_of heard.outside)).0 (omega (arith, leb-true most outside test, is_a, is_most, is_outside))
-  forth test B = (best_within heard.best_b (count_of heard.outside)).0 (omega (arith, leb-true most outside test, is_b, is_most, is_outside))
+  forth test A = (best_within heard.best_a (count_of heard.outside)).0 (omega (arith, leb-true most outside test))
+  forth test B = (best_within heard.best_b (count_of heard.outside)).0 (omega (arith, leb-true most outside test))
 
   back : IsOutnumbered heard → IsTrue (leb most outside)
   back all =
@@ -28,16 +28,12 @@ outnumbered heard a b most outside is_a is_b is_most is_outside = (forth, back) 
         arith,
         (best_within heard.best_a (count_of heard.outside)).1 (all A),
         (best_within heard.best_b (count_of heard.outside)).1 (all B),
-        is_a,
-        is_b,
-        is_most,
-        is_outside,
       ))
 
 -- a correction added to the adjustment is small, where the verdict says so
 pub small_after : (adjustment later : Units) (verdict : Verdict) → later ≡ adjustment_by adjustment verdict
     → IfCorrected verdict (λ by. IsSmall (adjustment.0 +ℤ by.0)) → IfCorrected verdict (λ _. IsSmall later.0)
-small_after adjustment later (Corrected by) same small = subst (λ (u : Units). IsSmall u.0) (sym same) small
+small_after adjustment later (Corrected by) same small = rw same small
 small_after adjustment later SyncClique same small = tt
 small_after adjustment later AsyncClique same small = tt
 small_after adjustment later Cleared same small = tt
@@ -56,7 +52,8 @@ deviation_small : (s : Standing) (best : Option HeardFrame) → IfSome best (IsN
     → SmallWith s.adjustment.0 (option_and_then (λ frame. if nat_le s.plan.threshold (count_of frame.members) then Some (deviation_by s frame) else None) best)
 deviation_small s None near = tt
 deviation_small s (Some frame) near =
-    elim (nat_le s.plan.threshold (count_of frame.members)) as (λ (b : Bool). SmallWith s.adjustment.0 (if b then Some (deviation_by s frame) else None)) [
+    elim (nat_le s.plan.threshold (count_of frame.members)) as (λ b. SmallWith s.adjustment.0
+    (if b then Some (deviation_by s frame) else None)) [
       | true ↦ back_again (expected_at s.plan s.number) frame.point.0 s.adjustment.0 near.difference
       | false ↦ tt
     ]
@@ -65,10 +62,10 @@ deviation_small s (Some frame) near =
 correction_small : (adjustment : ℤ) (a b : Option Units) (by : Units) → SmallWith adjustment a → SmallWith adjustment b → correction_of a b ≡ Some by
     → IsSmall (adjustment +ℤ by.0)
 correction_small adjustment (Some a) (Some b) by small_a small_b same =
-    subst (λ (u : Units). IsSmall (adjustment +ℤ u.0)) (same_Some _ _ same)
-    (mean_small adjustment a.0 b.0 (mean_of a.0 b.0) (mean_of-floor a.0 b.0) small_a small_b)
-correction_small adjustment (Some a) None by small_a small_b same = subst (λ (u : Units). IsSmall (adjustment +ℤ u.0)) (same_Some _ _ same) small_a
-correction_small adjustment None (Some b) by small_a small_b same = subst (λ (u : Units). IsSmall (adjustment +ℤ u.0)) (same_Some _ _ same) small_b
+    rw (sym (same_Some _ _ same)) (mean_small adjustment a.0 b.0 (mean_of a.0 b.0) (mean_of-floor a.0 b.0) small_a
+    small_b)
+correction_small adjustment (Some a) None by small_a small_b same = rw (sym (same_Some _ _ same)) small_a
+correction_small adjustment None (Some b) by small_a small_b same = rw (sym (same_Some _ _ same)) small_b
 correction_small adjustment None None by small_a small_b same = absurd (cc)
 
 pub corrected_small : (s : Standing) (heard : Summary) (by : Units) → IfSome heard.best_a (IsNear s) → IfSome heard.best_b (IsNear s)

@@ -1,4 +1,4 @@
-use Rattle.std.specs.Prelude.{◌*ℤ◌, ◌+ℤ◌, ◌+◌, ◌^◌, ◌≤ℤ◌, pos, ℕ, ℤ}
+use Rattle.std.specs.Prelude.{◌*ℤ◌, ◌+ℤ◌, ◌^◌, ◌≤ℤ◌, pos, ℕ, ℤ}
 use Rattle.{sync_state.specs.declared.plan.SyncPlan.SyncPlan, tte_units.specs.Reading.{greatest_reading, least_reading}}
 
 -- the cycle's length and the expected offset are within their ranges

@@ -1,10 +1,10 @@
 -- What is kept after one more frame.
-use Rattle.std.proofs.Common.{◌++◌, ◌↔◌, ◌∙◌, ◌∷◌, ◌≡◌, All, Bool, IsNone, List, None, Option, Some, [], ap, arith, false, length, refl, subst, sym, true}
+use Rattle.std.proofs.Common.{◌++◌, ◌↔◌, ◌∷◌, ◌≡◌, All, Bool, IsNone, List, None, Option, Some, [], ap, arith, false, length, refl, subst, sym, true}
 use Rattle.std.proofs.lemmas.{Bool.both_ways, List.{Elements.All-nil, get_or_at, length-append}}
 use Rattle.sync_state.{proofs.membership_lemmas.BestLemmas.{best_after, best_stays}, specs.membership.BestFrame.{IsBestOf, IsBetterOf, NoneWithin}}
 use Rattle.sync_state.{proofs.membership_lemmas.OutsideLemmas.{outside_after, outside_stays}, specs.membership.Summary.{Summarizes, Summary, best_on, silence}}
 use Rattle.{sync_state.proofs.membership_lemmas.SetLemmas.none-members, tte_units.specs.declared.frames.channel.Channel.{Channel, TheVariants.{A, B}}}
-use Rattle.sync_state.specs.{declared.membership.frame.HeardFrame.HeardFrame, membership.{Hearing.{Hearing, IsWithinOn, within_on}, Members.{none, union}}}
+use Rattle.sync_state.specs.{declared.membership.frame.HeardFrame.HeardFrame, membership.{Hearing.{Hearing, IsWithinOn, within_on}, Members.{union}}}
 
 pub silence_summarizes : Summarizes silence []
 silence_summarizes = grind (arith, All-nil, none-members)
@@ -48,7 +48,7 @@ none_exactly heard channel None is = (λ _. is, λ _. refl)
 none_exactly heard channel (Some best) is = (λ e. cc, λ all. absurd (never all)) where
   never : All (λ h. IsWithinOn channel h → ⊥) heard → ⊥
   never all =
-      let it : Hearing = within_on channel best in
+      let it = within_on channel best in
       let P : Hearing → Type 0 = λ h. IsWithinOn channel h → ⊥ in
       let split : All P (is.before ++ it ∷ is.after) = subst (All P) is.is_heard all in
       let here : P it = subst P (get_or_at is.before it is.after it (length is.before) refl)
@@ -65,12 +65,12 @@ pub read_none : (s : Summary) (channel : Channel) (best : Option HeardFrame) →
 read_none s channel best same heard is = none_exactly heard channel best (read_best s channel best same heard is)
 
 pub reads_a : (s t : Summary) (channel : Channel) → s ≡ t → channel ≡ A → s.best_a ≡ best_on channel t
-reads_a s t channel same at = ap (λ (u : Summary). u.best_a) same ∙ ap (λ (ch : Channel). best_on ch t) (sym at)
+reads_a s t channel same at = rw same (ap (λ ch. best_on ch t) (sym at))
 
 pub reads_b : (s t : Summary) (channel : Channel) → s ≡ t → channel ≡ B → s.best_b ≡ best_on channel t
-reads_b s t channel same at = ap (λ (u : Summary). u.best_b) same ∙ ap (λ (ch : Channel). best_on ch t) (sym at)
+reads_b s t channel same at = rw same (ap (λ ch. best_on ch t) (sym at))
 
 pub same_hearing : (channel at : Channel) (frame : HeardFrame) (within : Bool) → channel ≡ at → within ≡ true
     → within_on at frame ≡ record { channel = channel; frame = frame; within = within }
 same_hearing channel at frame within on in_time =
-    ap (λ (ch : Channel). within_on ch frame) (sym on) ∙ ap (λ (w : Bool). record { channel = channel; frame = frame; within = w }) (sym in_time)
+    rw (sym on) (rw (sym in_time))
