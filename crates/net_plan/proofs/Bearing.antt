@@ -28,7 +28,8 @@ pub bearer_found : {X : Type 0} (f : X → List ℕ) (xs : List X) (name : List 
     × AllWithin (λ x. f x ≢ name) xs 0 i → IsFirstBearer (map f xs) name i
 bearer_found f [] name i h = absurd (omega (arith, h.0))
 bearer_found f (x ∷ xs) name i h = record {
-  bears = slice_get-map f (x ∷ xs) i ∙ ap (Rattle.std.specs.Option.option_map f) (slice_get-get_or (x ∷ xs) i x h.0) ∙ ap (λ (n : List ℕ). Some n) (h.1 x);
+  bears = slice_get-map f (x ∷ xs) i ∙ ap (Rattle.std.specs.Option.option_map f) (slice_get-get_or (x ∷ xs) i x h.0) ∙
+      (rw (h.1 x));
   first = not_named f (x ∷ xs) name i h.2;
 }
 

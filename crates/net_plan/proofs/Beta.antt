@@ -3,21 +3,21 @@ use Rattle.net_plan.proofs.Greatest.{IsOfPathBelow, greatest_below_all, greatest
 use Rattle.{net_plan.proofs.Greatest.{greatest_is_unique, greatest_of_channels}, tte_units.specs.declared.frames.channel.Channel.{Channel, TheVariants.{A, B}}}
 use Rattle.net_plan.specs.{Bounds.{BetaExists, BetaIsUnique, IsGreatest, IsOfPath, IsOfPathFrom, IsOfPathOn, beta_at, jitter_on}, declared.ids.LinkId.LinkId}
 use Rattle.{net_plan.specs.Paths.IsTree, std.{proofs.Common.{zero, ℕ, ⊎_elim}, specs.Prelude.IsSomeAnd}}
-use Rattle.net_plan.specs.{Places.{IsDeviceOf, device_at, is_end_system}, declared.{ids.DeviceId.DeviceId, network.Network.Network, tables.Device.Device}}
-use Rattle.std.proofs.Common.{◌+◌, ◌∙◌, ◌≡◌, ◌⊎◌, Bool, List, None, Option, Some, ap, arith, false, inl, inr, length, max, pos, refl, subst, suc, sym, true}
+use Rattle.net_plan.specs.{Places.{device_at, is_end_system}, declared.{ids.DeviceId.DeviceId, network.Network.Network, tables.Device.Device}}
+use Rattle.std.proofs.Common.{◌+◌, ◌∙◌, ◌≡◌, ◌⊎◌, Bool, List, None, Option, Some, arith, false, inl, inr, length, max, pos, refl, suc, sym, true}
 
 pub beta_is_unique : BetaIsUnique
 beta_is_unique n b other g h =
     let j = greatest_is_unique (IsOfPath n (jitter_on n)) g.jitter_greatest h.jitter_greatest in
-    let l = greatest_is_unique (IsOfPath n (length {A = LinkId})) g.links_greatest h.links_greatest in
-    g.value ∙ ap (λ x. pos (beta_at n x g.links)) j ∙ ap (λ x. pos (beta_at n h.jitter x)) l ∙ sym h.value
+    let l = greatest_is_unique (IsOfPath n (length)) g.links_greatest h.links_greatest in
+    g.value ∙ (rw j ((rw l (sym h.value))))
 
 either_channel : (o : Option Channel) (c : Channel) → (o ≡ Some c) ⊎ (o ≡ Some c → ⊥)
-either_channel None c = inr (λ e. grind (arith, e))
+either_channel None c = inr (λ e. grind arith)
 either_channel (Some A) A = inl refl
 either_channel (Some B) B = inl refl
-either_channel (Some A) B = inr (λ e. grind (arith, e))
-either_channel (Some B) A = inr (λ e. grind (arith, e))
+either_channel (Some A) B = inr (λ e. grind arith)
+either_channel (Some B) A = inr (λ e. grind arith)
 
 either_role : (b : Bool) (o : Option Channel) (c : Channel) → ((b ≡ true) ⊎ (o ≡ Some c)) ⊎ ((b ≡ true) ⊎ (o ≡ Some c) → ⊥)
 either_role true o c = inl (inl refl)
@@ -31,11 +31,10 @@ either_device (Some d) c = either_role (is_end_system d.role) d.channel c
 module _ {n : Network} (c : Channel) (measure : List LinkId → ℕ) (tree : IsTree n) where
   from_one : (d : DeviceId) → (m : ℕ) × IsGreatest (IsOfPathFrom n c d measure) m
   from_one d = ⊎_elim
-      (λ (h : IsDeviceOf n c d). let p = tree.reach c d h in let r : (m : ℕ)
+      (λ h. let p = tree.reach c d h in let r : (m : ℕ)
       × IsGreatest (IsOfPathFrom n c d measure) m =
       (measure p.0, greatest_from_path c d measure p.0 (measure p.0) tree h p.2 refl) in r)
-      (λ (no : IsDeviceOf n c d → ⊥). let r : (m : ℕ) × IsGreatest (IsOfPathFrom n c d measure)
-      m = (0, greatest_from_none n c d measure no) in r)
+      (λ no. (0, greatest_from_none n c d measure no))
       (either_device (device_at n d) c)
 
   from_first : (places : ℕ) → (m : ℕ) × IsGreatest (IsOfPathBelow n c places measure) m
@@ -45,8 +44,7 @@ module _ {n : Network} (c : Channel) (measure : List LinkId → ℕ) (tree : IsT
       let one = from_one (record { 0 = k }) in
       let same : k + 1 ≡ suc k = omega arith in (
         max before.0 one.0,
-        subst (λ p. IsGreatest (IsOfPathBelow n c p measure) (max before.0 one.0)) same
-            (greatest_below_more n c measure k before.0 one.0 before.1 one.1),
+        rw same at (greatest_below_more n c measure k before.0 one.0 before.1 one.1),
       )
 
   on_channel : (m : ℕ) × IsGreatest (IsOfPathOn n c measure) m
@@ -61,5 +59,5 @@ greatest_exists {n} measure tree =
 pub beta_exists : BetaExists
 beta_exists n tree =
     let j = greatest_exists (jitter_on n) tree in
-    let l = greatest_exists (length {A = LinkId}) tree in
+    let l = greatest_exists (length) tree in
     (pos (beta_at n j.0 l.0), record { jitter = j.0; links = l.0; jitter_greatest = j.1; links_greatest = l.1; value = refl })

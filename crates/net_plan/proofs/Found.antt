@@ -6,8 +6,8 @@ use Rattle.tte_units.proofs.general_lemmas.Options.{opened}
 use Rattle.net_plan.specs.{Places.device_at, declared.{ids.DeviceId.DeviceId, network.Network.Network, tables.Device.Device}}
 
 pub some_at : {X : Type 0} (P : X → Type 0) (xs : List X) (k : ℕ) → k < length xs → HoldsAt P xs k → IsSomeAnd (slice_get xs k) P
-some_at P [] k below h = absurd (omega (arith, below))
-some_at P (x ∷ xs) k below h = subst (λ (o : Option _). IsSomeAnd o P) (sym (slice_get-get_or (x ∷ xs) k x below)) (h x)
+some_at P [] k below h = absurd (omega arith)
+some_at P (x ∷ xs) k below h = rw (slice_get-get_or (x ∷ xs) k x below) (h x)
 
 -- what `position` answers at a test
 abbrev pub IsFound : {X : Type 0} → (X → Type 0) → List X → Option ℕ → Type 0

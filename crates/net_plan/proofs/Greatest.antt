@@ -3,7 +3,7 @@ use Rattle.{net_plan.proofs.Trees.paths_are_unique, std.proofs.lemmas.{Bool.case
 use Rattle.{net_plan.specs.Bounds.{IsGreatest, IsOfPath, IsOfPathFrom, IsOfPathOn}, tte_units.specs.declared.frames.channel.Channel.TheVariants.{A, B}}
 use Rattle.{net_plan.specs.{Paths.{IsPath, IsTree}, Places.{IsDeviceOf, device_at, is_end_system}}, tte_units.specs.declared.frames.channel.Channel.Channel}
 use Rattle.{net_plan.specs.declared.{ids.{DeviceId.DeviceId, LinkId.LinkId}, network.Network.Network}, tte_units.proofs.general_lemmas.Options.opened}
-use Rattle.std.proofs.Common.{◌+◌, ◌<◌, ◌∙◌, ◌≡◌, ◌≤◌, ◌⊎◌, List, ap, arith, inl, inr, length, max, refl, subst, sym, ℕ, ⊎_elim}
+use Rattle.std.proofs.Common.{◌+◌, ◌<◌, ◌∙◌, ◌≡◌, ◌≤◌, ◌⊎◌, List, ap, arith, inl, inr, length, max, refl, sym, ℕ, ⊎_elim}
 
 -- no two numbers are the greatest
 pub greatest_is_unique : (Has : ℕ → Type 0) {m n : ℕ} → IsGreatest Has m → IsGreatest Has n → m ≡ n
@@ -40,11 +40,8 @@ module _ (n : Network) (c : Channel) (measure : List LinkId → ℕ) where
   below_or_at place k h =
       let d = h.0 in
       ⊎_elim
-      (λ (l : d.0 < place). let r : IsOfPathBelow n c place measure k ⊎ IsOfPathFrom n c (record { 0 = place })
-      measure k = inl (d, l, h.2) in r)
-      (λ (g : place ≤ d.0). let e : d.0 ≡ place = omega (arith, g, h.1) in let r : IsOfPathBelow n c place measure k
-      ⊎ IsOfPathFrom n c (record { 0 = place }) measure k =
-      inr (subst (λ (i : ℕ). IsOfPathFrom n c (record { 0 = i }) measure k) e h.2) in r)
+      (λ l. (inl (d, l, h.2)))
+      (λ g. let e : d.0 ≡ place = omega (arith, h.1) in (inr (rw e at h.2)))
       (cases_lt d.0 place)
 
   pub greatest_below_more : (place a b : ℕ) → IsGreatest (IsOfPathBelow n c place measure) a
@@ -65,8 +62,7 @@ pub greatest_below_all : (n : Network) (c : Channel) (measure : List LinkId → 
 greatest_below_all n c measure {m} g = record {
   most = λ k h. g.most k (h.0, device_within n c h.0 h.1.1, h.1);
   reached =
-      ⊎_elim (λ (z : m ≡ 0). let r : (m ≡ 0) ⊎ IsOfPathOn n c measure m = inl z in r) (λ (h : IsOfPathBelow n c (length n.device) measure m). let r : (m ≡ 0)
-      ⊎ IsOfPathOn n c measure m = inr (h.0, h.2) in r) g.reached;
+      ⊎_elim (λ z. (inl z)) (λ h. (inr (h.0, h.2))) g.reached;
 }
 
 either : (n : Network) (measure : List LinkId → ℕ) (k : ℕ) (c : Channel) → IsOfPathOn n c measure k → IsOfPathOn n A measure k ⊎ IsOfPathOn n B measure k

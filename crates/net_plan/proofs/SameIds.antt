@@ -4,10 +4,10 @@ use Rattle.net_plan.specs.declared.ids.{DeviceId.DeviceId, LinkId.LinkId, VlId.V
 
 -- devices of one number are one
 pub same_device : (a b : DeviceId) → a.0 ≡ b.0 → a ≡ b
-same_device a b same = ap (λ (n : ℕ). let d : DeviceId = record { 0 = n } in d) same
+same_device a b same = rw same
 
 pub same_link : (a b : LinkId) → a.0 ≡ b.0 → a ≡ b
-same_link a b e = ap (λ (n : ℕ). record { 0 = n }) e
+same_link a b e = rw e
 
 pub self : (device : DeviceId) → (device.0 == device.0) ≡ true
 self device = eq-eqb device.0 device.0 refl
@@ -17,13 +17,13 @@ alike device other e = let mk : ℕ → DeviceId = λ n. record { 0 = n } in ap 
 
 -- the id of a device
 pub one_device : (device other : DeviceId) → (device.0 == other.0) ≡ true → other ≡ device
-one_device device other e = let same = eqb-true device.0 other.0 e in ap (λ (n : ℕ). let d : DeviceId = record { 0 = n } in d) (sym same)
+one_device device other e = rw (sym (eqb-true device.0 other.0 e))
 
 pub same_vl : (a b : VlId) → a.0 ≡ b.0 → a ≡ b
-same_vl a b same = ap (λ (n : ℕ). let v : VlId = record { 0 = n } in v) same
+same_vl a b same = rw same
 
 pub link_is : (link : LinkId) (n : ℕ) → link.0 ≡ n → link ≡ record { 0 = n }
-link_is link n e = ap (λ (k : ℕ). record { 0 = k }) e
+link_is link n e = rw e
 
 pub other_device : (d other : DeviceId) → (Some other ≡ Some d → ⊥) → (d.0 == other.0) ≡ false
 other_device d other not =
@@ -32,4 +32,4 @@ other_device d other not =
 
 -- the id of a link
 pub one_link : (a b : LinkId) → (a.0 == b.0) ≡ true → b ≡ a
-one_link a b e = ap (λ (n : ℕ). let x : LinkId = record { 0 = n } in x) (sym (eqb-true a.0 b.0 e))
+one_link a b e = rw (sym (eqb-true a.0 b.0 e))

@@ -2,7 +2,7 @@
 use Rattle.net_plan.specs.{Paths.{IsPath, IsTree, IsUplink}, declared.{ids.DeviceId.DeviceId, network.Network.Network, tables.VirtualLink.VirtualLink}}
 use Rattle.{net_plan.specs.{Places.{IsSwitchOf, link_at}, declared.{event.Event.Event, ids.LinkId.LinkId}}, std.proofs.lemmas.Option.slice_get_within}
 use Rattle.{net_plan.specs.declared.{event.What.What, tables.{Link.Link, Way.Way}}, std.specs.{Option.option_map_or, Prelude.IsSomeAnd}}
-use Rattle.std.proofs.Common.{◌++◌, ◌<◌, ◌==◌, ◌∙◌, ◌∷◌, ◌≡◌, ◌⊎◌, List, None, Option, Some, [], ap, false, inl, inr, length, refl, subst, sym, ℕ}
+use Rattle.std.proofs.Common.{◌++◌, ◌<◌, ◌==◌, ◌∷◌, ◌≡◌, ◌⊎◌, List, None, Option, Some, [], false, inl, inr, length, refl, ℕ}
 use Rattle.tte_units.{proofs.general_lemmas.Options.{closed, one as same_some, opened}, specs.declared.frames.channel.Channel.Channel}
 use Rattle.net_plan.specs.declared.event.What.TheVariants as events
 
@@ -30,14 +30,15 @@ pub no_path : {network : Network} (channel : Channel) (device : DeviceId) (link 
     → (links : List LinkId) → IsPath network channel device links → ⊥
 no_path channel device link l tree at turns up [] path = tree.root channel device link path up
 no_path {network} channel device link l tree at turns up (k ∷ ks) path =
-    let first = opened (λ (x : Link). (x.child ≡ device) × IsSwitchOf network channel x.parent × IsPath network channel x.parent ks) (link_at network k) path in
-    let here : IsUplink network channel device k = closed (λ (x : Link). (x.child ≡ device) × IsSwitchOf network channel x.parent) (link_at network k) first.0
+    let first = opened (λ x. (x.child ≡ device) × IsSwitchOf network channel x.parent × IsPath network channel x.parent
+    ks) (link_at network k) path in
+    let here = closed (λ x. (x.child ≡ device) × IsSwitchOf network channel x.parent) (link_at network k) first.0
     first.1 (first.2.0, first.2.1) in
     let one = tree.one_uplink channel device k link here up in
-    let same : first.0 ≡ l = same_some (link_at network k) first.0 l first.1 (subst (λ m. link_at network m ≡ Some l) (sym one) at) in
-    let parent : first.0.parent ≡ device = ap (λ (x : Link). x.parent) same ∙ turns in
+    let same = same_some (link_at network k) first.0 l first.1 (rw one at) in
+    let parent : first.0.parent ≡ device = rw same turns in
     no_path channel device link l tree at turns up ks
-    (subst (λ d. IsPath network channel d ks) parent first.2.2)
+    (rw parent at first.2.2)
 
 pub none_told : (before behind : List Event) (event : Event) → [] ≡ before ++ event ∷ behind → ⊥
 none_told [] behind event e = cc

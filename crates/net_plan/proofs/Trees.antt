@@ -1,7 +1,7 @@
 -- Paths in the trees of a network.
 use Rattle.{net_plan.specs.Paths.{IsPath, IsTree, IsUplink, PathsAreUnique}, tte_units.specs.declared.frames.channel.Channel.Channel}
 use Rattle.net_plan.specs.{Places.{IsSwitchOf, link_at}, declared.{ids.{DeviceId.DeviceId, LinkId.LinkId}, network.Network.Network, tables.Link.Link}}
-use Rattle.{std.proofs.Common.{◌∙◌, ◌∷◌, ◌≡◌, List, Some, [], ap, arith, refl, sym}, tte_units.proofs.general_lemmas.Options.{at_known, closed, opened}}
+use Rattle.{std.proofs.Common.{◌∷◌, ◌≡◌, List, Some, [], arith, refl, sym}, tte_units.proofs.general_lemmas.Options.{at_known, closed, opened}}
 
 -- the first link of a path is an uplink
 pub uplink_of_path : (n : Network) (c : Channel) (d : DeviceId) (link : LinkId) (links : List LinkId) → IsPath n c d (link ∷ links) → IsUplink n c d link
@@ -28,4 +28,4 @@ paths_are_unique n c d [] (m ∷ ms) tree h g = absurd (tree.root c d m h (uplin
 paths_are_unique n c d (l ∷ ls) others tree h g =
     let k = opened (λ x. (x.child ≡ d) × IsSwitchOf n c x.parent × IsPath n c x.parent ls) (link_at n l) h in
     let f = followed c d l k.0 others tree (uplink_of_path n c d l ls h) k.1 g in
-    ap (λ (xs : List LinkId). l ∷ xs) (paths_are_unique n c k.0.parent ls f.0 tree k.2.2 f.2) ∙ sym f.1
+    rw (paths_are_unique n c k.0.parent ls f.0 tree k.2.2 f.2) (sym f.1)

@@ -1,4 +1,4 @@
-use Rattle.{net_plan.{proofs.Greatest.greatest_from_path, specs.{Bounds.jitter_on, declared.ids.LinkId.LinkId}}, std.proofs.Common.{length, rules}}
+use Rattle.{net_plan.{proofs.Greatest.greatest_from_path, specs.{Bounds.jitter_on}}, std.proofs.Common.{length, rules}}
 use Rattle.net_plan.proofs.network.Network.extent_from.Goals as goal
 
 pub returns-then-is_device_of-clause-jitter : goal.returns-then-is_device_of-clause-jitter
@@ -9,6 +9,6 @@ returns-then-is_device_of-clause-jitter c =
 
 pub returns-then-is_device_of-clause-links : goal.returns-then-is_device_of-clause-links
 returns-then-is_device_of-clause-links c =
-    greatest_from_path c.args.channel c.args.device (length {A = LinkId}) c.path.result c.extent.result.links
+    greatest_from_path c.args.channel c.args.device (length) c.path.result c.extent.result.links
     c.requires.tree (search rules)
     c.path.ensures.leads c.extent.ensures.links

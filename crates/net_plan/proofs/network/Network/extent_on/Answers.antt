@@ -1,5 +1,5 @@
-use Rattle.{net_plan.proofs.Greatest.{IsOfPathBelow, greatest_below_all, greatest_below_more}, std.proofs.Common.{◌+◌, ◌≡◌, ap, arith, length, subst, sym}}
-use Rattle.net_plan.specs.{Bounds.{IsGreatest, jitter_on}, declared.{ids.LinkId.LinkId, tables.Device.Device}}
+use Rattle.{net_plan.proofs.Greatest.{IsOfPathBelow, greatest_below_all, greatest_below_more}, std.proofs.Common.{◌+◌, ◌≡◌, arith, length, subst, sym}}
+use Rattle.net_plan.specs.{Bounds.{IsGreatest, jitter_on}}
 use Rattle.net_plan.proofs.network.Network.extent_on.Goals as goal
 
 pub loop-place-preserved : goal.loop-place-preserved
@@ -15,8 +15,8 @@ loop-place-preserved c =
           subst (IsGreatest (IsOfPathBelow n ch (at + 1) (jitter_on n))) (sym both.jitter)
           (greatest_below_more n ch (jitter_on n) at _ _ inv.jitter one.jitter);
       links =
-          subst (IsGreatest (IsOfPathBelow n ch (at + 1) (length {A = LinkId}))) (sym both.links)
-          (greatest_below_more n ch (length {A = LinkId}) at _ _ inv.links one.links);
+          subst (IsGreatest (IsOfPathBelow n ch (at + 1) (length))) (sym both.links)
+          (greatest_below_more n ch (length) at _ _ inv.links one.links);
       jitter_bound = omega (arith, both.jitter, inv.jitter_bound, one.jitter_bound);
       links_bound = omega (arith, both.links, inv.links_bound, one.links_bound);
     }
@@ -24,15 +24,17 @@ loop-place-preserved c =
 pub returns-clause-jitter : goal.returns-clause-jitter
 returns-clause-jitter c =
     let n = c.args.self.now in
-    let same : length c.as_slice-place-end.result.now ≡ length n.device = ap (λ xs. length {A = Device} xs) c.as_slice-place-end.ensures in
-    let all : c.loop-place.place ≡ length n.device = omega (arith, same, c.loop-place.auto.place-end, c.loop-place-test.false) in
+    let same : length c.as_slice-place-end.result.now ≡ length n.device = rw c.as_slice-place-end.ensures in
+    let all : c.loop-place.place ≡ length n.device = omega
+    (arith, c.loop-place.auto.place-end, c.loop-place-test.false) in
     greatest_below_all n c.args.channel (jitter_on n)
-    (subst (λ k. IsGreatest (IsOfPathBelow n c.args.channel k (jitter_on n)) c.loop-place.extent.jitter) all c.loop-place.invariant.jitter)
+    (rw all at c.loop-place.invariant.jitter)
 
 pub returns-clause-links : goal.returns-clause-links
 returns-clause-links c =
     let n = c.args.self.now in
-    let same : length c.as_slice-place-end.result.now ≡ length n.device = ap (λ xs. length {A = Device} xs) c.as_slice-place-end.ensures in
-    let all : c.loop-place.place ≡ length n.device = omega (arith, same, c.loop-place.auto.place-end, c.loop-place-test.false) in
-    greatest_below_all n c.args.channel (length {A = LinkId})
-    (subst (λ k. IsGreatest (IsOfPathBelow n c.args.channel k (length {A = LinkId})) c.loop-place.extent.links) all c.loop-place.invariant.links)
+    let same : length c.as_slice-place-end.result.now ≡ length n.device = rw c.as_slice-place-end.ensures in
+    let all : c.loop-place.place ≡ length n.device = omega
+    (arith, c.loop-place.auto.place-end, c.loop-place-test.false) in
+    greatest_below_all n c.args.channel (length)
+    (rw all at c.loop-place.invariant.links)

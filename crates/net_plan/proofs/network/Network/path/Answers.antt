@@ -1,6 +1,6 @@
-use Rattle.{net_plan.{proofs.Trees.{ended, followed}, specs.{Paths.{IsPath, IsUplink}, Places.{IsSwitchOf, link_at}}}, std.proofs.lemmas.Grind.common_steps}
-use Rattle.{net_plan.specs.declared.{ids.LinkId.{LinkId as LinkIdValue}, tables.Link.Link}, std.proofs.lemmas.Option.{slice_get-get_or, slice_get_within}}
-use Rattle.std.proofs.Common.{◌++◌, ◌∙◌, ◌∷◌, ◌≡◌, ◌≤◌, List, Some, [], ap, append-nil, append_assoc, arith, get_or, length, subst, sym}
+use Rattle.{net_plan.{proofs.Trees.{ended, followed}, specs.{Paths.{IsUplink}, Places.{IsSwitchOf, link_at}}}, std.proofs.lemmas.Grind.common_steps}
+use Rattle.{net_plan.specs.declared.{tables.Link.Link}, std.proofs.lemmas.Option.{slice_get-get_or, slice_get_within}}
+use Rattle.std.proofs.Common.{◌++◌, ◌∙◌, ◌∷◌, ◌≡◌, Some, [], append-nil, append_assoc, arith, get_or, subst, sym}
 use Rattle.tte_units.proofs.general_lemmas.Options.{opened}
 use Rattle.net_plan.proofs.network.Network.path.Goals as goal
 
@@ -15,16 +15,16 @@ loop-link-preserved c =
     let up = opened (λ (l : Link). (l.child ≡ at) × IsSwitchOf n ch l.parent) (link_at n link) leads in
     let found : link_at n link ≡ Some (get_or n.link link.0 c.index-as_slice-link.result) = slice_get-get_or n.link link.0 c.index-as_slice-link.result
     (slice_get_within n.link link.0 up.0 up.1) in
-    let known = subst (λ (xs : List Link). link_at n link ≡ Some (get_or xs link.0 c.index-as_slice-link.result)) (sym c.as_slice.ensures) found in
+    let known = subst (λ xs. link_at n link ≡ Some (get_or xs link.0 c.index-as_slice-link.result))
+    (sym c.as_slice.ensures) found in
     let f = followed {n = n} ch at link (get_or c.as_slice.result.now link.0 c.index-as_slice-link.result) inv.0
     c.requires.tree leads known inv.1 in
-    let joined : c.push.new.self ++ f.0 ≡ c.loop-link.path ++ inv.0 = ap (λ (p : List LinkIdValue). p ++ f.0) c.push.ensures
-    ∙ append_assoc c.loop-link.path (link ∷ []) f.0 ∙ ap (λ (r : List LinkIdValue). c.loop-link.path ++ r) (sym f.1) in (
+    let joined : c.push.new.self ++ f.0 ≡ c.loop-link.path ++ inv.0 = rw c.push.ensures
+    (append_assoc c.loop-link.path (link ∷ []) f.0 ∙ (rw (sym f.1))) in (
       f.0,
       f.2,
-      subst (λ p. length p ≤ 8) (sym joined) inv.2,
-      subst (λ p. IsPath n ch c.args.device p) (sym joined)
-          inv.3,
+      rw (sym joined) at inv.2,
+      rw (sym joined) at inv.3,
     )
 
 pub returns-clause-leads : goal.returns-clause-leads

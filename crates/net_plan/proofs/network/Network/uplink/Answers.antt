@@ -1,4 +1,4 @@
-use Rattle.std.proofs.{Common.{◌≡◌, MatchOption, rules, subst, tests}, lemmas.Iterator.{IsFirst-from_position, YieldsList-from_slice}}
+use Rattle.std.proofs.{Common.{◌≡◌, rules, subst, tests}, lemmas.Iterator.{IsFirst-from_position, YieldsList-from_slice}}
 use Rattle.net_plan.{proofs.Found.{IsFound, none_at, none_below, some_at}, specs.{Places.IsSwitchOf, declared.tables.Link.Link}}
 use Rattle.net_plan.proofs.network.Network.uplink.Goals as goal
 
@@ -8,8 +8,7 @@ returns-in_err-place-clause-none c =
     let Leads : Link → Type 0 = λ l. (l.child ≡ c.args.device) × IsSwitchOf c.args.self.now c.args.channel l.parent in
     let found = IsFirst-from_position _ _ c.position.result Leads (λ l. Leads l → ⊥) c.position.ensures.ran (YieldsList-from_slice xs cc)
     (λ x q k. search (rules, tests)) (λ x q k. search (rules, tests)) in
-    let absent = subst (IsFound Leads xs) c.in_err-place.was found in
-    rw c.from_residual.ensures (λ link h. none_at Leads xs link.0 absent h)
+    rw c.from_residual.ensures (λ link h. none_at Leads xs link.0 (subst (IsFound Leads xs) c.in_err-place.was found) h)
 
 pub returns-clause-first : goal.returns-clause-first
 returns-clause-first c =
