@@ -15,7 +15,7 @@ in_none y at = omega (arith, at.1)
 
 pub in_cases : {X : Type 0} (x y : X) (xs : List X) → Contains (x ∷ xs) y → (x ≡ y) ⊎ Contains xs y
 in_cases x y xs (zero, lt, e) = inl e
-in_cases x y xs (suc k, lt, e) = inr (k, omega (arith, lt), e)
+in_cases x y xs (suc k, lt, e) = inr (k, omega arith, e)
 
 -- what holds of each element holds of one
 pub all_at : {X : Type 0} (P : X → Type 0) (xs : List X) (x : X) → AllByRecursion P xs → Contains xs x → P x
@@ -53,7 +53,7 @@ Ordered (p ∷ ps) = AllByRecursion (λ q. p.reading ≤ℤ q.reading) ps × Ord
 
 all_above : (low : ℤ) (p : Point) (ps : List Point) → low ≤ℤ p.reading → AreInOrder (p ∷ ps) → AllByRecursion (λ q. low ≤ℤ q.reading) ps
 all_above low p [] le up = tt
-all_above low p (q ∷ qs) le up = (omega (arith, ints, le, up.0), all_above low q qs (omega (arith, ints, le, up.0)) up.1)
+all_above low p (q ∷ qs) le up = (omega (arith, ints, up.0), all_above low q qs (omega (arith, ints, up.0)) up.1)
 
 in_order_tail : (p : Point) (ps : List Point) → AreInOrder (p ∷ ps) → AreInOrder ps
 in_order_tail p [] up = tt
@@ -73,7 +73,7 @@ Ordered-beyond end [] up = tt
 Ordered-beyond end (p ∷ ps) up = grind (arith, cases_Bool, all-filter, (Ordered-beyond end ps up.1))
 
 pub all-beyond : (low end : ℤ) (ps : List Point) → AllByRecursion (λ q. low <ℤ q.reading) ps → AllByRecursion (λ q. low <ℤ q.reading) (beyond end ps)
-all-beyond low end ps all = all-filter (λ (q : Point). low <ℤ q.reading) (λ q. int_lt end q.reading) ps all
+all-beyond low end ps all = all-filter (λ q. low <ℤ q.reading) (λ q. int_lt end q.reading) ps all
 
 pub beyond-all : (end : ℤ) (ps : List Point) → AllByRecursion (λ q. end <ℤ q.reading) (beyond end ps)
 beyond-all end [] = tt

@@ -1,7 +1,7 @@
 -- The first point of each master, and the members that they make.
 use Rattle.compression.{proofs.Elements.{in_cases, in_head, in_none, in_tail}, specs.Clusters.{Cluster, Point, firsts, has_master, members_of, with_first}}
 use Rattle.{compression.specs.Role.has_point_of, std.{proofs.lemmas.{List.Folds.list_any-append, Nat.pow_pos}, specs.{Int.bit_at, List.AllByRecursion}}}
-use Rattle.std.proofs.Common.{◌++◌, ◌^◌, ◌∙◌, ◌∷◌, ◌≡◌, ◌≤◌, Bool, List, [], ap, arith, cond, false, inl, inr, max, not, refl, subst, sym, true, ℕ}
+use Rattle.std.proofs.Common.{◌++◌, ◌^◌, ◌∙◌, ◌∷◌, ◌≡◌, ◌≤◌, Bool, List, [], arith, cond, false, inl, inr, max, not, refl, sym, true, ℕ}
 use Rattle.std.{proofs.lemmas.Bool.{cases_Bool, cases_eq, eq-eqb, ne_eqb, or_left, or_parts, or_right}, specs.Prelude.{◌==◌, Contains, bit_and, bit_or, fold}}
 use Rattle.std.proofs.lemmas.{List.{Sums.fold-append, append-nil, append_assoc}, Nat.Bits.{and_pow, bit_at-pow_other, bit_at-pow_same, bit_at-zero, bit_at_or}}
 
@@ -38,14 +38,14 @@ counts acc (x ∷ xs) =
           let rest = counts acc xs in
           record {
             more = rest.more;
-            is = ap (λ (a : List Point). fold with_first a xs) (with_first-old acc x old) ∙ rest.is;
+            is = rw (with_first-old acc x old) rest.is;
             each = also_in x acc acc xs (λ m none. none) rest.more rest.each;
           }
       | inr new ↦
           let rest = counts (acc ++ x ∷ []) xs in
           record {
             more = x ∷ rest.more;
-            is = ap (λ (a : List Point). fold with_first a xs) (with_first-new acc x new) ∙ rest.is ∙ append_assoc acc (x ∷ []) rest.more;
+            is = rw (with_first-new acc x new) (rest.is ∙ append_assoc acc (x ∷ []) rest.more);
             each = ((in_head x xs, new), also_in x acc (acc ++ x ∷ []) xs (λ m none. fewer_masters acc x m none) rest.more rest.each);
           }
     ]
@@ -67,8 +67,7 @@ has_fold acc (x ∷ xs) y at =
     elim (in_cases x y xs at) [
       | inl e ↦
           let rest = counts (with_first acc x) xs in
-          subst (λ (q : Point). has_master (fold with_first acc (x ∷ xs)) q.master ≡ true) e
-          (ap (λ a. has_master a x.master) rest.is ∙ has_more (with_first acc x) rest.more x.master (has_with_first acc x))
+          rw (sym e) (rw rest.is (has_more (with_first acc x) rest.more x.master (has_with_first acc x)))
       | inr here ↦ has_fold (with_first acc x) xs y here
     ]
 

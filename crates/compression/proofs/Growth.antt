@@ -1,7 +1,7 @@
 -- What one more point does to the clusters of a list.
-use Rattle.std.proofs.Common.{◌*ℤ◌, ◌++◌, ◌+ℤ◌, ◌<ℤ◌, ◌<◌, ◌^◌, ◌∙◌, ◌∷◌, ◌≡◌, ◌≢◌, ◌≤ℤ◌, ◌≤◌, List, [], ap, arith, false, length, map, pos, refl, subst, sym}
+use Rattle.std.proofs.Common.{◌*ℤ◌, ◌++◌, ◌+ℤ◌, ◌<ℤ◌, ◌<◌, ◌^◌, ◌∙◌, ◌∷◌, ◌≡◌, ◌≢◌, ◌≤ℤ◌, ◌≤◌, List, [], ap, arith, false, length, map, pos, refl, sym}
 use Rattle.std.{proofs.{Common.{true, ℕ, ℤ}, lemmas.List.{length-append, map-append}}, specs.List.AllByRecursion}
-use Rattle.std.{proofs.lemmas.{Bool.{cases_Bool, cases_eq, cases_lt, le-leb, lt-leb}, Int.ints}, specs.Prelude.{bit_or, if◌then◌else◌, int_lt, nat_le}}
+use Rattle.std.{proofs.lemmas.{Bool.{cases_Bool, cases_eq, cases_lt, le-leb, lt-leb}, Int.ints}, specs.Prelude.{bit_or}}
 use Rattle.compression.proofs.{Firsts.{firsts-push, firsts-start, has_point_of-is, members_of-push, with_first-new, with_first-old}, Held.int_lt-false}
 use Rattle.compression.proofs.Held.{beyond-later, beyond-push_in, beyond-push_out, held-push_beyond, held-push_in, held-push_other, held-same, held-start}
 use Rattle.compression.specs.Clusters.{AreClusters, Cluster, Point, beyond, cluster_of, end_of, firsts, has_master, members_of, of_cycle_within, with_first}
@@ -26,7 +26,7 @@ end_of-two ow o ps many = rw (le-leb 2 (length (counted (window_end ow o) o ps))
 
 -- a point with which the first window stays as it was leaves the end
 pub end_of-same : (ow : ℤ) (o : Point) (ps qs : List Point) → counted (window_end ow o) o qs ≡ counted (window_end ow o) o ps → end_of ow o qs ≡ end_of ow o ps
-end_of-same ow o ps qs e = ap (λ (n : ℕ). if nat_le 2 n then extended_end ow o else window_end ow o) (ap length e)
+end_of-same ow o ps qs e = rw (ap length e)
 
 -- the cluster of an opener by its end and what counts
 abbrev pub cluster_by : Point → ℤ → List Point → Cluster
@@ -79,7 +79,7 @@ length-with_first xs p = grind (arith, cases_Bool, with_first-old, with_first-ne
 -- where the first window has one master, the cluster has no more
 one_window : (ow : ℤ) (o : Point) (ps : List Point) → length (counted (window_end ow o) o ps) < 2 → counted (end_of ow o ps) o ps ≡ counted (window_end ow o) o
     ps
-one_window ow o ps few = ap (λ e. counted e o ps) (end_of-one ow o ps few)
+one_window ow o ps few = rw (end_of-one ow o ps few)
 
 -- the end with the point of a master that has none there
 end_of-joined : {ow : ℤ} {o : Point} {ps : List Point} {p : Point} → Comes ow o ps p
@@ -117,8 +117,8 @@ cluster_with o end points members = record { opened = o.reading; end = end; cycl
 cluster_by-push : (o : Point) (end : ℤ) (counts : List Point) (p : Point) → cluster_by o end (counts ++ p ∷ []) ≡ cluster_with o end
     (map (λ q. q.reading) counts ++ p.reading ∷ []) (bit_or (members_of counts) (2 ^ p.master))
 cluster_by-push o end counts p =
-    ap (λ points. cluster_with o end points (members_of (counts ++ p ∷ []))) (map-append (λ (q : Point). q.reading) counts (p ∷ []))
-    ∙ ap (λ (members : ℕ). cluster_with o end (map (λ q. q.reading) counts ++ p.reading ∷ []) members) (members_of-push counts p)
+    rw (map-append (λ q. q.reading) counts (p ∷ []))
+    (rw (members_of-push counts p))
 
 -- the cluster with a point that joins
 pub cluster_of-joined : {ow : ℤ} {o : Point} {ps : List Point} {p : Point} → Comes ow o ps p
@@ -127,10 +127,11 @@ pub cluster_of-joined : {ow : ℤ} {o : Point} {ps : List Point} {p : Point} →
 cluster_of-joined {ow} {o} {ps} {p} comes new =
     let counts = counted (end_of ow o ps) o ps in
     let end = joined_end ow (cluster_of ow o ps) p.reading in
-    let fresh : has_master counts p.master ≡ false = sym (has_point_of-is (cluster_of ow o ps) counts p.master refl) ∙ new in
-    ap (λ e. cluster_by o e (counted e o (ps ++ p ∷ []))) (end_of-joined comes fresh)
-    ∙ ap (cluster_by o end) (counted-push ow o ps p comes end (joined_end-later ow o ps p.reading comes.some) ∙ with_first-new counts p fresh)
-    ∙ cluster_by-push o end counts p
+    let fresh = sym (has_point_of-is (cluster_of ow o ps) counts p.master refl) ∙ new in
+    rw (end_of-joined comes fresh)
+    (ap (cluster_by o end) (counted-push ow o ps p comes end (joined_end-later ow o ps p.reading comes.some) ∙
+    with_first-new counts p fresh)
+    ∙ cluster_by-push o end counts p)
 
 -- the cluster with a point that repeats
 pub cluster_of-repeat : {ow : ℤ} {o : Point} {ps : List Point} {p : Point} → Comes ow o ps p
@@ -138,9 +139,9 @@ pub cluster_of-repeat : {ow : ℤ} {o : Point} {ps : List Point} {p : Point} →
 cluster_of-repeat {ow} {o} {ps} {p} comes old =
     let counts = counted (end_of ow o ps) o ps in
     let end = end_of ow o ps in
-    let there : has_master counts p.master ≡ true = sym (has_point_of-is (cluster_of ow o ps) counts p.master refl) ∙ old in
-    ap (λ e. cluster_by o e (counted e o (ps ++ p ∷ []))) (end_of-repeat comes there)
-    ∙ ap (cluster_by o end) (counted-push ow o ps p comes end (omega (arith, ints)) ∙ with_first-old counts p there)
+    let there = sym (has_point_of-is (cluster_of ow o ps) counts p.master refl) ∙ old in
+    rw (end_of-repeat comes there)
+    (ap (cluster_by o end) (counted-push ow o ps p comes end (omega (arith, ints)) ∙ with_first-old counts p there))
 
 alone : (p : Point) (to : ℤ) → p.reading ≤ℤ to → counted to p (p ∷ []) ≡ p ∷ []
 alone p to within = ap firsts (held-start p to [] within)
@@ -152,9 +153,8 @@ cluster_of-alone ow p some = grind (arith, ints, length, alone, end_of-one)
 -- the first point counts in the first window
 pub window-starts : (ow : ℤ) (o : Point) (ps : List Point) → pos 0 ≤ℤ ow → (more : List Point) × (counted (window_end ow o) o (o ∷ ps) ≡ o ∷ more)
 window-starts ow o ps some =
-    let held = held-start o (window_end ow o) ps (omega (arith, ints)) in
     let start = firsts-start o (of_cycle_within o.cycle o.reading (window_end ow o) ps) in
-    (start.0, ap firsts held ∙ start.1)
+    (start.0, ap firsts (held-start o (window_end ow o) ps (omega (arith, ints))) ∙ start.1)
 
 -- the same, of a point that may be of another cycle
 abbrev pub Comes' : ℤ → Point → List Point → Point → Type 0
@@ -171,11 +171,9 @@ AreClusters-opened ow [] [] p some are past = (sym (cluster_of-alone ow p some),
 AreClusters-opened ow [] (c ∷ cs) p some are past = absurd are
 AreClusters-opened ow (o ∷ ps) [] p some are past = absurd are
 AreClusters-opened ow (o ∷ ps) (c ∷ cs) p some are past =
-    let beyond_end : end_of ow o (o ∷ ps) <ℤ p.reading = subst (λ (k : Cluster). k.end <ℤ p.reading) are.0 past.0 in
     let rest = AreClusters-opened ow (beyond c.end ps) cs p some are.1 past.1 in (
-      are.0 ∙ sym (cluster_of-beyond ow o (o ∷ ps) p some beyond_end),
-      subst (λ qs. AreClusters ow qs (cs ++ opening ow p ∷ []))
-          (sym (beyond-push_out c.end ps p past.0)) rest,
+      are.0 ∙ sym (cluster_of-beyond ow o (o ∷ ps) p some (rw are.0 at past.0)),
+      rw (beyond-push_out c.end ps p past.0) rest,
     )
 
 -- the cluster that is open, with a point that is not beyond it
@@ -193,12 +191,11 @@ cluster_of-grows : {ow : ℤ} (o : Point) (ps : List Point) {c d : Cluster} {p :
     → c ≡ cluster_of ow o (o ∷ ps) → beyond c.end ps ≡ [] → c.opened ≤ℤ p.reading → p.reading ≤ℤ c.end
     → Grows ow c d p → d ≡ cluster_of ow o ((o ∷ ps) ++ p ∷ [])
 cluster_of-grows {ow} o ps {d} {p} some is none low high grows =
-    let k = cluster_of ow o (o ∷ ps) in
     let least = end_of-least ow o (o ∷ ps) some in
-    let none' : beyond (end_of ow o (o ∷ ps)) ps ≡ [] = subst (λ (x : Cluster). beyond x.end ps ≡ []) is none in
-    let start : int_lt (end_of ow o (o ∷ ps)) o.reading ≡ false = int_lt-false (end_of ow o (o ∷ ps)) o.reading (omega (arith, ints, least, some)) in
-    let comes : Comes' ow o (o ∷ ps) p = grind (arith, start, none', window-starts) in
-    grows_whole o (o ∷ ps) comes (subst (λ x. Grows ow x d p) is grows)
+    let none' : beyond (end_of ow o (o ∷ ps)) ps ≡ [] = rw is at none in
+    let start = int_lt-false (end_of ow o (o ∷ ps)) o.reading (omega (arith, ints)) in
+    let comes : Comes' ow o (o ∷ ps) p = grind (arith, window-starts) in
+    grows_whole o (o ∷ ps) comes (rw is at grows)
 
 -- a point that is not beyond the last cluster
 pub AreClusters-within : {ow : ℤ} (ps : List Point) (cs : List Cluster) {c d : Cluster} {p : Point} → pos 0 ≤ℤ ow
@@ -209,9 +206,7 @@ AreClusters-within [] (k ∷ cs) some are past low high longer grows = absurd ar
 AreClusters-within (o ∷ ps) [] some are past low high longer grows =
     grind (arith, no_clusters, beyond-push_in, ints, beyond-later, cluster_of-grows)
 AreClusters-within {ow} (o ∷ ps) (k ∷ cs) {d} {p} some are past low high longer grows =
-    let beyond_end : end_of ow o (o ∷ ps) <ℤ p.reading = subst (λ (x : Cluster). x.end <ℤ p.reading) are.0 past.0 in
     let rest = AreClusters-within (beyond k.end ps) cs some are.1 past.1 low high longer grows in (
-      are.0 ∙ sym (cluster_of-beyond ow o (o ∷ ps) p some beyond_end),
-      subst (λ qs. AreClusters ow qs (cs ++ d ∷ []))
-          (sym (beyond-push_out k.end ps p past.0)) rest,
+      are.0 ∙ sym (cluster_of-beyond ow o (o ∷ ps) p some (rw are.0 at past.0)),
+      rw (beyond-push_out k.end ps p past.0) rest,
     )

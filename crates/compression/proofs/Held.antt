@@ -1,6 +1,6 @@
 -- The points that lie in an interval, as points are added.
 use Rattle.{compression.specs.Clusters.{Point, beyond, of_cycle_within}, std.proofs.lemmas.Bool.{and_from, and_left, and_right, cases_Bool, eq-eqb, ne_eqb}}
-use Rattle.std.proofs.{Common.{◌++◌, ◌<ℤ◌, ◌∙◌, ◌∷◌, ◌≡◌, ◌≢◌, ◌≤ℤ◌, Bool, List, [], ap, arith, cond, false, refl, true, ℕ, ℤ}, lemmas.Int.ints}
+use Rattle.std.proofs.{Common.{◌++◌, ◌<ℤ◌, ◌∙◌, ◌∷◌, ◌≡◌, ◌≢◌, ◌≤ℤ◌, Bool, List, [], arith, cond, false, refl, true, ℕ, ℤ}, lemmas.Int.ints}
 use Rattle.{std.proofs.lemmas.List.{Elements.filter-append, append-nil}, tte_units.proofs.general_lemmas.Integers.{int_le-from, int_lt-from, not_less}}
 use Rattle.std.specs.Prelude.{filter, int_le, int_lt}
 
@@ -12,10 +12,10 @@ int_lt-false a b h = grind (arith, ints)
 
 -- a filter of one more element that passes, and of one that does not
 filter-push_in : (test : Point → Bool) (ps : List Point) (p : Point) → test p ≡ true → filter test (ps ++ p ∷ []) ≡ filter test ps ++ p ∷ []
-filter-push_in test ps p e = filter-append test ps (p ∷ []) ∙ ap (λ (b : Bool). filter test ps ++ cond b (p ∷ []) []) e
+filter-push_in test ps p e = filter-append test ps (p ∷ []) ∙ (rw e)
 
 filter-push_out : (test : Point → Bool) (ps : List Point) (p : Point) → test p ≡ false → filter test (ps ++ p ∷ []) ≡ filter test ps
-filter-push_out test ps p e = filter-append test ps (p ∷ []) ∙ ap (λ (b : Bool). filter test ps ++ cond b (p ∷ []) []) e ∙ append-nil (filter test ps)
+filter-push_out test ps p e = filter-append test ps (p ∷ []) ∙ (rw e (append-nil (filter test ps)))
 
 module _ (cycle : ℕ) (from to : ℤ) (ps : List Point) (p : Point) where
   -- a point of the cycle in the interval
@@ -53,7 +53,7 @@ pub beyond-later : (end later : ℤ) (ps : List Point) → end ≤ℤ later → 
 beyond-later end later [] le none = refl
 beyond-later end later (q ∷ qs) le none =
     let parts = beyond-none end q qs none in
-    rw (int_lt-false later q.reading (omega (arith, ints, parts.0, le))) (beyond-later end later qs le parts.1)
+    rw (int_lt-false later q.reading (omega (arith, ints, parts.0))) (beyond-later end later qs le parts.1)
 
 -- where none lies beyond the first of two ends, the intervals up to them hold the same
 pub held-same : (cycle : ℕ) (from end later : ℤ) (ps : List Point) → end ≤ℤ later → beyond end ps ≡ [] → of_cycle_within cycle from later ps ≡ of_cycle_within
@@ -61,4 +61,9 @@ pub held-same : (cycle : ℕ) (from end later : ℤ) (ps : List Point) → end �
 held-same cycle from end later [] le none = refl
 held-same cycle from end later (q ∷ qs) le none =
     let parts = beyond-none end q qs none in
-    rw (int_le-from q.reading end parts.0, int_le-from q.reading later (omega (arith, ints, parts.0, le)), held-same cycle from end later qs le parts.1) refl
+    rw (
+      int_le-from q.reading end parts.0,
+      int_le-from q.reading later (omega (arith, ints, parts.0)),
+      held-same cycle
+          from end later qs le parts.1,
+    ) refl

@@ -1,7 +1,7 @@
 -- Where the middle of points lies.
 use Rattle.{compression.proofs.Middles.{middle_of-inner, middle_of-within}, std.proofs.lemmas.{Int.ints, List.Elements.{All-head, All-tail}}}
-use Rattle.compression.specs.{Ascent.{IsAscending, offset_at}, Middle.{AllButOne, LiesWithin, MiddleAmongOthers, MiddleFromFirstToLast, middle_of, relative}}
-use Rattle.std.{proofs.Common.{◌+ℤ◌, ◌-ℤ◌, ◌-◌, ◌∙◌, ◌∷◌, ◌≡◌, List, [], ap, arith, get_or, inl, inr, length, pos, subst, suc, sym, ℕ, ℤ}, specs.Prelude.All}
+use Rattle.compression.specs.{Ascent.{IsAscending}, Middle.{AllButOne, LiesWithin, MiddleAmongOthers, MiddleFromFirstToLast, middle_of, relative}}
+use Rattle.std.{proofs.Common.{◌+ℤ◌, ◌-ℤ◌, ◌-◌, ◌∙◌, ◌∷◌, ◌≡◌, List, [], arith, get_or, inl, inr, length, pos, suc, sym, ℤ}, specs.Prelude.All}
 use Rattle.tte_units.{proofs.Means.mean_of-floor, specs.Mean.{IsMean, mean_of}}
 
 -- the second of three or more
@@ -34,14 +34,13 @@ middle_among_others [] low high many up all = absurd (omega arith)
 middle_among_others (a ∷ []) low high many up all = absurd (omega arith)
 middle_among_others (a ∷ b ∷ []) low high many up all = absurd (omega arith)
 middle_among_others (a ∷ b ∷ c ∷ more) low high many up all =
-    let ps : List ℤ = a ∷ b ∷ c ∷ more in
-    let last : ℕ = suc (suc (length more)) in
+    let ps = a ∷ b ∷ c ∷ more in
+    let last = suc (suc (length more)) in
     let at : last - 1 ≡ suc (length more) = omega arith in
-    let inner : mean_of (offset_at ps 1) (offset_at ps (last - 1)) ≡ middle_of (relative ps) = middle_of-inner ps last (omega arith) (omega arith) in
+    let inner = middle_of-inner ps last (omega arith) (omega arith) in
     let d = get_or ps (suc (length more)) (pos 0) in
-    let is : mean_of (b -ℤ a) (d -ℤ a) ≡ middle_of (relative ps) = sym (ap (λ n. mean_of (b -ℤ a) (offset_at ps n)) at) ∙ inner in
-    subst (λ m. LiesWithin low high (a +ℤ m)) is
-    (mean_within low high a b d (mean_of-floor (b -ℤ a) (d -ℤ a)) (second low high a b c more up all)
+    let is : mean_of (b -ℤ a) (d -ℤ a) ≡ middle_of (relative ps) = sym (rw at) ∙ inner in
+    rw is at (mean_within low high a b d (mean_of-floor (b -ℤ a) (d -ℤ a)) (second low high a b c more up all)
     (last_but low high a b c more up all))
 
 pub middle_from_first_to_last : MiddleFromFirstToLast

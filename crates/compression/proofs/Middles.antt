@@ -1,7 +1,7 @@
 -- What the middle of a list of points is by their places.
 use Rattle.compression.{proofs.Ascents.offset_at-within, specs.{Ascent.{IsAscending, offset_at, spread}, Middle.{last_but_one, middle_of, relative}}}
-use Rattle.std.proofs.Common.{◌+◌, ◌-ℤ◌, ◌-◌, ◌<◌, ◌∙◌, ◌∷◌, ◌≡◌, ◌≢◌, ◌≤ℤ◌, ◌≤◌, List, [], ap, arith, get_or, inl, inr, length, map, pos, refl, subst, suc}
-use Rattle.{std.proofs.{Common.{sym, ℕ, ℤ}, lemmas.{Bool.cases_lt, Int.ints}}, tte_units.{proofs.Means.mean_of-floor, specs.Mean.{IsMean, mean_of}}}
+use Rattle.std.proofs.Common.{◌+◌, ◌-ℤ◌, ◌-◌, ◌<◌, ◌∷◌, ◌≡◌, ◌≢◌, ◌≤ℤ◌, ◌≤◌, List, [], ap, arith, get_or, inl, inr, length, map, pos, refl, subst, suc}
+use Rattle.{std.proofs.{Common.{ℕ, ℤ}, lemmas.{Bool.cases_lt, Int.ints}}, tte_units.{proofs.Means.mean_of-floor, specs.Mean.{IsMean, mean_of}}}
 
 only_mean : {s m : ℤ} → IsMean s s m → m ≡ s
 only_mean h = omega (arith, ints, h.least, h.most)
@@ -15,10 +15,10 @@ pub middle_of-ends : (ps : List ℤ) (last : ℕ) → length ps ≡ last + 1 →
 middle_of-ends [] last len few = absurd (omega arith)
 middle_of-ends (a ∷ []) last len few =
     let e : last ≡ 0 = omega arith in
-    subst (λ n. mean_of (a -ℤ a) (offset_at (a ∷ []) n) ≡ a -ℤ a) (sym e) (mean_of-same (a -ℤ a))
+    rw e (mean_of-same (a -ℤ a))
 middle_of-ends (a ∷ b ∷ []) last len few =
     let e : last ≡ 1 = omega arith in
-    subst (λ n. mean_of (a -ℤ a) (offset_at (a ∷ b ∷ []) n) ≡ mean_of (a -ℤ a) (b -ℤ a)) (sym e) refl
+    rw e refl
 middle_of-ends (a ∷ b ∷ c ∷ more) last len few = absurd (omega arith)
 
 last_but_one-at : (p e f : ℤ) (more : List ℤ) → get_or (e ∷ f ∷ more) (length more) (pos 0) -ℤ p ≡ last_but_one (e -ℤ p) (f -ℤ p) (map (λ q. q -ℤ p) more)
@@ -32,16 +32,16 @@ middle_of-inner (a ∷ []) last len many = absurd (omega arith)
 middle_of-inner (a ∷ b ∷ []) last len many = absurd (omega arith)
 middle_of-inner (a ∷ b ∷ c ∷ []) last len many =
     let e : last - 1 ≡ 1 = omega arith in
-    subst (λ n. mean_of (b -ℤ a) (offset_at (a ∷ b ∷ c ∷ []) n) ≡ b -ℤ a) (sym e) (mean_of-same (b -ℤ a))
+    rw e (mean_of-same (b -ℤ a))
 middle_of-inner (a ∷ b ∷ c ∷ d ∷ []) last len many =
     let e : last - 1 ≡ 2 = omega arith in
-    ap (λ n. mean_of (b -ℤ a) (offset_at (a ∷ b ∷ c ∷ d ∷ []) n)) e
+    rw e
 middle_of-inner (a ∷ b ∷ c ∷ d ∷ e ∷ []) last len many =
     let at : last - 1 ≡ 3 = omega arith in
-    ap (λ n. mean_of (b -ℤ a) (offset_at (a ∷ b ∷ c ∷ d ∷ e ∷ []) n)) at
+    rw at
 middle_of-inner (a ∷ b ∷ c ∷ d ∷ e ∷ f ∷ more) last len many =
     let at : last - 1 ≡ suc (suc (suc (suc (length more)))) = omega arith in
-    ap (λ n. mean_of (b -ℤ a) (offset_at (a ∷ b ∷ c ∷ d ∷ e ∷ f ∷ more) n)) at ∙ ap (mean_of (b -ℤ a)) (last_but_one-at a e f more)
+    rw at (ap (mean_of (b -ℤ a)) (last_but_one-at a e f more))
 
 -- a list that is not empty has a length of its last place and one more
 pub length-some : {X : Type 0} (xs : List X) → xs ≢ [] → length xs ≡ (length xs - 1) + 1
@@ -63,7 +63,7 @@ mean_of-within ps i j up inside within =
 pub middle_of-within : (ps : List ℤ) → ps ≢ [] → IsAscending ps → (pos 0 ≤ℤ middle_of (relative ps)) × (middle_of (relative ps) ≤ℤ spread ps)
 middle_of-within ps some up =
     let last = length ps - 1 in
-    let len : length ps ≡ (length ps - 1) + 1 = length-some ps some in
+    let len = length-some ps some in
     let Within : ℤ → Type 0 = λ m. (pos 0 ≤ℤ m) × (m ≤ℤ spread ps) in
     elim (cases_lt last 2) [
       | inl few ↦ subst Within (middle_of-ends ps last len few) (mean_of-within ps 0 last up (omega arith) (omega arith))

@@ -41,10 +41,8 @@ left_after : {masters : List ℕ} (acc xs : List Point) → Left masters acc
 left_after acc [] l all = l
 left_after {masters} acc (x ∷ xs) l all =
     elim (cases_Bool (has_master acc x.master)) [
-      | inl old ↦ subst (λ (a : List Point). Left masters (fold with_first a xs)) (sym (with_first-old acc x old))
-          (left_after acc xs l all.1)
-      | inr new ↦ subst (λ (a : List Point). Left masters (fold with_first a xs)) (sym (with_first-new acc x new))
-          (left_after (acc ++ x ∷ []) xs (one_more new) all.1)
+      | inl old ↦ rw (with_first-old acc x old) (left_after acc xs l all.1)
+      | inr new ↦ rw (with_first-new acc x new) (left_after (acc ++ x ∷ []) xs (one_more new) all.1)
     ]
   where
     one_more : has_master acc x.master ≡ false → Left masters (acc ++ x ∷ [])
@@ -66,7 +64,7 @@ few_count masters xs all m at none =
   where
     some_left : (rest : List ℕ) → Contains rest m → length (firsts xs) + length rest ≡ length masters → length (firsts xs) < length masters
     some_left [] here total = absurd (in_none m here)
-    some_left (r ∷ rs) here total = omega (arith, total)
+    some_left (r ∷ rs) here total = omega arith
 
 room : (ow : ℤ) (ps : List Point) (cs : List Cluster) (masters : List ℕ) → AreClusters ow ps cs → AllByRecursion (λ p. Contains masters p.master) ps
     → (c : Cluster) → Contains cs c → (m : ℕ) → Contains masters m → has_point_of c m ≡ false → length c.points < length masters
@@ -76,21 +74,19 @@ room ow (o ∷ ps) [] masters are all c at m in_m free = absurd are
 room ow (o ∷ ps) (k ∷ ks) masters are all c at m in_m free =
     elim (in_cases k c ks at) [
       | inl e ↦
-          let L : List Point = o ∷ ps in
-          let counts = counted (end_of ow o L) o L in
-          let is : c ≡ cluster_of ow o L = sym e ∙ are.0 in
-          let free' : has_point_of (cluster_of ow o L) m ≡ false = subst (λ x. has_point_of x m ≡ false) is free in
-          let none : has_master counts m ≡ false = sym (has_point_of-is (cluster_of ow o L) counts m refl) ∙ free' in
-          let held = all-filter (λ (p : Point). Contains masters p.master)
+          let L = o ∷ ps in
+          let is = sym e ∙ are.0 in
+          let none = sym (has_point_of-is (cluster_of ow o L) (counted (end_of ow o L) o L) m refl) ∙ (rw is at free) in
+          let held = all-filter (λ p. Contains masters p.master)
           (λ q. q.cycle == o.cycle && (int_le o.reading q.reading && int_le q.reading (end_of ow o L))) L all in
           let few = few_count masters (of_cycle_within o.cycle o.reading (end_of ow o L) L) held m in_m none in
-          subst (λ (x : Cluster). length x.points < length masters) (sym is) (rw length-map few)
+          rw is (rw length-map few)
       | inr here ↦ room ow (beyond k.end ps) ks masters are.1 (rest k.end) c here m in_m free
     ]
   where
     rest : (end : ℤ) → AllByRecursion (λ p. Contains masters p.master) (beyond end ps)
-    rest end = all-filter (λ (p : Point). Contains masters p.master) _ ps all.1
+    rest end = all-filter (λ p. Contains masters p.master) _ ps all.1
 
 pub room_for_each_master : RoomForEachMaster
 room_for_each_master ow ps cs masters are all c at m in_m free =
-    room ow ps cs masters are (recursion_from_All (λ (p : Point). Contains masters p.master) ps all) c at m in_m free
+    room ow ps cs masters are (recursion_from_All (λ p. Contains masters p.master) ps all) c at m in_m free

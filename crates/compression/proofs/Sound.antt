@@ -4,7 +4,7 @@ use Rattle.std.proofs.{Common.{refl, subst, sym, ℕ, ℤ}, lemmas.{Bool.cases_B
 use Rattle.std.specs.{List.{AllByRecursion, last_or}, Prelude.{All, int_lt}}
 use Rattle.tte_units.specs.Reading.{greatest_reading}
 use Rattle.compression.{proofs.Ascents.IsAscending-push, specs.{Ascent.{MayFollow, last_from}, Emission.emission, Row.{IsCollection, IsRow, IsSound}}}
-use Rattle.compression.{proofs.Rows.{MayFollow-later, last_or-none, last_split, opened-before, row-push, row-replace, row-room, row_last}, specs.Role.open_at}
+use Rattle.compression.{proofs.Rows.{MayFollow-later, last_or-none, last_split, row-push, row-replace, row-room, row_last}, specs.Role.open_at}
 use Rattle.compression.specs.{Clusters.{Cluster, Point}, Collecting.{Collecting, emissions, last_joined, with_opened}, Collection.{joined, joined_end, opening}}
 
 none_is_some : (c : Cluster) → Some c ≡ None → ⊥
@@ -22,7 +22,7 @@ all_ended {v} reading sound order none =
   where
     all_before : (o : ℤ) (ks : List Cluster) → o ≤ℤ reading → AllByRecursion (λ k. k.end <ℤ o) ks → AllByRecursion (λ k. k.end <ℤ reading) ks
     all_before o [] le all = tt
-    all_before o (k ∷ ks) le all = (omega (arith, ints, le, all.0), all_before o ks le all.1)
+    all_before o (k ∷ ks) le all = (omega (arith, ints, all.0), all_before o ks le all.1)
 
     all_push : (ks : List Cluster) (c : Cluster) → AllByRecursion (λ k. k.end <ℤ reading) ks → c.end <ℤ reading
         → AllByRecursion (λ k. k.end <ℤ reading) (ks ++ c ∷ [])
@@ -36,10 +36,8 @@ all_ended {v} reading sound order none =
           | inl ended ↦
               let split = last_split v.waiting c l in
               let last = row_last v.ow v.earliest split.0 c (subst (IsRow v.ow v.earliest) split.1 sound.row) in
-              let opened = opened-before v.earliest last.collection last.may in
-              let past : c.end <ℤ reading = grind (arith, ints, ended) in
               subst (AllByRecursion (λ k. k.end <ℤ reading)) (sym split.1)
-              (all_push split.0 c (all_before c.opened split.0 (omega (arith, ints, opened, order)) last.before) past)
+              (all_push split.0 c (all_before c.opened split.0 (omega (arith, ints)) last.before) (grind (arith, ints)))
           | inr here ↦ absurd (none_is_some c (rw (l, here) at none))
         ]
 
@@ -58,10 +56,10 @@ IsSound-opened {v} p sound order high none room =
       some = sound.some;
       short = sound.short;
       small = sound.small;
-      low = omega (arith, ints, order, sound.low);
+      low = omega (arith, ints, sound.low);
       row = row-push v.ow v.earliest p.reading v.waiting sound.row (all_ended p.reading sound order none) col
           (omega (arith, ints));
-      few = omega (arith, room, length-push v.waiting (opening v.ow p));
+      few = omega (arith, length-push v.waiting (opening v.ow p));
     }
 
 last_from-push : (p : ℤ) (ps : List ℤ) (q : ℤ) → last_from p (ps ++ q ∷ []) ≡ q
@@ -94,7 +92,7 @@ pub last_joined-split : (ow : ℤ) (p : Point) (front : List Cluster) (c : Clust
     ∷ []
 last_joined-split ow p [] c = refl
 last_joined-split ow p (k ∷ []) c = refl
-last_joined-split ow p (k ∷ m ∷ ms) c = ap (λ (ks : List Cluster). k ∷ ks) (last_joined-split ow p (m ∷ ms) c)
+last_joined-split ow p (k ∷ m ∷ ms) c = rw (last_joined-split ow p (m ∷ ms) c)
 
 -- a collector whose last collection is joined
 pub IsSound-joined : {v : Collecting} (front : List Cluster) (c : Cluster) (p : Point) → IsSound v
@@ -110,7 +108,7 @@ IsSound-joined {v} front c p sound order split here =
       some = sound.some;
       short = sound.short;
       small = sound.small;
-      low = omega (arith, ints, order, sound.low);
+      low = omega (arith, ints, sound.low);
       row = row-replace v.ow v.earliest p.reading front c row refl col follows;
       few = omega (arith, sound.few, ap length split, length-push front c, length-push front (joined v.ow c p.reading p.master));
     }
@@ -126,4 +124,4 @@ pub room_to_open : {v : Collecting} (reading : ℤ) → IsSound v → v.earliest
 room_to_open {v} reading sound order due none =
     row-room v.ow v.calc v.earliest reading v.waiting (omega (arith, ints, sound.some, sound.short)) sound.short sound.row
     (all_ended reading sound order none)
-    (emissions_due v.ow v.calc reading v.waiting (recursion_from_All (λ (at : ℤ). (reading -ℤ v.ow) <ℤ at) (emissions v) due))
+    (emissions_due v.ow v.calc reading v.waiting (recursion_from_All (λ at. (reading -ℤ v.ow) <ℤ at) (emissions v) due))

@@ -1,5 +1,5 @@
 -- How the calls of a collector keep where it stands.
-use Rattle.std.proofs.Common.{◌++◌, ◌<ℤ◌, ◌∙◌, ◌∷◌, ◌≡◌, ◌≢◌, ◌≤ℤ◌, ◌⊎◌, List, None, [], ap, arith, false, inl, inr, refl, subst, sym, true, ℤ}
+use Rattle.std.proofs.Common.{◌++◌, ◌<ℤ◌, ◌∙◌, ◌∷◌, ◌≡◌, ◌≢◌, ◌≤ℤ◌, ◌⊎◌, List, None, [], arith, false, inl, inr, refl, subst, sym, true, ℤ}
 use Rattle.std.{proofs.lemmas.{Int.ints, List.{append_assoc, Elements.{All-from_recursion, recursion_from_All}}}, specs.List.AllByRecursion}
 use Rattle.compression.proofs.{Growth.{AreClusters-opened, AreClusters-within, Grows}, Rows.{opened-before, row_last}}
 use Rattle.compression.{proofs.Sound.{all_ended, joined_end-within, with_last}, specs.Clusters.{AreClusters, Cluster, Point, beyond}}
@@ -9,7 +9,7 @@ use Rattle.compression.specs.{Stands.StandsForPoints, declared.compressed.Compre
 -- ends that lie before a later reading
 pub ended_later : (t r : ℤ) (cs : List Cluster) → t ≤ℤ r → AllByRecursion (λ c. c.end <ℤ t) cs → AllByRecursion (λ c. c.end <ℤ r) cs
 ended_later t r [] le all = tt
-ended_later t r (c ∷ cs) le all = (omega (arith, ints, le, all.0), ended_later t r cs le all.1)
+ended_later t r (c ∷ cs) le all = (omega (arith, ints, all.0), ended_later t r cs le all.1)
 
 all-append : (r : ℤ) (cs ds : List Cluster) → AllByRecursion (λ c. c.end <ℤ r) cs → AllByRecursion (λ c. c.end <ℤ r) ds
     → AllByRecursion (λ c. c.end <ℤ r) (cs ++ ds)
@@ -19,7 +19,7 @@ all-append r (c ∷ cs) ds all more = (all.0, all-append r cs ds all.1 more)
 module _ (v : Collecting) (points : List Point) (emitted : List Compressed) where
   past_at : (r : ℤ) (s : StandsForPoints v points emitted) → v.earliest ≤ℤ r → AllByRecursion (λ c. c.end <ℤ r) s.done
   past_at r s le =
-      ended_later v.earliest r s.done le (recursion_from_All (λ (c : Cluster). c.end <ℤ v.earliest) s.done s.past)
+      ended_later v.earliest r s.done le (recursion_from_All (λ c. c.end <ℤ v.earliest) s.done s.past)
 
   -- a point that opens a collection
   pub Stands-opened : (p : Point) → IsSound v → v.earliest ≤ℤ p.reading → open_at v.waiting p.reading ≡ None
@@ -34,7 +34,7 @@ module _ (v : Collecting) (points : List Point) (emitted : List Compressed) wher
             (AreClusters-opened v.ow points (s.done ++ v.waiting) p (omega (arith, ints, sound.some, sound.short))
             s.clusters all);
         given = s.given;
-        past = All-from_recursion (λ (c : Cluster). c.end <ℤ p.reading) s.done done;
+        past = All-from_recursion (λ c. c.end <ℤ p.reading) s.done done;
       }
 
   -- a point that the open collection is given
@@ -45,14 +45,14 @@ module _ (v : Collecting) (points : List Point) (emitted : List Compressed) wher
       let last = row_last v.ow v.earliest front c (subst (IsRow v.ow v.earliest) split sound.row) in
       let opened = opened-before v.earliest last.collection last.may in
       let done = past_at p.reading s order in
-      let before = ended_later c.opened p.reading front (omega (arith, ints, opened, order)) last.before in
+      let before = ended_later c.opened p.reading front (omega (arith, ints)) last.before in
       let are : AreClusters v.ow points ((s.done ++ front) ++ c ∷ []) =
-      subst (AreClusters v.ow points) (ap (λ (ws : List Cluster). s.done ++ ws) split
-      ∙ sym (append_assoc s.done front (c ∷ []))) s.clusters in
+      subst (AreClusters v.ow points) (rw split
+      (sym (append_assoc s.done front (c ∷ [])))) s.clusters in
       subst (AreClusters v.ow (points ++ p ∷ [])) (append_assoc s.done front (d ∷ []))
       (AreClusters-within points (s.done ++ front) (omega (arith, ints, sound.some, sound.short)) are
       (all-append p.reading s.done front done before)
-      (omega (arith, ints, opened, order)) here longer grows)
+      (omega (arith, ints)) here longer grows)
 
 module _ {v : Collecting} (points : List Point) (emitted : List Compressed) (p : Point) (front : List Cluster)
     (c : Cluster) (sound : IsSound v) (order : v.earliest ≤ℤ p.reading) (split : v.waiting ≡ front ++ c ∷ [])
@@ -69,7 +69,7 @@ module _ {v : Collecting} (points : List Point) (emitted : List Compressed) (p :
         done = s.done;
         clusters = stands_within v points emitted front sound order split here ends.0 grows s;
         given = s.given;
-        past = All-from_recursion (λ (c : Cluster). c.end <ℤ p.reading) s.done
+        past = All-from_recursion (λ c. c.end <ℤ p.reading) s.done
             (past_at v points emitted p.reading s order);
       }
     where
@@ -85,8 +85,7 @@ module _ {v : Collecting} (points : List Point) (emitted : List Compressed) (p :
       record {
         done = s.done;
         clusters =
-            subst (λ (ws : List Cluster). AreClusters v.ow (points ++ p ∷ []) (s.done ++ ws)) (sym split)
-            (stands_within v points emitted front sound order split here (omega (arith, ints)) grows s);
+            rw split (stands_within v points emitted front sound order split here (omega (arith, ints)) grows s);
         given = s.given;
         past = s.past;
       }
@@ -107,6 +106,5 @@ AreClusters-unique ow [] (c ∷ cs) ds are also = absurd are
 AreClusters-unique ow (o ∷ ps) [] ds are also = absurd are
 AreClusters-unique ow (o ∷ ps) (c ∷ cs) [] are also = absurd also
 AreClusters-unique ow (o ∷ ps) (c ∷ cs) (d ∷ ds) are also =
-    let same : c ≡ d = are.0 ∙ sym also.0 in
-    let rest : AreClusters ow (beyond c.end ps) ds = subst (λ (k : Cluster). AreClusters ow (beyond k.end ps) ds) (sym same) also.1 in
-    ap (λ (k : Cluster). k ∷ cs) same ∙ ap (λ (ks : List Cluster). d ∷ ks) (AreClusters-unique ow (beyond c.end ps) cs ds are.1 rest)
+    let same = are.0 ∙ sym also.0 in
+    rw same (rw (AreClusters-unique ow (beyond c.end ps) cs ds are.1 (rw same also.1)))

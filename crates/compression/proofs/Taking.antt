@@ -1,7 +1,7 @@
 -- What a collector does with a point, by the point's role.
 use Rattle.std.proofs.Common.{◌++◌, ◌<ℤ◌, ◌<◌, ◌∙◌, ◌∷◌, ◌≡◌, ◌≢◌, ◌≤ℤ◌, ◌⊎◌, IsTrue, List, None, Option, Some, [], ap, arith, false, inl, inr, length, refl}
 use Rattle.std.{proofs.{Common.{subst, sym, true, ℕ, ℤ}, lemmas.List.{Elements.recursion_from_All, append-nil}}, specs.List.{AllByRecursion, last_or}}
-use Rattle.std.{proofs.lemmas.Bool.{cases_Bool, eqb-false, eqb-true}, specs.Prelude.{IfSome, if◌then◌else◌, int_lt, option_and_then}}
+use Rattle.std.{proofs.lemmas.Bool.{cases_Bool, eqb-false, eqb-true}, specs.Prelude.{IfSome}}
 use Rattle.compression.{proofs.Roles.{open_at-beyond, open_at-in, open_at-none}, specs.declared.taken.Taken.TheVariants.{Joined, Opened, OtherCycle, Repeat}}
 use Rattle.compression.proofs.{Rows.{MayFollow-later, last_or-none, last_split, row_last}, Sound.{IsSound-joined, last_joined-split, open_at-some, with_last}}
 use Rattle.compression.proofs.Standing.{AreClusters-unique, Stands-ignored, Stands-joined, Stands-opened, ended_later}
@@ -69,8 +69,7 @@ module _ (v w : Collecting) (p : Point) (sound : IsSound v) (order : v.earliest 
       → StandsForPoints w (points ++ p ∷ []) emitted
   Stands-role_opened is opens points emitted s =
       let none = role_in-opened (open_at v.waiting p.reading) p (sym is) in
-      subst (λ u. StandsForPoints u (points ++ p ∷ []) emitted) (sym opens)
-      (Stands-opened v points emitted p sound order none s)
+      rw opens (Stands-opened v points emitted p sound order none s)
 
   pub Stands-role_joined : Joined ≡ role v.waiting p →
       ((front : List Cluster) (c : Cluster) → v.waiting ≡ front ++ c ∷ [] → w ≡ with_last v front c p)
@@ -108,18 +107,18 @@ pub role-whole : {v : Collecting} (p : Point) → v.earliest ≤ℤ p.reading
     → {points : List Point} {emitted : List Compressed} (cs : List Cluster) → StandsForPoints v points emitted
     → AreClusters v.ow points cs → role v.waiting p ≡ role cs p
 role-whole {v} p order {points} cs s are =
-    by_last (last_or None v.waiting) refl ∙ ap (λ ks. role ks p) (AreClusters-unique v.ow points (s.done ++ v.waiting) cs s.clusters are)
+    by_last (last_or None v.waiting) refl ∙ (rw
+    (AreClusters-unique v.ow points (s.done ++ v.waiting) cs s.clusters are))
   where
     by_last : (o : Option Cluster) → last_or None v.waiting ≡ o → role v.waiting p ≡ role (s.done ++ v.waiting) p
     by_last None l =
-        let none : v.waiting ≡ [] = last_or-none v.waiting l in
-        let whole : s.done ++ v.waiting ≡ s.done = ap (λ (ws : List Cluster). s.done ++ ws) none ∙ append-nil s.done in
-        let done = ended_later v.earliest p.reading s.done order (recursion_from_All (λ (c : Cluster). c.end <ℤ v.earliest) s.done s.past) in
-        ap (λ o. role_in o p) (open_at-none v.waiting p.reading l ∙ sym (ended_none s.done p.reading done))
-        ∙ ap (λ ks. role ks p) (sym whole)
+        let whole : s.done ++ v.waiting ≡ s.done = rw (last_or-none v.waiting l) (append-nil s.done) in
+        let done = ended_later v.earliest p.reading s.done order
+        (recursion_from_All (λ c. c.end <ℤ v.earliest) s.done s.past) in
+        rw (open_at-none v.waiting p.reading l ∙ sym (ended_none s.done p.reading done))
+        (ap (λ ks. role ks p) (sym whole))
     by_last (Some c) l =
-        ap (λ (o : Option Cluster). role_in (option_and_then (λ (k : Cluster). if int_lt k.end p.reading then None else Some k) o) p)
-        (l ∙ sym (last_or-append s.done v.waiting c l))
+        rw (l ∙ sym (last_or-append s.done v.waiting c l))
 
 -- the invariant with a point that joins
 pub IsSound-takes : {v : Collecting} (p : Point) (waiting : List Cluster) → IsSound v → v.earliest ≤ℤ p.reading

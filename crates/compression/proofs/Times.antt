@@ -1,5 +1,5 @@
 -- The times of clusters: each point lies in one.
-use Rattle.std.proofs.Common.{◌<ℤ◌, ◌∷◌, ◌≡◌, ◌≤ℤ◌, ◌≤◌, ◌⊎◌, List, [], ap, arith, inl, inr, length, pos, refl, subst, suc, sym, zero, ℕ, ℤ}
+use Rattle.std.proofs.Common.{◌<ℤ◌, ◌∷◌, ◌≡◌, ◌≤ℤ◌, ◌≤◌, ◌⊎◌, List, [], arith, inl, inr, length, pos, refl, suc, sym, zero, ℕ, ℤ}
 use Rattle.std.{proofs.lemmas.{Bool.cases_Bool, Int.ints}, specs.{List.AllByRecursion, Prelude.{Contains, int_le}}}
 use Rattle.compression.proofs.Elements.{Ordered, Ordered-beyond, Ordered-from, all-beyond, all_at, beyond-all, in_beyond, in_cases, in_head, in_none, in_tail}
 use Rattle.compression.proofs.{Elements.length-beyond, Growth.end_of-least, Standing.AreClusters-unique}
@@ -12,27 +12,28 @@ open_beyond ow low [] [] are all = tt
 open_beyond ow low [] (c ∷ cs) are all = absurd are
 open_beyond ow low (o ∷ ps) [] are all = absurd are
 open_beyond ow low (o ∷ ps) (c ∷ cs) are all =
-    (subst (λ (k : Cluster). low <ℤ k.opened) (sym are.0) all.0, open_beyond ow low (beyond c.end ps) cs are.1 (all-beyond low c.end ps all.1))
+    (rw are.0 all.0, open_beyond ow low (beyond c.end ps) cs are.1 (all-beyond low c.end ps all.1))
 
 -- a point of the first cluster's time lies in no other
 pub only_first : (ow : ℤ) (ps : List Point) (c : Cluster) (cs : List Cluster) {p : Point}
     → AreClusters ow (beyond c.end ps) cs → p.reading ≤ℤ c.end → {d : Cluster} → Contains cs d → LiesIn d p → ⊥
 only_first ow ps c cs are within {d} at lies =
-    let past : c.end <ℤ d.opened = all_at (λ (k : Cluster). c.end <ℤ k.opened) cs d (open_beyond ow c.end (beyond c.end ps) cs are (beyond-all c.end ps)) at in
-    omega (arith, ints, past, within, lies.low)
+    let past = all_at (λ k. c.end <ℤ k.opened) cs d (open_beyond ow c.end (beyond c.end ps) cs are
+    (beyond-all c.end ps)) at in
+    omega (arith, ints, lies.low)
 
 -- the first point opens the first cluster, which ends no earlier
 pub first_end : (ow : ℤ) (o : Point) (ps : List Point) (c : Cluster) → pos 0 ≤ℤ ow → c ≡ cluster_of ow o (o ∷ ps) → (c.opened ≡ o.reading) × (c.opened ≤ℤ c.end)
 first_end ow o ps c some is =
     let least = end_of-least ow o (o ∷ ps) some in
-    (ap (λ (k : Cluster). k.opened) is, subst (λ (k : Cluster). k.opened ≤ℤ k.end) (sym is) (omega (arith, ints, least, some)))
+    (rw is, rw is (omega (arith, ints)))
 
 -- no point of an ordered list lies before its first
 pub not_before : (o : Point) (ps : List Point) (p : Point) → Ordered (o ∷ ps) → Contains (o ∷ ps) p → o.reading ≤ℤ p.reading
 not_before o ps p up at =
     elim (in_cases o p ps at) [
-      | inl e ↦ subst (λ (q : Point). o.reading ≤ℤ q.reading) e (omega (arith, ints))
-      | inr here ↦ all_at (λ (q : Point). o.reading ≤ℤ q.reading) ps p up.0 here
+      | inl e ↦ rw (sym e) (omega (arith, ints))
+      | inr here ↦ all_at (λ q. o.reading ≤ℤ q.reading) ps p up.0 here
     ]
 
 -- one that lies beyond the first cluster comes after the first point
@@ -47,11 +48,11 @@ one_time ow (o ∷ ps) (c ∷ cs) some up are p at =
     let start = first_end ow o ps c some are.0 in
     elim (cases_Bool (int_le p.reading c.end)) [
       | inl inside ↦
-          let within : p.reading ≤ℤ c.end = grind (arith, ints, inside) in
-          let low : c.opened ≤ℤ p.reading = subst (λ r. r ≤ℤ p.reading) (sym start.0) (not_before o ps p up at) in
+          let within : p.reading ≤ℤ c.end = grind (arith, ints) in
+          let low : c.opened ≤ℤ p.reading = rw start.0 (not_before o ps p up at) in
           (c, in_head c cs, record { low = low; high = within }, λ d in_d lies. only within d (in_cases c d cs in_d) lies)
       | inr outside ↦
-          let past : c.end <ℤ p.reading = grind (arith, ints, outside) in
+          let past : c.end <ℤ p.reading = grind (arith, ints) in
           let rest = one_time ow (beyond c.end ps) cs some (Ordered-beyond c.end ps up.1) are.1 p
           (in_rest o ps p c.end (omega (arith, ints, start.0, start.1)) past at) in
           (rest.0, in_tail c rest.0 cs rest.1, rest.2, λ d in_d lies. other past rest.0 rest.3 d (in_cases c d cs in_d) lies)
@@ -59,11 +60,11 @@ one_time ow (o ∷ ps) (c ∷ cs) some up are p at =
   where
     only : p.reading ≤ℤ c.end → (d : Cluster) → (c ≡ d) ⊎ Contains cs d → LiesIn d p → d ≡ c
     only within d (inl e) lies = sym e
-    only within d (inr at) lies = absurd (only_first ow ps c cs {p = p} are.1 within at lies)
+    only within d (inr at) lies = absurd (only_first ow ps c cs are.1 within at lies)
 
     other : c.end <ℤ p.reading → (k : Cluster) → ((d : Cluster) → Contains cs d → LiesIn d p → d ≡ k) → (d : Cluster) → (c ≡ d) ⊎ Contains cs d → LiesIn d p
         → d ≡ k
-    other past k unique d (inl e) lies = grind (arith, past, ints)
+    other past k unique d (inl e) lies = grind (arith, ints)
     other past k unique d (inr at) lies = unique d at lies
 
 pub one_time_law : OneTime
@@ -75,7 +76,7 @@ clusters_within n ow [] few = ([], tt)
 clusters_within zero ow (o ∷ ps) few = absurd (omega arith)
 clusters_within (suc n) ow (o ∷ ps) few =
     let c = cluster_of ow o (o ∷ ps) in
-    let rest = clusters_within n ow (beyond c.end ps) (omega (arith, few, length-beyond c.end ps)) in
+    let rest = clusters_within n ow (beyond c.end ps) (omega (arith, length-beyond c.end ps)) in
     (c ∷ rest.0, (refl, rest.1))
 
 pub one_list_of_clusters : OneListOfClusters

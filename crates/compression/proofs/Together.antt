@@ -3,7 +3,7 @@ use Rattle.compression.proofs.Elements.{Ordered, Ordered-beyond, Ordered-from, f
 use Rattle.compression.{proofs.{Firsts.{Counts, counts, firsts-has}, Held.held-start}, specs.OneCluster.{Holds, IsDropped, IsKept, OneCluster}}
 use Rattle.compression.proofs.{Growth.{counted, end_of-least, end_of-one, end_of-two, window_end}, Times.{first_end, in_rest, not_before, only_first}}
 use Rattle.compression.specs.Clusters.{AreClusters, Cluster, Point, beyond, cluster_of, end_of, firsts, has_master, of_cycle_within}
-use Rattle.std.proofs.Common.{◌&&◌, ◌+ℤ◌, ◌<ℤ◌, ◌<◌, ◌∙◌, ◌∷◌, ◌≡◌, ◌≢◌, ◌≤ℤ◌, ◌≤◌, List, [], ap, arith, false, inl, inr, length, pos, refl, subst, sym, true}
+use Rattle.std.proofs.Common.{◌&&◌, ◌+ℤ◌, ◌<ℤ◌, ◌<◌, ◌∙◌, ◌∷◌, ◌≡◌, ◌≢◌, ◌≤ℤ◌, ◌≤◌, List, [], ap, arith, false, inl, inr, length, pos, refl, sym, true}
 use Rattle.{std.{proofs.Common.{ℕ, ℤ}, specs.{List.AllByRecursion, Prelude.{◌==◌, Contains, int_le}}}, tte_units.proofs.general_lemmas.Integers.int_le-from}
 use Rattle.std.proofs.lemmas.{Bool.{and_from, and_parts, cases_Bool, cases_eq, cases_lt, eq-eqb, eqb-false, eqb-true, or_cases, or_parts}, Int.ints}
 
@@ -12,7 +12,7 @@ window_counts : (ow : ℤ) (o : Point) (ps : List Point) → pos 0 ≤ℤ ow →
     × (counted (window_end ow o) o (o ∷ ps) ≡ o ∷ k.more)
 window_counts ow o ps some =
     let k = counts (o ∷ []) (of_cycle_within o.cycle o.reading (window_end ow o) ps) in
-    (k, ap firsts (held-start o (window_end ow o) ps (omega (arith, ints, some))) ∙ k.is)
+    (k, ap firsts (held-start o (window_end ow o) ps (omega (arith, ints))) ∙ k.is)
 
 -- where there are two masters, the first window has a point of another than the opener's
 pub record Other (ow : ℤ) (o : Point) (ps : List Point) (w : Point) : Type 0 where
@@ -24,7 +24,7 @@ pub record Other (ow : ℤ) (o : Point) (ps : List Point) (w : Point) : Type 0 w
 second_master : (ow : ℤ) (o : Point) (ps : List Point) → pos 0 ≤ℤ ow → 2 ≤ length (counted (window_end ow o) o (o ∷ ps)) → (w : Point) × Other ow o ps w
 second_master ow o ps some many =
     let k = window_counts ow o ps some in
-    found (k.0.more) (k.0.each) (subst (λ n. 2 ≤ n) (ap length k.1) many)
+    found (k.0.more) (k.0.each) (rw (ap length k.1) at many)
   where
     found : (more : List Point) → AllByRecursion (λ q. Contains (of_cycle_within o.cycle o.reading (window_end ow o) ps) q
         × (has_master (o ∷ []) q.master ≡ false)) more → 2 ≤ length (o ∷ more) → (w : Point) × Other ow o ps w
@@ -47,13 +47,13 @@ second_master ow o ps some many =
 only_master : (ow : ℤ) (o : Point) (ps : List Point) → pos 0 ≤ℤ ow → length (counted (window_end ow o) o (o ∷ ps)) < 2 → (q : Point) → Contains (o ∷ ps) q
     → q.cycle ≡ o.cycle → o.reading ≤ℤ q.reading → q.reading ≤ℤ window_end ow o → q.master ≡ o.master
 only_master ow o ps some few q at same low high =
-    let passes : (q.cycle == o.cycle && (int_le o.reading q.reading && int_le q.reading (window_end ow o))) ≡ true =
+    let passes =
     and_from (q.cycle == o.cycle) _ (eq-eqb q.cycle o.cycle same)
     (and_from (int_le o.reading q.reading) _ (int_le-from o.reading q.reading low) (int_le-from q.reading (window_end ow o) high)) in
     let here = in_filter_from (λ r. r.cycle == o.cycle && (int_le o.reading r.reading && int_le r.reading (window_end ow o))) (o ∷ ps) q at passes in
     let has = firsts-has (of_cycle_within o.cycle o.reading (window_end ow o) (o ∷ ps)) q here in
     let k = window_counts ow o ps some in
-    alone (k.0.more) (subst (λ n. n < 2) (ap length k.1) few) (subst (λ xs. has_master xs q.master ≡ true) k.1 has)
+    alone (k.0.more) (rw (ap length k.1) at few) (rw k.1 at has)
   where
     alone : (more : List Point) → length (o ∷ more) < 2 → has_master (o ∷ more) q.master ≡ true → q.master ≡ o.master
     alone [] few has =
@@ -77,7 +77,7 @@ module _ {ow : ℤ} {o : Point} {ps : List Point} {c : Cluster} {cs : List Clust
   not_dropped : (q : Point) → q.cycle ≡ o.cycle → q.reading ≤ℤ c.end → ¬ IsDropped (c ∷ cs) q
   not_dropped q same within (d, at, other, lies) =
       elim (in_cases c d cs at) [
-        | inl e ↦ other (same ∙ sym (ap (λ (k : Cluster). k.cycle) f.is) ∙ ap (λ (k : Cluster). k.cycle) e)
+        | inl e ↦ other (same ∙ sym (rw f.is) ∙ ap (λ k. k.cycle) e)
         | inr here ↦ only_first ow ps c cs f.rest within here lies
       ]
 
@@ -86,7 +86,7 @@ module _ {ow : ℤ} {o : Point} {ps : List Point} {c : Cluster} {cs : List Clust
   own_cycle {q} k within =
       let start = first_end ow o ps c f.some f.is in
       let low : c.opened ≤ℤ q.reading =
-      subst (λ r. r ≤ℤ q.reading) (sym start.0) (not_before o ps q f.order k.there) in
+      rw start.0 (not_before o ps q f.order k.there) in
       elim (cases_eq q.cycle c.cycle) [
         | inl same ↦ (same, record { low = low; high = within })
         | inr other ↦ absurd (k.kept (c, in_head c cs, other, record { low = low; high = within }))
@@ -97,9 +97,9 @@ module _ {ow : ℤ} {o : Point} {ps : List Point} {c : Cluster} {cs : List Clust
       → q.reading ≤ℤ c.end → r.reading ≤ℤ c.end
   all_within {q} {r} kq kr within =
       let holds = own_cycle kq within in
-      let end_is : c.end ≡ end_of ow o (o ∷ ps) = ap (λ (k : Cluster). k.end) f.is in
+      let end_is : c.end ≡ end_of ow o (o ∷ ps) = rw f.is in
       let least = end_of-least ow o (o ∷ ps) f.some in
-      let cycle_is : q.cycle ≡ o.cycle = holds.0 ∙ ap (λ (k : Cluster). k.cycle) f.is in
+      let cycle_is = holds.0 ∙ ap (λ k. k.cycle) f.is in
       elim (cases_eq o.master b) [
         | inr other ↦
             let ko : IsKept (o ∷ ps) (c ∷ cs) b cycle o = record {
@@ -107,15 +107,15 @@ module _ {ow : ℤ} {o : Point} {ps : List Point} {c : Cluster} {cs : List Clust
               other = other;
               same = sym cycle_is
                   ∙ kq.same;
-              kept = not_dropped o refl (omega (arith, ints, end_is, least, f.some));
+              kept = not_dropped o refl (omega (arith, ints, f.some));
             } in
             let near = f.near r o kr ko in
-            omega (arith, ints, near, end_is, least)
+            omega (arith, ints)
         | inl is_b ↦
             elim (cases_lt (length (counted (window_end ow o) o (o ∷ ps))) 2) [
               | inl few ↦
                   let one = end_of-one ow o (o ∷ ps) few in
-                  let high : q.reading ≤ℤ window_end ow o = omega (arith, ints, within, end_is, one) in
+                  let high : q.reading ≤ℤ window_end ow o = omega (arith, ints) in
                   absurd (kq.other (only_master ow o ps f.some few q kq.there cycle_is
                   (not_before o ps q f.order kq.there) high ∙ is_b))
               | inr many ↦
@@ -125,10 +125,10 @@ module _ {ow : ℤ} {o : Point} {ps : List Point} {c : Cluster} {cs : List Clust
                     there = in_tail o w.0 ps w.1.there;
                     other = λ e. w.1.other (e ∙ sym is_b);
                     same = w.1.same ∙ sym cycle_is ∙ kq.same;
-                    kept = not_dropped w.0 w.1.same (omega (arith, ints, end_is, least, w.1.first));
+                    kept = not_dropped w.0 w.1.same (omega (arith, ints, w.1.first));
                   } in
                   let near = f.near r w.0 kr kw in
-                  omega (arith, ints, near, end_is, two, w.1.first)
+                  omega (arith, ints, w.1.first)
             ]
       ]
 
@@ -142,10 +142,9 @@ together ow (o ∷ ps) (c ∷ cs) {b} {cycle} some up are near {p} k =
     let f : First ow o ps c cs b cycle = record { some = some; order = up; is = are.0; rest = are.1; near = near } in
     elim (cases_Bool (int_le p.reading c.end)) [
       | inl inside ↦
-          let within : p.reading ≤ℤ c.end = grind (arith, ints, inside) in
-          (c, in_head c cs, λ q kq. own_cycle f kq (all_within f k kq within))
+          (c, in_head c cs, λ q kq. own_cycle f kq (all_within f k kq (grind (arith, ints))))
       | inr outside ↦
-          let past : c.end <ℤ p.reading = grind (arith, ints, outside) in
+          let past : c.end <ℤ p.reading = grind (arith, ints) in
           let rest = together ow (beyond c.end ps) cs some (Ordered-beyond c.end ps up.1) are.1
           (λ q r kq kr. near q r (whole q kq) (whole r kr))
           (part p k past) in
@@ -158,7 +157,7 @@ together ow (o ∷ ps) (c ∷ cs) {b} {cycle} some up are near {p} k =
     not_first : (q : Point) → c.end <ℤ q.reading → IsDropped (c ∷ cs) q → IsDropped cs q
     not_first q past (d, at, other, lies) =
         elim (in_cases c d cs at) [
-          | inl e ↦ absurd (omega (arith, ints, past, lies.high, ap (λ (k : Cluster). k.end) e))
+          | inl e ↦ absurd (omega (arith, ints, lies.high, ap (λ (k : Cluster). k.end) e))
           | inr here ↦ (d, here, other, lies)
         ]
 
@@ -179,10 +178,9 @@ together ow (o ∷ ps) (c ∷ cs) {b} {cycle} some up are near {p} k =
     also f past q kq =
         elim (cases_Bool (int_le q.reading c.end)) [
           | inl inside ↦
-              let within : q.reading ≤ℤ c.end = grind (arith, ints, inside) in
-              let back = all_within f kq k within in
-              absurd (omega (arith, ints, back, past))
-          | inr outside ↦ grind (arith, ints, outside)
+              let back = all_within f kq k (grind (arith, ints)) in
+              absurd (omega (arith, ints))
+          | inr outside ↦ grind (arith, ints)
         ]
 
 pub one_cluster : OneCluster

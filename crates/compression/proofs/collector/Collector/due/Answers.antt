@@ -1,4 +1,4 @@
-use Rattle.{compression.{proofs.Emitting.IsLeast-first, specs.Collecting.Collecting}, std.proofs.{Common.arith, lemmas.Int.ints}}
+use Rattle.{compression.{proofs.Emitting.IsLeast-first}, std.proofs.{Common.arith, lemmas.Int.ints}}
 use Rattle.compression.proofs.collector.Collector.due.Goals as goal
 
 pub emission-requires-clause-time : goal.emission-requires-clause-time
@@ -6,7 +6,5 @@ emission-requires-clause-time c = (omega (arith, ints, c.self.invariant.some), o
 
 pub returns-clause-least : goal.returns-clause-least
 returns-clause-least c =
-    let v : Collecting = record { ow = c.self.inside.ow.0; calc = c.self.inside.calc.0; earliest = c.self.inside.earliest.0; waiting = c.self.inside.waiting }
-    in
     rw (← c.self.view_is, c.emission.ensures) (IsLeast-first c.in_ok-first.first.now c.in_ok-first.ensures.0
     c.self.invariant c.in_ok-first.ensures.1)

@@ -1,23 +1,19 @@
-use Rattle.std.proofs.{Common.{◌≡◌, ◌≤ℤ◌, ap, arith, of_z, subst, sym, to_z, w64}, lemmas.Int.ints}
+use Rattle.std.proofs.{Common.{◌≡◌, ◌≤ℤ◌, arith, of_z, to_z, w64}, lemmas.Int.ints}
 use Rattle.compression.{proofs.Emitting.{IsLeast-first, IsSound-emitted, Stands-emitted}, specs.{Collecting.Collecting, Emission.emission}}
-use Rattle.compression.specs.{Stands.StandsForPoints, declared.compressed.Compressed.Compressed}
 use Rattle.compression.proofs.collector.Collector.emit.Goals as goal
 
 pub invariant_of-self : goal.invariant_of-self
 invariant_of-self c =
-    let v : Collecting = record { ow = c.self.inside.ow.0; calc = c.self.inside.calc.0; earliest = c.self.inside.earliest.0; waiting = c.self.inside.waiting }
-    in
     let later = to_z w64 (of_z w64 c.max.result) in
-    let le : c.self.inside.earliest.0 ≤ℤ later = omega (arith, ints, c.max.ensures.self_bound) in
     IsSound-emitted c.remove_first-first.result c.remove_first-first.new.self later c.self.invariant
-    c.remove_first-first.ensures le
+    c.remove_first-first.ensures (omega (arith, ints, c.max.ensures.self_bound))
 
 pub returns-clause-due : goal.returns-clause-due
 returns-clause-due c =
     let v : Collecting = record { ow = c.self.inside.ow.0; calc = c.self.inside.calc.0; earliest = c.self.inside.earliest.0; waiting = c.self.inside.waiting }
     in
-    let at : c.compressed-compressed.result.at.0 ≡ emission v.ow v.calc c.remove_first-first.result = ap (λ (k : Compressed). k.at.0)
-    c.compressed-compressed.ensures in
+    let at : c.compressed-compressed.result.at.0 ≡ emission v.ow v.calc c.remove_first-first.result =
+    rw c.compressed-compressed.ensures in
     rw (← c.self.view_is, at) (IsLeast-first c.remove_first-first.result c.remove_first-first.new.self
     c.self.invariant c.remove_first-first.ensures)
 
@@ -26,12 +22,13 @@ returns-clause-stands c =
     let v : Collecting = record { ow = c.self.inside.ow.0; calc = c.self.inside.calc.0; earliest = c.self.inside.earliest.0; waiting = c.self.inside.waiting }
     in
     let later = to_z w64 (of_z w64 c.max.result) in
-    let at : c.compressed-compressed.result.at.0 ≡ emission v.ow v.calc c.remove_first-first.result = ap (λ (k : Compressed). k.at.0)
-    c.compressed-compressed.ensures in
+    let at : c.compressed-compressed.result.at.0 ≡ emission v.ow v.calc c.remove_first-first.result =
+    rw c.compressed-compressed.ensures in
     let le : c.self.inside.earliest.0 ≤ℤ later = omega (arith, ints, c.max.ensures.self_bound) in
-    let past : emission v.ow v.calc c.remove_first-first.result ≤ℤ later = omega (arith, ints, c.max.ensures.other_bound, at) in
+    let past : emission v.ow v.calc c.remove_first-first.result ≤ℤ later =
+    omega (arith, ints, c.max.ensures.other_bound) in
     λ points emitted s.
     rw c.compressed-compressed.ensures
     (Stands-emitted c.remove_first-first.result c.remove_first-first.new.self later c.self.invariant
     c.remove_first-first.ensures le past
-    (subst (λ u. StandsForPoints u points emitted) (sym c.self.view_is) s))
+    (rw c.self.view_is s))

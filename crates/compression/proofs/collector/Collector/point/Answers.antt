@@ -1,7 +1,7 @@
-use Rattle.std.proofs.Common.{◌∙◌, ◌≡◌, ◌≢◌, ◌⊎◌, List, ap, inl, inr, refl, rules, subst, sym}
+use Rattle.std.proofs.Common.{◌∙◌, ◌≡◌, ◌≢◌, ◌⊎◌, ap, inl, inr, refl, rules, subst, sym}
 use Rattle.compression.proofs.Taking.{IsSound-takes, Stands-role_ignored, Stands-role_joined, Stands-role_opened, able, last_is_joined, role-whole}
-use Rattle.compression.specs.{Clusters.{Cluster, Point, point_at}, Collecting.{Collecting, with_joined, with_opened}, Role.role, Row.IsSound}
-use Rattle.compression.specs.{Stands.StandsForPoints, declared.taken.Taken.{Taken, TheVariants.{Joined, Opened, OtherCycle, Repeat}}}
+use Rattle.compression.specs.{Clusters.{point_at}, Collecting.{Collecting, with_joined}, Role.role, Row.IsSound}
+use Rattle.compression.specs.{declared.taken.Taken.{Taken, TheVariants.{Joined, OtherCycle, Repeat}}}
 use Rattle.compression.proofs.collector.Collector.point.Goals as goal
 
 pub offer-taken-requires-clause-last : goal.offer-taken-requires-clause-last
@@ -11,57 +11,51 @@ offer-taken-requires-clause-last c =
 
 pub invariant_of-self-in-Joined : goal.invariant_of-self-in-Joined
 invariant_of-self-in-Joined c =
-    let p : Point = point_at c.args.reading.0 c.args.master c.args.cycle in
-    let v : Collecting = record { ow = c.self.inside.ow.0; calc = c.self.inside.calc.0; earliest = c.self.inside.earliest.0; waiting = c.self.inside.waiting }
-    in
+    let p = point_at c.args.reading.0 c.args.master c.args.cycle in
     let order = rw (← c.self.view_is) at c.requires.order in
     IsSound-takes p c.offer-taken.new.self c.self.invariant order (sym c.in-Joined.ensures.role)
     (c.in-Joined.ensures.joined refl)
 
 pub returns-in-Opened-clause-role : goal.returns-in-Opened-clause-role
 returns-in-Opened-clause-role c =
-    let p : Point = point_at c.args.reading.0 c.args.master c.args.cycle in
+    let p = point_at c.args.reading.0 c.args.master c.args.cycle in
     λ points emitted clusters s are.
-    c.offer-taken.ensures.role ∙ ap (λ (v : Collecting). role v.waiting p) c.self.view_is ∙ role-whole p
+    c.offer-taken.ensures.role ∙ ap (λ v. role v.waiting p) c.self.view_is ∙ role-whole p
     c.requires.order
     clusters s are
 
 pub returns-in-Joined-clause-role : goal.returns-in-Joined-clause-role
 returns-in-Joined-clause-role c =
-    let p : Point = point_at c.args.reading.0 c.args.master c.args.cycle in
+    let p = point_at c.args.reading.0 c.args.master c.args.cycle in
     λ points emitted clusters s are.
-    c.offer-taken.ensures.role ∙ ap (λ (v : Collecting). role v.waiting p) c.self.view_is ∙ role-whole p
+    c.offer-taken.ensures.role ∙ ap (λ v. role v.waiting p) c.self.view_is ∙ role-whole p
     c.requires.order
     clusters s are
 
 pub returns-in-Repeat-clause-role : goal.returns-in-Repeat-clause-role
 returns-in-Repeat-clause-role c =
-    let p : Point = point_at c.args.reading.0 c.args.master c.args.cycle in
+    let p = point_at c.args.reading.0 c.args.master c.args.cycle in
     λ points emitted clusters s are.
-    c.offer-taken.ensures.role ∙ ap (λ (v : Collecting). role v.waiting p) c.self.view_is ∙ role-whole p
+    c.offer-taken.ensures.role ∙ ap (λ v. role v.waiting p) c.self.view_is ∙ role-whole p
     c.requires.order
     clusters s are
 
 pub returns-in-Opened-clause-stands : goal.returns-in-Opened-clause-stands
 returns-in-Opened-clause-stands c =
-    let p : Point = point_at c.args.reading.0 c.args.master c.args.cycle in
+    let p = point_at c.args.reading.0 c.args.master c.args.cycle in
     let sound : IsSound c.args.self.now = subst IsSound c.self.view_is c.self.invariant in
-    let is : Opened ≡ role c.args.self.now.waiting p = c.in-Opened.ensures.role ∙ ap (λ (v : Collecting). role v.waiting p) c.self.view_is in
-    let opens : c.open.new.self ≡ with_opened c.args.self.now p = search rules in
-    Stands-role_opened c.args.self.now c.open.new.self p sound c.requires.order is opens
+    let is = c.in-Opened.ensures.role ∙ ap (λ v. role v.waiting p) c.self.view_is in
+    Stands-role_opened c.args.self.now c.open.new.self p sound c.requires.order is (search rules)
 
 pub returns-in-Joined-clause-stands : goal.returns-in-Joined-clause-stands
 returns-in-Joined-clause-stands c =
-    let p : Point = point_at c.args.reading.0 c.args.master c.args.cycle in
+    let p = point_at c.args.reading.0 c.args.master c.args.cycle in
     let v : Collecting = record { ow = c.self.inside.ow.0; calc = c.self.inside.calc.0; earliest = c.self.inside.earliest.0; waiting = c.self.inside.waiting }
     in
     let w : Collecting = record { ow = c.self.inside.ow.0; calc = c.self.inside.calc.0; earliest = c.args.reading.0; waiting = c.offer-taken.new.self } in
-    let order = rw (← c.self.view_is) at c.requires.order in
     λ points emitted s.
-    Stands-role_joined v w p c.self.invariant order c.in-Joined.ensures.role
-    (λ front k split. ap (λ (ws : List Cluster). record w { waiting = ws })
-    (c.in-Joined.ensures.joined refl front k split)) (subst
-    (λ u. StandsForPoints u points emitted) (sym c.self.view_is) s)
+    Stands-role_joined v w p c.self.invariant (rw (← c.self.view_is) at c.requires.order) c.in-Joined.ensures.role
+    (λ front k split. rw (c.in-Joined.ensures.joined refl front k split)) (rw c.self.view_is s)
 
 not_joined : (t : Taken) → (t ≡ Repeat) ⊎ (t ≡ OtherCycle) → t ≢ Joined
 not_joined t (inl e) j = cc
@@ -69,31 +63,28 @@ not_joined t (inr e) j = cc
 
 pub returns-in-Joined-clause-joins : goal.returns-in-Joined-clause-joins
 returns-in-Joined-clause-joins c =
-    let p : Point = point_at c.args.reading.0 c.args.master c.args.cycle in
+    let p = point_at c.args.reading.0 c.args.master c.args.cycle in
     let v : Collecting = record { ow = c.self.inside.ow.0; calc = c.self.inside.calc.0; earliest = c.self.inside.earliest.0; waiting = c.self.inside.waiting }
     in
     let last = last_is_joined v p c.offer-taken.new.self c.in-Joined.ensures.role (c.in-Joined.ensures.joined refl) in
-    λ _. ap (λ (ws : List Cluster). record v { earliest = p.reading; waiting = ws }) last ∙ ap (λ u. with_joined u p) c.self.view_is
+    λ _. rw last (ap (λ u. with_joined u p) c.self.view_is)
 
 pub returns-in-Repeat-clause-stands : goal.returns-in-Repeat-clause-stands
 returns-in-Repeat-clause-stands c =
-    let p : Point = point_at c.args.reading.0 c.args.master c.args.cycle in
+    let p = point_at c.args.reading.0 c.args.master c.args.cycle in
     let v : Collecting = record { ow = c.self.inside.ow.0; calc = c.self.inside.calc.0; earliest = c.self.inside.earliest.0; waiting = c.self.inside.waiting }
     in
     let w : Collecting = record v { waiting = c.offer-taken.new.self } in
-    let order = rw (← c.self.view_is) at c.requires.order in
-    let same : w ≡ v = ap (λ (ws : List Cluster). record v { waiting = ws }) (c.offer-taken.ensures.ignored (not_joined c.offer-taken.result c.in-Repeat.is)) in
+    let same : w ≡ v = rw (c.offer-taken.ensures.ignored (not_joined c.offer-taken.result c.in-Repeat.is)) in
     let is : (role v.waiting p ≡ Repeat) ⊎ (role v.waiting p ≡ OtherCycle) =
     elim c.in-Repeat.is [ inl e ↦ inl (sym c.offer-taken.ensures.role ∙ e) | inr e ↦ inr (sym c.offer-taken.ensures.role ∙ e) ] in
     λ points emitted s.
-    Stands-role_ignored v w p c.self.invariant order is same
-    (subst (λ u. StandsForPoints u points emitted) (sym c.self.view_is) s)
+    Stands-role_ignored v w p c.self.invariant (rw (← c.self.view_is) at c.requires.order) is same
+    (rw c.self.view_is s)
 
 pub returns-in-Joined-clause-few : goal.returns-in-Joined-clause-few
 returns-in-Joined-clause-few c =
-    let p : Point = point_at c.args.reading.0 c.args.master c.args.cycle in
-    let inside = c.self.inside in
-    let v : Collecting = record { ow = inside.ow.0; calc = inside.calc.0; earliest = inside.earliest.0; waiting = inside.waiting } in
+    let p = point_at c.args.reading.0 c.args.master c.args.cycle in
     let order = rw (← c.self.view_is) at c.requires.order in
     let joins = c.in-Joined.ensures.joined refl in
     (IsSound-takes p c.offer-taken.new.self c.self.invariant order (sym c.in-Joined.ensures.role) joins).few

@@ -15,8 +15,7 @@ take-requires-clause-able c =
     let item = c.in-Some.ensures.item in
     let last : last_or None c.args.self.now ≡ Some c.in-Some.last.now = ap (last_or None) (sym c.self.view_is ∙ sym c.deref_mut.ensures.value)
     ∙ last_or-read c.deref_mut.result.now c.in-Some.last.now item.3.0 item.1 in
-    let within : c.args.reading.0 ≤ℤ c.in-Some.last.now.end = omega (arith, ints, c.end.ensures, c.if-end-reading.false) in
-    (rw last at c.requires.last) within
+    (rw last at c.requires.last) (omega (arith, ints, c.end.ensures, c.if-end-reading.false))
 
 pub returns-clause-role : goal.returns-clause-role
 returns-clause-role c =
