@@ -1,5 +1,5 @@
 -- Octets spell a frame, or have a first fault, and `decoded` answers so.
-use Rattle.std.proofs.Common.{◌-◌, ◌<◌, ◌∙◌, ◌≡◌, ◌≢◌, ◌≤◌, Err, List, Ok, ap, arith, inl, inr, le_antisymm, length, length-append, refl, slice_index, subst}
+use Rattle.std.proofs.Common.{◌-◌, ◌<◌, ◌∙◌, ◌≡◌, ◌≢◌, ◌≤◌, Err, List, Ok, ap, arith, inl, inr, le_antisymm, length, length-append, refl, slice_index}
 use Rattle.std.proofs.{Common.{sym, ℕ}, lemmas.{Bool.{cases_lt, Decides.eqb_tells}, List.nil_from_length}}
 use Rattle.tte_units.specs.declared.frames.pcf.{Pcf.Pcf, PcfKind.{PcfKind, TheVariants.{ColdStart, ColdStartAck, Integration}}}
 use Rattle.pcf_codec.proofs.Spellings.{AreZero, fields_all, fields_first, fields_kind, fields_second, kind, kind_told, none, other, right_type, wrong_length}
@@ -132,13 +132,13 @@ frame_is octets p s = rw (s.destination, s.source, s.cycle, s.members, s.priorit
 
 read : (octets : List ℕ) (p : Pcf) → decoded octets ≡ Ok p → Spells octets p
 read octets p d = elim (told octets) [
-  | spelt c s e ↦ let same : frame_in octets c ≡ p = cc in subst (λ (q : Pcf). Spells octets q) same s
-  | faulty e f r ↦ let no : ⊥ = cc in absurd no
+  | spelt c s e ↦ let same : frame_in octets c ≡ p = cc in rw same at s
+  | faulty e f r ↦ absurd cc
 ]
 
 pub spelt_read : (octets : List ℕ) (p : Pcf) → Spells octets p → decoded octets ≡ Ok p
 spelt_read octets p s = elim (told octets) [
-  | spelt c t e ↦ e ∙ ap (λ (k : PcfKind). Ok (frame_in octets k)) (same_code c p.kind (sym t.kind ∙ s.kind)) ∙ ap Ok (sym (frame_is octets p s))
+  | spelt c t e ↦ e ∙ (rw (same_code c p.kind (sym t.kind ∙ s.kind)) (ap Ok (sym (frame_is octets p s))))
   | faulty e f r ↦ absurd (no_fault octets p e s f.there)
 ]
 
@@ -167,8 +167,8 @@ same_fault octets (Kind b) (Kind c) h k o = ap Kind (sym h.1 ∙ k.1)
 
 faulty_read : (octets : List ℕ) (e : PcfRefusal) → decoded octets ≡ Err e → IsFirstFault octets e
 faulty_read octets e d = elim (told octets) [
-  | spelt c s r ↦ let no : ⊥ = cc in absurd no
-  | faulty f h r ↦ let same : f ≡ e = cc in subst (λ (x : PcfRefusal). IsFirstFault octets x) same h
+  | spelt c s r ↦ absurd cc
+  | faulty f h r ↦ let same : f ≡ e = cc in rw same at h
 ]
 
 refused : (octets : List ℕ) (e : PcfRefusal) → IsFirstFault octets e → decoded octets ≡ Err e

@@ -17,7 +17,7 @@ pub data ZerosRead (i n : ℕ) (octets : List ℕ) : Type 0 where
 zeros_behind : (i n : ℕ) (octets : List ℕ) → slice_index octets i ≡ 0 → AreZero (i + 1) n octets → AreZero i (suc n) octets
 zeros_behind i n octets z h j low high = elim (eqb_tells j i) [
   | inl e ↦ rw e.1 z
-  | inr e ↦ let ne : j ≢ i = e.1 in h j (omega arith) (omega arith)
+  | inr e ↦ h j (omega arith) (omega arith)
 ]
 
 pub zeros_told : (i n : ℕ) (octets : List ℕ) → ZerosRead i n octets

@@ -1,5 +1,5 @@
-use Rattle.{pcf_codec.proofs.Encoding.{Fits, padding, spells, writes}, std.proofs.Common.{◌≡◌, List, Ok, arith, slice_index, subst, sym, ℕ}}
-use Rattle.pcf_codec.{proofs.Outcomes.spelt_read, specs.{Decoding.decoded, Encoded.encoded, Spelling.{IsPadding, Spells}}}
+use Rattle.{pcf_codec.proofs.Encoding.{Fits, padding, spells, writes}, std.proofs.Common.{arith}}
+use Rattle.pcf_codec.{proofs.Outcomes.spelt_read, specs.{Encoded.encoded}}
 use Rattle.pcf_codec.proofs.pcf.encode.Goals as goal
 
 pub returns : goal.returns
@@ -18,7 +18,7 @@ returns c =
     } in
     record {
       exact = wrote;
-      spelling = subst (λ (xs : List ℕ). Spells xs p) (sym wrote) (spells p fits);
-      padding = subst (λ (xs : List ℕ). (i : ℕ) → IsPadding i → slice_index xs i ≡ 0) (sym wrote) (padding p);
-      round_trip = subst (λ (xs : List ℕ). decoded xs ≡ Ok p) (sym wrote) (spelt_read (encoded p) p (spells p fits));
+      spelling = rw wrote (spells p fits);
+      padding = rw wrote (padding p);
+      round_trip = rw wrote (spelt_read (encoded p) p (spells p fits));
     }
