@@ -4,7 +4,7 @@ use Rattle.{net_plan.specs.declared.{network.Network.Network, tables.Row.Row}, s
 use Rattle.{net_plan.specs.declared.tables.{Link.Link, VirtualLink.VirtualLink}, schedule_tables.specs.declared.rule.Rule.TheVariants.{Forwarding, Sources}}
 use Rattle.{schedule_tables.specs.{Rules.KeepsRules, Schedule.Coincide, Windows.OccursIn}, std.proofs.lemmas.Bool.{cases_eq, cases_lt}}
 use Rattle.std.proofs.Common.{◌%◌, ◌*◌, ◌+◌, ◌-◌, ◌/◌, ◌<◌, ◌^◌, ◌∙◌, ◌∷◌, ◌≡◌, ◌≢◌, ◌≤◌, ◌⊎◌, None, Option, Some, [], ap, arith, div-add-mod', inl, inr, min}
-use Rattle.std.{proofs.{Common.{pow-add, pow_mono, pow_pos, subst, suc, sym, zero, ℕ}, Math.Nat.{min-eq_left, min_comm, mod-mod}}, specs.List.Contains}
+use Rattle.std.{proofs.{Common.{pow-add, pow_mono, pow_pos, suc, sym, zero, ℕ}, Math.Nat.{min-eq_left, min_comm, mod-mod}}, specs.List.Contains}
 use Rattle.tte_units.{proofs.general_lemmas.Lists.period_power, specs.Amount.amount}
 
 -- an entry is made of its row, its virtual link and its link
@@ -33,8 +33,8 @@ begun_below (suc bound) place entry keeps is below =
             let k = other.1.0 in
             let enters = other.1.2 in
             let behind = (keeps Forwarding place).from_switch k enters.entry entry enters.is is (sym enters.same_vl) not enters.target in
-            let first = begun_below bound k enters.entry keeps enters.is (omega (arith, behind, below)) in
-            omega (arith, behind, first)
+            let first = begun_below bound k enters.entry keeps enters.is (omega arith) in
+            omega arith
       ]
     ]
 
@@ -44,14 +44,14 @@ mod_of_multiple n m c pos =
     let r = n % (m * c) in
     let one = div-add-mod' n (m * c) in
     let two = div-add-mod' (n % (m * c)) c in
-    let whole : (n / (m * c) * m + r / c) * c + r % c ≡ n = omega (arith, one, two) in
-    sym (mod-mul-add (n / (m * c) * m + r / c) c (r % c) (mod_below r c pos)) ∙ ap (λ (x : ℕ). x % c) whole
+    let whole : (n / (m * c) * m + r / c) * c + r % c ≡ n = omega arith in
+    sym (mod-mul-add (n / (m * c) * m + r / c) c (r % c) (mod_below r c pos)) ∙ (rw whole)
 
 -- a remainder by a power of two leaves that by a lesser one
 pub mod_of_powers : (n a b : ℕ) → b ≤ a → n % 2 ^ a % 2 ^ b ≡ n % 2 ^ b
 mod_of_powers n a b le =
-    let split : 2 ^ (a - b) * 2 ^ b ≡ 2 ^ a = sym (pow-add 2 (a - b) b) ∙ ap (λ (k : ℕ). 2 ^ k) (omega (arith, le)) in
-    subst (λ (x : ℕ). n % x % 2 ^ b ≡ n % 2 ^ b) split (mod_of_multiple n (2 ^ (a - b)) (2 ^ b) (pow_pos b))
+    let split : 2 ^ (a - b) * 2 ^ b ≡ 2 ^ a = sym (pow-add 2 (a - b) b) ∙ ap (λ k. 2 ^ k) (omega (arith, le)) in
+    rw split at (mod_of_multiple n (2 ^ (a - b)) (2 ^ b) (pow_pos b))
 
 -- the remainders of a number by two periods agree by the lesser one
 pub periods_agree : (n p q : ℕ) → Contains (1 ∷ 2 ∷ 4 ∷ 8 ∷ 16 ∷ 32 ∷ 64 ∷ []) p → Contains (1 ∷ 2 ∷ 4 ∷ 8 ∷ 16 ∷ 32 ∷ 64 ∷ []) q
@@ -62,11 +62,11 @@ periods_agree n p q one two =
     elim (cases_lt a.0 b.0) [
       | inl lt ↦
           let least : min (2 ^ a.0) (2 ^ b.0) ≡ 2 ^ a.0 = min-eq_left (pow_mono (omega (arith, lt))) in
-          let same : n % 2 ^ a.0 % 2 ^ a.0 ≡ n % 2 ^ b.0 % 2 ^ a.0 = mod-mod n (2 ^ a.0) ∙ sym (mod_of_powers n b.0 a.0 (omega (arith, lt))) in
+          let same = mod-mod n (2 ^ a.0) ∙ sym (mod_of_powers n b.0 a.0 (omega arith)) in
           rw (a.1, b.1, least) same
       | inr ge ↦
-          let least : min (2 ^ a.0) (2 ^ b.0) ≡ 2 ^ b.0 = min_comm (2 ^ a.0) (2 ^ b.0) ∙ min-eq_left (pow_mono ge) in
-          let same : n % 2 ^ a.0 % 2 ^ b.0 ≡ n % 2 ^ b.0 % 2 ^ b.0 = mod_of_powers n a.0 b.0 ge ∙ sym (mod-mod n (2 ^ b.0)) in
+          let least = min_comm (2 ^ a.0) (2 ^ b.0) ∙ min-eq_left (pow_mono ge) in
+          let same = mod_of_powers n a.0 b.0 ge ∙ sym (mod-mod n (2 ^ b.0)) in
           rw (a.1, b.1, least) same
     ]
 

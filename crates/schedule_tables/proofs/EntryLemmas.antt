@@ -2,7 +2,7 @@
 use Rattle.{net_plan.specs.Ranges.{IsLinkInRange, IsRowInRange, IsVlInRange}, schedule_tables.specs.Entries.{EntriesAreInRange, EntryIsOne, IsEntry}}
 use Rattle.{net_plan.specs.declared.{network.Network.Network, tables.VirtualLink.VirtualLink}, tte_units.proofs.general_lemmas.Lists.{in_all, pushed}}
 use Rattle.{net_plan.specs.declared.tables.{Link.Link, Row.Row}, std.specs.Prelude.slice_get, tte_units.proofs.general_lemmas.Options.one}
-use Rattle.{schedule_tables.specs.declared.entry.Entry.Entry, std.proofs.Common.{◌++◌, ◌∙◌, ◌∷◌, ◌≡◌, List, Some, [], arith, length, subst, sym, ℕ, ⊎_elim}}
+use Rattle.{schedule_tables.specs.declared.entry.Entry.Entry, std.proofs.Common.{◌++◌, ◌∙◌, ◌∷◌, ◌≡◌, List, Some, [], arith, length, ℕ, ⊎_elim}}
 
 pub in_range : EntriesAreInRange
 in_range n i e range is = record {
@@ -23,6 +23,6 @@ pub entry_pushed : {n : Network} (entries : List Entry) {e : Entry} {count : ℕ
     → IsEntry n place entry
 entry_pushed {n} entries {e} {count} len is each place entry h =
     ⊎_elim
-    (λ (g : slice_get entries place ≡ Some entry). each place entry g)
-    (λ (g : (place ≡ length entries) × (e ≡ entry)). subst (λ p. IsEntry n p entry) (sym (g.0 ∙ len)) (subst (λ x. IsEntry n count x) g.1 is))
+    (λ g. each place entry g)
+    (λ g. rw (g.0 ∙ len) (rw g.1 at is))
     (pushed entries e entry place h)

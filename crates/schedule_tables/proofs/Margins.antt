@@ -1,14 +1,14 @@
 -- The rules of a network's times leave the margins.
 use Rattle.{net_plan.specs.{Bounds.IsBeta, Rules.{KeepsShapeRules, RulesGiveTrees}}, tte_units.proofs.general_lemmas.{Lists.in_all, Options.{closed, opened}}}
-use Rattle.net_plan.specs.{Paths.{IsPath, IsTree, IsUplink}, declared.{ids.{DeviceId.DeviceId, LinkId.LinkId}, network.Network.Network, tables.Device.Device}}
-use Rattle.net_plan.specs.{Places.{IsDeviceOf, IsEndSystem, IsRoleOf, IsSwitchOf, device_at, is_end_system, is_master, link_at}, Ranges.{IsInRange, IsWithin}}
-use Rattle.{net_plan.specs.declared.tables.Link.Link, std.{proofs.lemmas.Bool.false≢true, specs.{List.{All, filter}, Option.option_map_or}}}
+use Rattle.net_plan.specs.{Paths.{IsPath, IsTree, IsUplink}, declared.{ids.{DeviceId.DeviceId, LinkId.LinkId}, network.Network.Network}}
+use Rattle.net_plan.specs.{Places.{IsDeviceOf, IsSwitchOf, device_at, is_end_system, is_master, link_at}, Ranges.{IsInRange, IsWithin}}
+use Rattle.{net_plan.specs.declared.tables.Link.Link, std.{proofs.lemmas.Bool.false≢true, specs.{List.{All, filter}}}}
 use Rattle.{net_plan.specs.declared.tables.Role.{Role, TheVariants.{Client, Cm, Master, Relay}}, tte_units.specs.declared.frames.channel.Channel.TheVariants.A}
 use Rattle.schedule_tables.specs.Delays.{CorrectionFits, ErrorsSettle, PrecisionFits, ScheduleFits, delay_by, delay_of, pcf_port_time}
 use Rattle.schedule_tables.specs.{Margins.{CycleHasRoom, DriftHasRoom, ErrorsAreSmall, PrecisionHasRoom, RulesGiveMargins, SettledHasRoom}, Rules.KeepsRules}
 use Rattle.schedule_tables.specs.declared.rule.Rule.TheVariants.{CompressionMasters, Connections, Correction, Delays, DevicesDiffer, Joints, Limits}
 use Rattle.schedule_tables.specs.declared.rule.Rule.TheVariants.{LinksDiffer, Masters, Precision, ScheduleStart, Settling}
-use Rattle.std.proofs.Common.{◌*◌, ◌+◌, ◌/◌, ◌^◌, ◌∙◌, ◌∷◌, ◌≡◌, ◌≤◌, ◌⊎◌, List, Option, Some, [], ap, arith, get_or, inl, inr, pos, refl, suc, ℕ, ⊎_elim}
+use Rattle.std.proofs.Common.{◌*◌, ◌+◌, ◌/◌, ◌^◌, ◌∙◌, ◌∷◌, ◌≡◌, ◌≤◌, ◌⊎◌, List, Some, [], ap, arith, get_or, inl, inr, pos, refl, suc, ℕ, ⊎_elim}
 use Rattle.{std.proofs.lemmas.{Int.ints, List.{Elements.All-weaker, Sums.sum_by-cons}, Option.slice_get-get_or}, tte_units.specs.declared.units.Units.Units}
 use Rattle.{std.specs.Prelude.{Bool, false, if◌then◌else◌, length, slice_get, true}, tte_units.specs.{Amount.amount, declared.frames.channel.Channel.Channel}}
 
@@ -18,7 +18,7 @@ amount_within h = (omega (arith, ints, h.least, h.most), omega (arith, ints, h.l
 
 -- half of a quotient
 halved : (a b : ℕ) → b ≡ 2 * a → 2 * (a / 10 ^ 9) ≤ b / 10 ^ 9
-halved a b e = omega (arith, e)
+halved a b e = omega arith
 
 drift_room : {n : Network} → IsInRange n → DriftHasRoom n
 drift_room range = grind (arith, amount_within, halved)
@@ -29,9 +29,9 @@ precision_room beta range drift fits is =
     let e = fits.errors beta is in
     let calc = (amount_within range.calc).0 in
     record {
-      eight_errors = omega (arith, e, drift.two_drifts, drift.two_readings, drift.four_readings, drift.grain);
+      eight_errors = omega (arith, drift.two_drifts, drift.two_readings, drift.four_readings, drift.grain);
       compression_most = omega (arith, fits.calc);
-      compression_least = omega (arith, calc);
+      compression_least = omega arith;
     }
 
 settled_room : {n : Network} (beta : ℕ) → DriftHasRoom n → ErrorsSettle n → IsBeta n (pos beta)
@@ -39,7 +39,7 @@ settled_room : {n : Network} (beta : ℕ) → DriftHasRoom n → ErrorsSettle n 
 settled_room beta drift settle is =
     let e = settle beta is in
     record {
-      errors = omega (arith, e, drift.two_drifts, drift.two_readings, drift.four_readings, drift.grain);
+      errors = omega (arith, drift.two_drifts, drift.two_readings, drift.four_readings, drift.grain);
       spread = omega (arith, drift.two_drifts, drift.two_readings);
       more = omega arith;
     }
@@ -94,11 +94,11 @@ master_ends Relay e = absurd (false≢true e)
 pub some_link : (n : Network) → KeepsRules n → (place : ℕ) × (link : Link) × (slice_get n.link place ≡ Some link)
 some_link n keeps =
     let four = (keeps Masters 0).least refl in
-    let m = kept (λ (d : Device). is_master d.role) n.device (omega (arith, four)) in
-    let end : IsEndSystem n (record { 0 = m.0 }) = closed (λ (d : Device). is_end_system d.role ≡ true) (slice_get n.device m.0) m.1 m.2
+    let m = kept (λ d. is_master d.role) n.device (omega arith) in
+    let end = closed (λ d. is_end_system d.role ≡ true) (slice_get n.device m.0) m.1 m.2
     (master_ends m.1.role m.3) in
     let up = (keeps Connections m.0).ends end A in
-    let l = opened (λ (l : Link). (l.child ≡ record { 0 = m.0 }) × IsSwitchOf n A l.parent) (link_at n up.0) up.1 in
+    let l = opened (λ l. (l.child ≡ record { 0 = m.0 }) × IsSwitchOf n A l.parent) (link_at n up.0) up.1 in
     (up.0.0, l.0, l.1)
 
 module _ {n : Network} (beta : ℕ) (tree : IsTree n) (keeps : KeepsRules n) (is : IsBeta n (pos beta)) where
@@ -108,33 +108,33 @@ module _ {n : Network} (beta : ℕ) (tree : IsTree n) (keeps : KeepsRules n) (is
       → beta + delay_by link ≤ amount n.dmax
   first_link c d place link at up member [] path = absurd (tree.root c d (record { 0 = place }) path up)
   first_link c d place link at up member (l ∷ ls) path =
-      let k = opened (λ (x : Link). (x.child ≡ d) × IsSwitchOf n c x.parent × IsPath n c x.parent ls) (link_at n l)
+      let k = opened (λ x. (x.child ≡ d) × IsSwitchOf n c x.parent × IsPath n c x.parent ls) (link_at n l)
       path in
-      let also : IsUplink n c d l =
-      closed (λ (x : Link). (x.child ≡ d) × IsSwitchOf n c x.parent) (link_at n l) k.0 k.1 (k.2.0, k.2.1) in
+      let also =
+      closed (λ x. (x.child ≡ d) × IsSwitchOf n c x.parent) (link_at n l) k.0 k.1 (k.2.0, k.2.1) in
       let same = tree.one_uplink c d l (record { 0 = place }) also up in
       let here : delay_of n l ≡ delay_by link =
-      ap (delay_of n) same ∙ ap (λ (o : Option Link). option_map_or delay_by o 0) at in
+      ap (delay_of n) same ∙ (rw at) in
       let all = keeps Delays d.0 beta c (l ∷ ls) is member path in
-      omega (arith, all, here, sum_by-cons (delay_of n) l ls)
+      omega (arith, sum_by-cons (delay_of n) l ls)
 
   -- dmax has room for the delays of each link, which begins the path of its child
   link_room : (place : ℕ) (link : Link) → slice_get n.link place ≡ Some link → beta + delay_by link ≤ amount n.dmax
   link_room place link at =
       let joint = keeps Joints place link at in
-      let up : IsUplink n joint.0 link.child (record { 0 = place }) =
-      closed (λ (l : Link). (l.child ≡ link.child) × IsSwitchOf n joint.0 l.parent)
+      let up =
+      closed (λ l. (l.child ≡ link.child) × IsSwitchOf n joint.0 l.parent)
       (slice_get n.link place) link at (refl, joint.1) in
-      let member : IsDeviceOf n joint.0 link.child = ⊎_elim
-      (λ (e : IsEndSystem n link.child). let d = opened (λ (d : Device). is_end_system d.role ≡ true)
+      let member = ⊎_elim
+      (λ e. let d = opened (λ d. is_end_system d.role ≡ true)
       (device_at n link.child) e in
-      let r : IsDeviceOf n joint.0 link.child = closed
-      (λ (x : Device). (is_end_system x.role ≡ true) ⊎ (x.channel ≡ Some joint.0)) (device_at n link.child) d.0
+      let r = closed
+      (λ x. (is_end_system x.role ≡ true) ⊎ (x.channel ≡ Some joint.0)) (device_at n link.child) d.0
       d.1 (inl d.2) in r)
-      (λ (e : IsRoleOf n Relay joint.0 link.child). let d = opened
-      (λ (d : Device). (d.role ≡ Relay) × (d.channel ≡ Some joint.0)) (device_at n link.child) e in
-      let r : IsDeviceOf n joint.0 link.child = closed
-      (λ (x : Device). (is_end_system x.role ≡ true) ⊎ (x.channel ≡ Some joint.0)) (device_at n link.child) d.0
+      (λ e. let d = opened
+      (λ d. (d.role ≡ Relay) × (d.channel ≡ Some joint.0)) (device_at n link.child) e in
+      let r = closed
+      (λ x. (is_end_system x.role ≡ true) ⊎ (x.channel ≡ Some joint.0)) (device_at n link.child) d.0
       d.1 (inr d.2.1) in r)
       joint.2 in
       let path = tree.reach joint.0 link.child member in

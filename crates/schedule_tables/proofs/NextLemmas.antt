@@ -1,9 +1,9 @@
 -- The first slot behind a row's place is that of the next row.
 use Rattle.{net_plan.specs.declared.{ids.{DeviceId.DeviceId, RowId.RowId}, network.Network.Network}, std.proofs.lemmas.List.Elements.All-contains}
-use Rattle.{net_plan.specs.declared.tables.Row.Row, schedule_tables.specs.{Schedule.HasPeriod, TablesOf.AreTimedRows}, std.proofs.lemmas.Option.slice_get_read}
+use Rattle.{schedule_tables.specs.{Schedule.HasPeriod, TablesOf.AreTimedRows}, std.proofs.lemmas.Option.slice_get_read}
 use Rattle.{schedule_tables.proofs.OrderLemmas.{below_more, not_below_more, same_or_below}, tte_units.proofs.general_lemmas.Lists.period_divides}
 use Rattle.schedule_tables.specs.{Dispatches.{ComesBehind, HasNoNextRow, IsBelow, IsDispatched, IsNextRow, dispatch_order}, declared.tables.TimedRow.TimedRow}
-use Rattle.{schedule_tables.specs.Entries.IsEntry, std.specs.Option.option_map_or, tte_units.specs.Amount.amount}
+use Rattle.{schedule_tables.specs.Entries.IsEntry, tte_units.specs.Amount.amount}
 use Rattle.schedule_tables.specs.{Slots.{AreBelow, AreSlotsOf, IsFirstSlot, IsSlotOf, key_of, numbers_of, place_by}, declared.slot.Whose.TheVariants.Whole}
 use Rattle.{schedule_tables.specs.declared.{entry.Entry.Entry, slot.{DispatchPlace.DispatchPlace, Slot.Slot}}, tte_units.proofs.general_lemmas.Naturals.cases_of}
 use Rattle.std.proofs.Common.{◌%◌, ◌+◌, ◌<◌, ◌∙◌, ◌∷◌, ◌≡◌, ◌≤◌, List, None, Option, Some, [], ap, arith, get_or, inl, inr, length, refl, subst, sym, ℕ, ⊎_elim}
@@ -11,11 +11,11 @@ use Rattle.std.proofs.Common.{◌%◌, ◌+◌, ◌<◌, ◌∙◌, ◌∷◌, �
 -- a row's place by its entry
 pub place_is : {n : Network} (row : RowId) {e : Entry} → IsEntry n row.0 e
     → dispatch_order n row ≡ numbers_of (place_by e row)
-place_is row is = ap (λ (o : Option Row). option_map_or (λ r. amount r.offset ∷ r.link.0 ∷ row.0 ∷ []) o []) is.row
+place_is row is = rw is.row
 
 -- nothing is below the first place
 below_first : (a b c : ℕ) → IsBelow (a ∷ b ∷ c ∷ []) (0 ∷ 0 ∷ 0 ∷ []) → ⊥
-below_first a b c h = grind (arith, h)
+below_first a b c h = grind arith
 
 -- the place is behind that of the row, or the first where there is no row
 abbrev pub IsBoundOf : Network → Option RowId → DispatchPlace → Type 0
@@ -48,7 +48,7 @@ not_below n None place it row of at behind below = below_first it.offset it.link
 not_below n (Some other) place it row (e, is, more) at behind below =
     below_more it.offset it.link.0 it.row.0 (amount e.row.offset) e.row.link.0 other.0
     (subst (λ xs. IsBelow (numbers_of it) xs) more below)
-    (subst (λ xs. IsBelow xs (numbers_of it)) is (subst (λ xs. IsBelow (dispatch_order n other) xs) at behind))
+    (rw is at (rw at at behind))
 
 abbrev device_id : ℕ → DeviceId
 device_id n = record { 0 = n }
@@ -86,8 +86,8 @@ module _ (n : Network) (device : DeviceId) (cycle : ℕ) (after : Option RowId) 
       → IsBelow (key_of (slot_of n device cycle row is)) (key_of (bound_of device cycle place)) → ⊥
   not_low {row} is of behind below =
       elim below [
-        | inl less ↦ omega (arith, less)
-        | inr (_, inl less) ↦ omega (arith, less)
+        | inl less ↦ omega arith
+        | inr (_, inl less) ↦ omega arith
         | inr (_, inr (_, low)) ↦ not_below n after place (place_by is.entry row) row of (place_is row is.is) behind low
       ]
 
@@ -97,7 +97,7 @@ module _ (n : Network) (device : DeviceId) (cycle : ℕ) (after : Option RowId) 
       → IsFirstSlot slots (bound_of device cycle place) s → IsNextRow n device cycle after s.place.row
   is_next_row {slots} {s} begun are periods of same_device same_residue next =
       let is = All-contains (IsSlotOf n Whole) slots s are.sound next.there in
-      let place_of_s : dispatch_order n s.place.row ≡ numbers_of s.place =
+      let place_of_s =
       place_is s.place.row is.is ∙ ap numbers_of (sym is.place) in
       record {
         dispatched = record {
@@ -108,18 +108,18 @@ module _ (n : Network) (device : DeviceId) (cycle : ℕ) (after : Option RowId) 
             begun = begun;
             in_phase =
                 sym (period_divides cycle is.entry.vl.period (periods is.entry.row.vl.0 is.entry.vl is.is.vl).0)
-                ∙ ap (λ (x : ℕ). x % is.entry.vl.period) (sym same_residue) ∙ is.in_phase;
+                ∙ (rw (sym same_residue) is.in_phase);
           };
         };
         behind = comes_behind n after place s.place s.place.row of place_of_s
             (λ below. next.from (inr (same_device, inr (same_residue, below))));
         first = λ later other after_it.
             let t = slot_of n device cycle later other in
-            let place_of_t : dispatch_order n later ≡ numbers_of t.place = place_is later other.is in
+            let place_of_t = place_is later other.is in
             let out = next.first t (are.complete t (is_slot other periods)) (not_low other of after_it) in
             ⊎_elim
-            (λ (e : numbers_of s.place ≡ numbers_of t.place). inl (ap row_id (last_same e)))
-            (λ (l : IsBelow (numbers_of s.place) (numbers_of t.place)). inr (rw (place_of_s, place_of_t) l))
+            (λ e. inl (ap row_id (last_same e)))
+            (λ l. inr (rw (place_of_s, place_of_t) l))
             (same_or_below (numbers_of s.place) (numbers_of t.place) refl
             (λ l. out (inr (sym same_device, inr (sym same_residue, l)))));
       }

@@ -1,8 +1,8 @@
 -- The rows of a network with their places and windows.
 use Rattle.{net_plan.specs.declared.network.Network.Network, schedule_tables.specs.Windows.window_of, tte_units.proofs.general_lemmas.Lists.pushed}
 use Rattle.schedule_tables.{proofs.EntryLemmas.one_entry, specs.{TablesOf.{AreTimedRows, IsTimedRow}, declared.{entry.Entry.Entry, tables.TimedRow.TimedRow}}}
-use Rattle.{schedule_tables.specs.Entries.IsEntry, std.{proofs.lemmas.Option.slice_get_read, specs.Prelude.slice_get}}
-use Rattle.std.proofs.Common.{◌++◌, ◌+◌, ◌<◌, ◌∙◌, ◌∷◌, ◌≡◌, List, Some, [], ap, arith, get_or, length, length-append, refl, subst, sym, ℕ, ⊎_elim}
+use Rattle.{schedule_tables.specs.Entries.IsEntry, std.{proofs.lemmas.Option.slice_get_read}}
+use Rattle.std.proofs.Common.{◌++◌, ◌+◌, ◌<◌, ◌∙◌, ◌∷◌, ◌≡◌, List, [], ap, arith, get_or, length, length-append, refl, ℕ, ⊎_elim}
 
 -- one more row
 pub rows_more : {n : Network} {count : ℕ} {rows : List TimedRow} {row : TimedRow} → AreTimedRows n count rows
@@ -10,9 +10,9 @@ pub rows_more : {n : Network} {count : ℕ} {rows : List TimedRow} {row : TimedR
 rows_more {n} {count} {rows} {row} are is = record {
   count_is = omega (arith, length-append rows (row ∷ []), are.count_is);
   each = λ place other h. ⊎_elim
-      (λ (g : slice_get rows place ≡ Some other). are.each place other g)
-      (λ (g : (place ≡ length rows) × (row ≡ other)).
-      subst (λ p. IsTimedRow n p other) (sym (g.0 ∙ are.count_is)) (subst (λ x. IsTimedRow n count x) g.1 is))
+      (λ g. are.each place other g)
+      (λ g.
+      rw (g.0 ∙ are.count_is) (rw g.1 at is))
       (pushed rows row other place h);
 }
 

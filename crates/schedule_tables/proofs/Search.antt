@@ -2,7 +2,7 @@
 use Rattle.schedule_tables.{proofs.OrderLemmas.{Compares, below_itself, below_mono, lt_false, lt_true, slot_cmp, slot_compares}, specs.declared.slot.Slot.Slot}
 use Rattle.{schedule_tables.specs.Dispatches.IsBelow, std.{proofs.lemmas.Bool.{cases_Bool, cases_lt}, specs.{List.{AllPairs, Contains}, Prelude.slice_get}}}
 use Rattle.{schedule_tables.specs.Slots.{AreBelow, AreInOrder, IsFirstSlot, key_of}, std.proofs.lemmas.Option.{get_or_from_slice_get, slice_get_within}}
-use Rattle.std.proofs.Common.{◌<◌, ◌∙◌, ◌≡◌, ◌≤◌, List, Some, ap, arith, false, get_or, is_lt, length, refl, subst, sym, true, ℕ, ⊎_elim}
+use Rattle.std.proofs.Common.{◌∙◌, ◌≡◌, ◌≤◌, List, Some, ap, arith, false, get_or, is_lt, length, refl, sym, true, ℕ, ⊎_elim}
 use Rattle.{std.specs.{List.Sorted.{IsPartitionPoint, IsPartitionedBy}, declared.cmp.Ordering.Ordering}, tte_units.proofs.general_lemmas.Naturals.above_or_same}
 
 -- the comparison is that of the numbers, of which each thing has as many
@@ -23,15 +23,15 @@ pub parted : {X : Type 0} {numbers : X → List ℕ} {cmp : X → X → Ordering
     → (bound : X) (xs : List X) → Ascends numbers xs → IsPartitionedBy (λ x. is_lt (cmp x bound)) xs
 parted {numbers} {cmp} laws bound xs order i j d le within last =
     ⊎_elim
-    (λ (e : is_lt (cmp (get_or xs i d) bound) ≡ true). e)
-    (λ (e : is_lt (cmp (get_or xs i d) bound) ≡ false).
+    (λ e. e)
+    (λ e.
     ⊎_elim
-    (λ (l : i < j).
+    (λ l.
     let low = lt_true _ (numbers (get_or xs j d)) (numbers bound) (laws.compares (get_or xs j d) bound) last in
     let high = lt_false _ (numbers (get_or xs i d)) (numbers bound) (laws.compares (get_or xs i d) bound) e in
     absurd (order i j d l within (below_mono (numbers (get_or xs j d)) (numbers bound) (numbers (get_or xs i d)) (laws.as_many (get_or xs i d) bound) low
     high)))
-    (λ (s : i ≡ j). rw s last)
+    (λ s. rw s last)
     (above_or_same i j le))
     (cases_Bool (is_lt (cmp (get_or xs i d) bound)))
 
@@ -41,19 +41,19 @@ module _ {X : Type 0} {numbers : X → List ℕ} {cmp : X → X → Ordering} (l
   pub not_before : (has : Contains xs x) → (IsBelow (numbers x) (numbers bound) → ⊥) → place ≤ has.0
   not_before has out =
       ⊎_elim
-      (λ (l : has.0 < place).
+      (λ l.
       absurd (out
       (lt_true _ (numbers x) (numbers bound) (laws.compares x bound)
-      (ap (λ y. is_lt (cmp y bound)) (sym has.2) ∙ ends.0 has.0 x (omega arith) l))))
-      (λ (l : place ≤ has.0). l)
+      (rw (sym has.2) (ends.0 has.0 x (omega arith) l)))))
+      (λ l. l)
       (cases_lt has.0 place)
 
   -- what stands there is not below it
   pub not_below : slice_get xs place ≡ Some x → IsBelow (numbers x) (numbers bound) → ⊥
   not_below at =
       lt_false _ (numbers x) (numbers bound) (laws.compares x bound)
-      (ap (λ y. is_lt (cmp y bound)) (sym (get_or_from_slice_get xs place x x at))
-      ∙ ends.1 place x (omega arith) (slice_get_within xs place x at))
+      (rw (sym (get_or_from_slice_get xs place x x at))
+      (ends.1 place x (omega arith) (slice_get_within xs place x at)))
 
 -- nothing that stands no earlier than another is below it
 pub no_earlier : {X : Type 0} (numbers : X → List ℕ) (xs : List X) → Ascends numbers xs → (place : ℕ) (x : X) → slice_get xs place ≡ Some x
@@ -61,10 +61,10 @@ pub no_earlier : {X : Type 0} (numbers : X → List ℕ) (xs : List X) → Ascen
 no_earlier numbers xs order place x at y has le below =
     let found = get_or_from_slice_get xs place x y at in
     ⊎_elim
-    (λ (l : place < has.0). order place has.0 y l has.1 (rw (found, has.2) below))
-    (λ (e : place ≡ has.0).
+    (λ l. order place has.0 y l has.1 (rw (found, has.2) below))
+    (λ e.
     let same : y ≡ x = sym has.2 ∙ ap (λ k. get_or xs k y) (sym e) ∙ found in
-    below_itself (numbers x) (subst (λ z. IsBelow (numbers z) (numbers x)) same below))
+    below_itself (numbers x) (rw same at below))
     (above_or_same place has.0 le)
 
 -- ---- slots
@@ -86,4 +86,4 @@ is_first slots bound place order ends s at = record {
 pub none_left : (slots : List Slot) (bound : Slot) (place : ℕ) → Ends slot_cmp slots bound place → length slots ≤ place → AreBelow slots bound
 none_left slots bound place ends past other has out =
     let after = not_before slot_order slots bound place ends other has out in
-    omega (arith, has.1, past, after)
+    omega (arith, has.1)

@@ -1,4 +1,4 @@
-use Rattle.{schedule_tables.{proofs.EntryLemmas.entry_pushed, specs.declared.entry.Entry.Entry}, std.proofs.Common.{◌∷◌, [], ap, arith, length, length-append}}
+use Rattle.{schedule_tables.{proofs.EntryLemmas.entry_pushed}, std.proofs.Common.{◌∷◌, [], ap, arith, length, length-append}}
 use Rattle.schedule_tables.proofs.entry.entries_of.Goals as goal
 
 pub loop-place-preserved : goal.loop-place-preserved
@@ -6,7 +6,7 @@ loop-place-preserved c = record {
   count =
       omega (
         arith,
-        ap (length {A = Entry}) c.in-Ok.ensures.items,
+        ap (length) c.in-Ok.ensures.items,
         length-append c.loop-place.entries.items (c.entry_of.result ∷ []),
         c.loop-place.invariant.count,
       );
