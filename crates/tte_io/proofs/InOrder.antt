@@ -12,19 +12,19 @@ goes_on first given before left after left_after result h n =
       read = h.read ++ more;
       consumed = Consumes-trans first left left_after h.read more h.consumed n.consumed;
       same =
-          ap (λ (t : List ℕ). t ++ more) h.same ∙ append_assoc given (pending before) more ∙ ap (λ (t : List ℕ). given ++ t) n.nothing_lost
-          ∙ sym (append_assoc given n.given (pending after));
+          rw h.same (append_assoc given (pending before) more ∙ (rw n.nothing_lost
+          (sym (append_assoc given n.given (pending after)))));
     }
 
 few_ahead : (first : Option (List ℕ)) (given : List ℕ) (reader : LineReaderState) (left : Option (List ℕ)) (h : HasGiven first given reader left)
     → reader.kept ≡ [] → length reader.ahead ≤ ahead_limit → length h.read ≤ length given + ahead_limit
 few_ahead first given reader left h none few =
-    let all : h.read ≡ given ++ reader.ahead = h.same ∙ ap (λ (k : List ℕ). given ++ (k ++ reader.ahead)) none in
+    let all : h.read ≡ given ++ reader.ahead = h.same ∙ ap (λ k. given ++ (k ++ reader.ahead)) none in
     omega (arith, ap length all, length-append given reader.ahead)
 
 told : (first given : List ℕ) (reader : LineReaderState) (left : List ℕ) → HasGiven (Some first) given reader (Some left) → first ≡ given
     ++ (pending reader ++ left)
-told first given reader left h = h.consumed ∙ ap (λ (t : List ℕ). t ++ left) h.same ∙ append_assoc given (pending reader) left
+told first given reader left h = h.consumed ∙ (rw h.same (append_assoc given (pending reader) left))
 
 pub gives_in_order : GivesInOrder
 gives_in_order = record {

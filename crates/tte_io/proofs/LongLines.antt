@@ -1,5 +1,5 @@
 -- Lines, and octets that are too many for one.
-use Rattle.std.proofs.Common.{◌++◌, ◌+◌, ◌<◌, ◌∙◌, ◌≡◌, ◌≢◌, ◌≤◌, List, ap, append_assoc, arith, drop, length, length-append, length-take, subst, sym, take, ℕ}
+use Rattle.std.proofs.Common.{◌++◌, ◌+◌, ◌<◌, ◌∙◌, ◌≢◌, ◌≤◌, List, ap, append_assoc, arith, drop, length, length-append, length-take, subst, sym, take, ℕ}
 use Rattle.std.proofs.lemmas.List.{take-append-drop, take-append-le, Elements.{All-append, All-take}}
 use Rattle.tte_io.specs.Line.{IsTooLong, IsUnbroken, lf, line_limit}
 
@@ -9,11 +9,11 @@ pub too_long_behind : (line octets : List ℕ) (count : ℕ) → IsUnbroken line
 too_long_behind line octets count unbroken front within past =
     let P = λ (octet : ℕ). octet ≢ lf in
     let size = length-take count octets in
-    let joined : (line ++ take count octets) ++ drop count octets ≡ line ++ octets = append_assoc line (take count octets) (drop count octets)
-    ∙ ap (λ (t : List ℕ). line ++ t) (take-append-drop count octets) in
-    let same : take (line_limit + 1) (line ++ octets) ≡ take (line_limit + 1) (line ++ take count octets) =
+    let joined = append_assoc line (take count octets) (drop count octets)
+    ∙ (rw (take-append-drop count octets)) in
+    let same =
     sym (ap (take (line_limit + 1)) joined) ∙ take-append-le (line_limit + 1) (line ++ take count octets) (drop count octets)
-    (omega (arith, length-append line (take count octets), size)) in
+    (omega (arith, length-append line (take count octets))) in
     record {
       more = omega (arith, length-append line octets);
       unbroken = subst IsUnbroken (sym same) (All-take P (line_limit + 1) (line ++ take count octets) (All-append P line (take count octets) unbroken front));

@@ -41,13 +41,13 @@ module _ (before : List ℕ) (left_before : Option (List ℕ)) (line ahead : Lis
         (Consumes-trans left_before left left_after (m.earlier ++ m.last) [] m.consumed consumed);
     last_size = m.last_size;
     needed = m.needed;
-    same = m.same ∙ ap (λ (t : List ℕ). line ++ t) (sym (append-nil ahead) ∙ sym added);
+    same = m.same ∙ ap (λ t. line ++ t) (sym (append-nil ahead) ∙ sym added);
     is_line = m.is_line;
   }
   making_more (x ∷ xs) ahead_after left_after m consumed size added needed =
       let none : ahead ≡ [] = needed (λ e. cc) in
       let whole : before ++ (m.earlier ++ m.last) ≡ line =
-      m.same ∙ ap (λ (t : List ℕ). line ++ t) none ∙ append-nil line in
+      m.same ∙ ap (λ t. line ++ t) none ∙ append-nil line in
       record {
         earlier = m.earlier ++ m.last;
         last = x ∷ xs;
@@ -55,8 +55,8 @@ module _ (before : List ℕ) (left_before : Option (List ℕ)) (line ahead : Lis
         last_size = size;
         needed = λ _. subst IsLine (sym whole) m.is_line;
         same =
-            sym (append_assoc before (m.earlier ++ m.last) (x ∷ xs)) ∙ ap (λ (t : List ℕ). t ++ x ∷ xs) whole
-            ∙ ap (λ (t : List ℕ). line ++ t) (ap (λ (t : List ℕ). t ++ x ∷ xs) (sym none) ∙ sym added);
+            sym (append_assoc before (m.earlier ++ m.last) (x ∷ xs)) ∙ ap (λ t. t ++ x ∷ xs) whole
+            ∙ ap (λ t. line ++ t) (ap (λ t. t ++ x ∷ xs) (sym none) ∙ sym added);
         is_line = m.is_line;
       }
 
@@ -75,7 +75,7 @@ module _ (before : List ℕ) (left_before : Option (List ℕ)) (line ahead : Lis
     consumed = m.consumed;
     last_size = m.last_size;
     needed = m.needed;
-    same = m.same ∙ sym a.1 ∙ sym (append-nil line_after) ∙ ap (λ (t : List ℕ). line_after ++ t) (sym a.2);
+    same = m.same ∙ sym a.1 ∙ sym (append-nil line_after) ∙ ap (λ t. line_after ++ t) (sym a.2);
     is_line = a.0;
   }
 
@@ -241,9 +241,9 @@ made_next progress line ahead ended cleared now same is none keeps =
     let now_is : reader_state Taken line ahead ended ≡ now = ap (λ p. reader_state p line ahead ended) (sym is) ∙ same in
     let end : ended ≡ true → ahead ≡ [] = subst (λ p. KeepsEnd (reader_state p line ahead ended)) is keeps in
     record {
-      same = sym (ap (λ (r : LineReaderState). r.ended) now_is);
+      same = sym (ap (λ r. r.ended) now_is);
       none = λ on. (sym (ap pending now_is) ∙ end on, none, end on);
-      all = sym (ap pending now_is) ∙ ap (λ (t : List ℕ). t ++ ahead) (sym none);
+      all = sym (ap pending now_is) ∙ ap (λ t. t ++ ahead) (sym none);
     }
 
 pub made_on : (progress : Progress) (line ahead : List ℕ) (ended : Bool) (now : LineReaderState) → reader_state progress line ahead ended ≡ now
@@ -252,7 +252,7 @@ made_on progress line ahead ended now same is keeps =
     let now_is : reader_state Unfinished line ahead ended ≡ now = ap (λ p. reader_state p line ahead ended) (sym is) ∙ same in
     let end : ended ≡ true → line ++ ahead ≡ [] = subst (λ p. KeepsEnd (reader_state p line ahead ended)) is keeps in
     record {
-      same = sym (ap (λ (r : LineReaderState). r.ended) now_is);
+      same = sym (ap (λ r. r.ended) now_is);
       none = λ on. (sym (ap pending now_is) ∙ end on, (none_before line ahead (end on)).0, (none_before line ahead (end on)).1);
       all = sym (ap pending now_is);
     }
@@ -272,5 +272,4 @@ module _ {E : Type 0} (now : LineReaderState) (line ahead : List ℕ) (ended : B
       → MadeOf now line ahead ended → ended ≡ false → NextLine (line ++ ahead) false left after rest result
       → NextLine (pending now) now.ended left after rest result
   taken_of_made {after} {rest} {result} m off is =
-      subst (λ e. NextLine (pending now) e left after rest result) (sym (m.same ∙ off))
-      (subst (λ t. NextLine t false left after rest result) (sym m.all) is)
+      rw (sym (m.same ∙ off)) at (rw (sym m.all) at is)

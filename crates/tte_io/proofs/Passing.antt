@@ -1,5 +1,5 @@
 -- What was passed on of what was put.
-use Rattle.std.proofs.{Common.{◌++◌, ◌∙◌, ◌≡◌, ◌≤◌, List, Some, [], ap, append-nil, drop, length, sym, take, ℕ}, lemmas.List.{take-append-drop, take-append-le}}
+use Rattle.std.proofs.{Common.{◌++◌, ◌∙◌, ◌≡◌, ◌≤◌, List, Some, [], append-nil, drop, length, sym, take, ℕ}, lemmas.List.{take-append-drop, take-append-le}}
 use Rattle.tte_io.specs.Told.{PassesSome}
 
 module _ (passed written : List ℕ) (count : ℕ) (front : take count written ≡ passed) where
@@ -9,14 +9,14 @@ module _ (passed written : List ℕ) (count : ℕ) (front : take count written �
     more = [];
     grown = sym (append-nil passed);
     held = drop count written;
-    front = sym (take-append-drop count written) ∙ ap (λ (t : List ℕ). t ++ drop count written) front;
+    front = sym (take-append-drop count written) ∙ (rw front);
   }
 
   -- all of it
   pub passes_all : PassesSome (Some passed) (Some written) (Some written)
   passes_all = record {
     more = drop count written;
-    grown = sym (take-append-drop count written) ∙ ap (λ (t : List ℕ). t ++ drop count written) front;
+    grown = sym (take-append-drop count written) ∙ (rw front);
     held = [];
     front = sym (append-nil written);
   }

@@ -4,4 +4,4 @@ use Rattle.std.{proofs.{Common.{◌+◌, ◌-◌, ◌∙◌, ◌≡◌, ◌≤�
 pub drop-slice_range : (xs : List ℕ) (i n j : ℕ) → i + n ≤ j → drop n (slice_range xs i j) ≡ slice_range xs (i + n) j
 drop-slice_range xs i n j within =
     let size : j - i ≡ n + (j - (i + n)) = omega arith in
-    ap (λ (m : ℕ). drop n (take m (drop i xs))) size ∙ drop-take n (j - (i + n)) (drop i xs) ∙ ap (take (j - (i + n))) (drop-drop n i xs)
+    rw size (drop-take n (j - (i + n)) (drop i xs) ∙ ap (take (j - (i + n))) (drop-drop n i xs))

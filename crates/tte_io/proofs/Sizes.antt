@@ -9,22 +9,46 @@ size_step n some bound = omega (arith, ap length (decimal_step n some bound), le
 size_two : (n : ℕ) → 100 ≤ n → n < 2 ^ 64 → length (decimal n) ≡ 2 + length (decimal (n / 100))
 size_two n some bound =
     let same : n / 10 / 10 ≡ n / 100 = omega arith in
-    omega (arith, size_step n (omega arith) bound, size_step (n / 10) (omega arith) (omega arith), ap (λ (k : ℕ). length (decimal k)) same)
+    omega (
+      arith,
+      size_step n (omega arith) bound,
+      size_step (n / 10) (omega arith) (omega arith),
+      ap
+          (λ k. length (decimal k)) same,
+    )
 
 size_four : (n : ℕ) → 10000 ≤ n → n < 2 ^ 64 → length (decimal n) ≡ 4 + length (decimal (n / 10000))
 size_four n some bound =
     let same : n / 100 / 100 ≡ n / 10000 = omega arith in
-    omega (arith, size_two n (omega arith) bound, size_two (n / 100) (omega arith) (omega arith), ap (λ (k : ℕ). length (decimal k)) same)
+    omega (
+      arith,
+      size_two n (omega arith) bound,
+      size_two (n / 100) (omega arith) (omega arith),
+      ap
+          (λ k. length (decimal k)) same,
+    )
 
 pub size_eight : (n : ℕ) → 100000000 ≤ n → n < 2 ^ 64 → length (decimal n) ≡ 8 + length (decimal (n / 100000000))
 size_eight n some bound =
     let same : n / 10000 / 10000 ≡ n / 100000000 = omega arith in
-    omega (arith, size_four n (omega arith) bound, size_four (n / 10000) (omega arith) (omega arith), ap (λ (k : ℕ). length (decimal k)) same)
+    omega (
+      arith,
+      size_four n (omega arith) bound,
+      size_four (n / 10000) (omega arith) (omega arith),
+      ap
+          (λ k. length (decimal k)) same,
+    )
 
 pub size_sixteen : (n : ℕ) → 10000000000000000 ≤ n → n < 2 ^ 64 → length (decimal n) ≡ 16 + length (decimal (n / 10000000000000000))
 size_sixteen n some bound =
     let same : n / 100000000 / 100000000 ≡ n / 10000000000000000 = omega arith in
-    omega (arith, size_eight n (omega arith) bound, size_eight (n / 100000000) (omega arith) (omega arith), ap (λ (k : ℕ). length (decimal k)) same)
+    omega (
+      arith,
+      size_eight n (omega arith) bound,
+      size_eight (n / 100000000) (omega arith) (omega arith),
+      ap
+          (λ k. length (decimal k)) same,
+    )
 
 pub is_one : (n : ℕ) → n < 10 → length (decimal n) ≡ 1
 is_one n few = ap length (decimal_digit n few)

@@ -6,14 +6,13 @@ use Rattle.std.proofs.lemmas.List.{take-append-le}
 pub spelled_at : (old new word rest : List ℕ) (at : ℕ) → take at new ≡ take at old → drop at new ≡ word ++ rest
     → take (at + length word) new ≡ take at old ++ word
 spelled_at old new word rest at front back =
-    take-add at (length word) new ∙ ap (λ (t : List ℕ). t ++ take (length word) (drop at new)) front
-    ∙ ap (λ (t : List ℕ). take at old ++ take (length word) t) back ∙ ap (λ (t : List ℕ). take at old ++ t) (take-append_seam word rest)
+    take-add at (length word) new ∙ (rw front
+    ((rw back ((rw (take-append_seam word rest))))))
 
 -- of what is put behind a front, so much is taken
 pub put_behind : (xs ys rest zs : List ℕ) (len count : ℕ) → len ≤ length xs → count ≤ length ys → ys ≡ zs
     → take (len + count) (take len xs ++ (ys ++ rest)) ≡ take len xs ++ take count zs
 put_behind xs ys rest zs len count inside within is =
-    let size = length-take-le len xs inside in
-    ap (λ k. take (k + count) (take len xs ++ (ys ++ rest))) (sym size)
+    ap (λ k. take (k + count) (take len xs ++ (ys ++ rest))) (sym (length-take-le len xs inside))
     ∙ take-append-add (take len xs) (ys ++ rest) count
-    ∙ ap (λ l. take len xs ++ l) (take-append-le count ys rest within ∙ ap (take count) is)
+    ∙ (rw (take-append-le count ys rest within ∙ ap (take count) is))

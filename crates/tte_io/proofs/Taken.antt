@@ -13,6 +13,6 @@ pub given_front : (xs left copied rest : List ℕ) (taken n : ℕ) → drop take
     → left ≡ take n (copied ++ rest) ++ drop (taken + n) xs
 given_front xs left copied rest taken n is copy within =
     let size : length copied ≡ n = omega (arith, ap (λ l. length l) copy, length-take n left) in
-    let front = take-append-le n copied rest (omega (arith, size)) ∙ take_all n copied (omega (arith, size)) ∙ copy in
-    let back = sym (drop-drop n taken xs) ∙ ap (λ (l : List ℕ). drop n l) is in
+    let front = take-append-le n copied rest (omega arith) ∙ take_all n copied (omega arith) ∙ copy in
+    let back = sym (drop-drop n taken xs) ∙ (rw is) in
     rw (front, back) (sym (take-append-drop n left))

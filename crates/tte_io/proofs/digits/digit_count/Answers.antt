@@ -17,7 +17,7 @@ pub overflow_add-result : goal.overflow_add-result
 overflow_add-result c =
     let all : 8 + c.count_below_eight-then-n-lt10000000000000000.result ≡ length (decimal c.args.n) =
     omega (arith, c.count_below_eight-then-n-lt10000000000000000.ensures, size_eight c.args.n (omega (arith, c.if-n-lt100000000.false)) c.ranges.n.fits) in
-    omega (arith, all, size_most c.args.n c.ranges.n.fits)
+    omega (arith, size_most c.args.n c.ranges.n.fits)
 
 pub overflow_add-result-else-n-lt10000000000000000 : goal.overflow_add-result-else-n-lt10000000000000000
 overflow_add-result-else-n-lt10000000000000000 c =
@@ -26,4 +26,4 @@ overflow_add-result-else-n-lt10000000000000000 c =
       c.count_below_eight-else-n-lt10000000000000000.ensures,
       size_sixteen c.args.n (omega (arith, c.if-n-lt10000000000000000.false)) c.ranges.n.fits,
     ) in
-    omega (arith, all, size_most c.args.n c.ranges.n.fits)
+    omega (arith, size_most c.args.n c.ranges.n.fits)

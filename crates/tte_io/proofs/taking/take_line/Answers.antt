@@ -1,4 +1,4 @@
-use Rattle.{std.proofs.{Common.{◌∙◌, arith, refl, subst}, lemmas.Result.err_from_is_err_and}, tte_io.specs.Faults.Rose}
+use Rattle.{std.proofs.{Common.{◌∙◌, arith, refl}, lemmas.Result.err_from_is_err_and}}
 use Rattle.tte_io.proofs.{Coming.outcome_told, Making.{found_too_long, kept_after_failure, making_advanced, making_filled, taken_at_end, taken_at_lf}}
 use Rattle.tte_io.proofs.taking.take_line.Goals as goal
 
@@ -52,4 +52,4 @@ returns-in_err-fill-clause-ok_unchanged g c = rw ((err_from_is_err_and c.from_re
 pub returns-in_err-fill-clause-failed_rose : goal.returns-in_err-fill-clause-failed_rose
 returns-in_err-fill-clause-failed_rose g c =
     let failure = err_from_is_err_and c.from_residual.result c.from_residual.ensures.1 in
-    rw failure.1 (subst (λ n. Rose n (g.S.Source.faults c.fill.new.source)) c.reads.invariant.unchanged c.in_err-fill.ensures.failed_rose)
+    rw failure.1 (rw c.reads.invariant.unchanged at c.in_err-fill.ensures.failed_rose)

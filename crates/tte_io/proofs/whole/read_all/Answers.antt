@@ -20,7 +20,7 @@ returns-then-count-limit-clause-taken g c =
     let piece = take c.in-Ok.count c.read.new.buf in (
       before ++ piece,
       let came = length-take c.in-Ok.count c.read.new.buf in
-          omega (arith, length-append before piece, came, c.read.auto.buf, c.pieces.invariant.within),
+          omega (arith, length-append before piece, c.read.auto.buf, c.pieces.invariant.within),
       Consumes-trans _ _ _ _ _ c.pieces.invariant.taken c.in-Ok.ensures.octets.0,
     )
 
@@ -30,6 +30,6 @@ returns-then-is_err-clause-taken g c =
     let piece = take c.in-Ok.count c.read.new.buf in (
       before ++ piece,
       let came = length-take c.in-Ok.count c.read.new.buf in
-          omega (arith, length-append before piece, came, c.read.auto.buf, c.pieces.invariant.within),
+          omega (arith, length-append before piece, c.read.auto.buf, c.pieces.invariant.within),
       Consumes-trans _ _ _ _ _ c.pieces.invariant.taken c.in-Ok.ensures.octets.0,
     )

@@ -1,8 +1,8 @@
-use Rattle.std.proofs.Common.{◌∙◌, ◌≡◌, Ok, ap, refl, subst, sym}
+use Rattle.std.proofs.Common.{◌∙◌, ◌≡◌, ap, refl, sym}
 use Rattle.tte_io.proofs.Making.{MadeOf, Making, found_ended, found_too_long, long_unended, made_next, made_on, making_next, making_on, still_too_long}
-use Rattle.tte_io.{proofs.{Making.taken_at_lf, lines.LineReader.line_ahead.Goals.{in-Taken, in-Unfinished}}, specs.{NextLine.NextLine, Progress.reader_state}}
-use Rattle.tte_io.specs.{ReaderState.{KeepsEnd, KeepsLongLine, LineReaderState, pending}, declared.ends.SourceFailed.SourceFailed}
-use Rattle.tte_io.specs.declared.lines.{LineTaken.TheVariants.Long, Progress.TheVariants.TooLong}
+use Rattle.tte_io.{proofs.{Making.taken_at_lf, lines.LineReader.line_ahead.Goals.{in-Taken, in-Unfinished}}, specs.{Progress.reader_state}}
+use Rattle.tte_io.specs.{ReaderState.{KeepsEnd, KeepsLongLine, pending}}
+use Rattle.tte_io.specs.declared.lines.{Progress.TheVariants.TooLong}
 use Rattle.tte_io.proofs.lines.LineReader.line_ahead.Goals as goal
 
 pub returns-in-TooLong-clause-found : goal.returns-in-TooLong-clause-found
@@ -11,11 +11,11 @@ returns-in-TooLong-clause-found c left =
     let is : reader_state TooLong r.line r.ahead r.ended ≡ c.args.self.now =
     ap (λ p. reader_state p r.line r.ahead r.ended) (sym c.in-TooLong.is) ∙ c.self.view_is in
     let long : KeepsLongLine (reader_state TooLong r.line r.ahead r.ended) =
-    subst (λ p. KeepsLongLine (reader_state p r.line r.ahead r.ended)) c.in-TooLong.is c.self.invariant.2 in
+    rw c.in-TooLong.is at c.self.invariant.2 in
     let end : KeepsEnd (reader_state TooLong r.line r.ahead r.ended) =
-    subst (λ p. KeepsEnd (reader_state p r.line r.ahead r.ended)) c.in-TooLong.is c.self.invariant.3 in
-    subst (λ (s : LineReaderState). NextLine {E = SourceFailed} (pending s) s.ended left s left (Ok Long)) is
-    (still_too_long r.line r.ahead r.ended left (long_unended r.line r.ahead r.ended (long refl) end) (long refl))
+    rw c.in-TooLong.is at c.self.invariant.3 in
+    rw (sym is) (still_too_long r.line r.ahead r.ended left (long_unended r.line r.ahead r.ended (long refl) end)
+    (long refl))
 
 pub returns-in-Ended-clause-found : goal.returns-in-Ended-clause-found
 returns-in-Ended-clause-found c left =

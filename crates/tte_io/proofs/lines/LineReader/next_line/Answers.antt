@@ -1,8 +1,8 @@
-use Rattle.{std.proofs.Common.{◌∙◌, ◌≡◌, Ok, ap, refl, subst, sym}, tte_io.specs.declared.lines.{LineTaken.TheVariants.Long, Progress.TheVariants.TooLong}}
-use Rattle.{std.proofs.lemmas.Result.err_from_is_err_and, tte_io.specs.{NextLine.NextLine, declared.ends.SourceFailed.SourceFailed}}
+use Rattle.{std.proofs.Common.{◌∙◌, ◌≡◌, ap, refl, sym}, tte_io.specs.declared.lines.{Progress.TheVariants.TooLong}}
+use Rattle.{std.proofs.lemmas.Result.err_from_is_err_and}
 use Rattle.tte_io.proofs.Coming.{outcome_told}
 use Rattle.tte_io.{proofs.Making.{MadeOf, found_ended, long_unended, made_next, made_on, still_too_long, taken_of_made}, specs.Progress.reader_state}
-use Rattle.tte_io.{proofs.lines.LineReader.next_line.Goals.{in-Taken, in-Unfinished}, specs.ReaderState.{KeepsEnd, KeepsLongLine, LineReaderState, pending}}
+use Rattle.tte_io.{proofs.lines.LineReader.next_line.Goals.{in-Taken, in-Unfinished}, specs.ReaderState.{KeepsEnd, KeepsLongLine}}
 use Rattle.tte_io.proofs.lines.LineReader.next_line.Goals as goal
 
 pub returns-in-TooLong-clause-next : goal.returns-in-TooLong-clause-next
@@ -12,11 +12,11 @@ returns-in-TooLong-clause-next g c =
     let is : reader_state TooLong r.line r.ahead r.ended ≡ c.args.self.now =
     ap (λ p. reader_state p r.line r.ahead r.ended) (sym c.in-TooLong.is) ∙ c.self.view_is in
     let long : KeepsLongLine (reader_state TooLong r.line r.ahead r.ended) =
-    subst (λ p. KeepsLongLine (reader_state p r.line r.ahead r.ended)) c.in-TooLong.is c.self.invariant.2 in
+    rw c.in-TooLong.is at c.self.invariant.2 in
     let end : KeepsEnd (reader_state TooLong r.line r.ahead r.ended) =
-    subst (λ p. KeepsEnd (reader_state p r.line r.ahead r.ended)) c.in-TooLong.is c.self.invariant.3 in
-    subst (λ (s : LineReaderState). NextLine {E = SourceFailed} (pending s) s.ended left s left (Ok Long)) is
-    (still_too_long r.line r.ahead r.ended left (long_unended r.line r.ahead r.ended (long refl) end) (long refl))
+    rw c.in-TooLong.is at c.self.invariant.3 in
+    rw (sym is) (still_too_long r.line r.ahead r.ended left (long_unended r.line r.ahead r.ended (long refl) end)
+    (long refl))
 
 pub returns-in-TooLong-clause-told : goal.returns-in-TooLong-clause-told
 returns-in-TooLong-clause-told g c = outcome_told _ _ _ (returns-in-TooLong-clause-next g c)

@@ -1,24 +1,21 @@
-use Rattle.std.proofs.Common.{◌+◌, ◌∙◌, ◌≡◌, ◌≤◌, List, ap, arith, drop, drop-drop, length, length-append, length-drop, refl, sym, take, ℕ}
-use Rattle.{std.proofs.lemmas.List.{drop_all, length-take}, tte_io.{proofs.Taken.given_front, specs.InMemory.SourceState}}
+use Rattle.std.proofs.Common.{◌+◌, ◌∙◌, ◌≤◌, ap, arith, drop, drop-drop, length, length-append, length-drop, refl, sym, take}
+use Rattle.{std.proofs.lemmas.List.{drop_all, length-take}, tte_io.{proofs.Taken.given_front}}
 use Rattle.tte_io.proofs.sources.MemorySourceSource.read.Goals as goal
 
 pub returns-clause-octets : goal.returns-clause-octets
 returns-clause-octets c =
     let s = c.self.inside in
     let n = c.min-count.result in
-    let state = ap (λ (s : SourceState). s.left) c.self.view_is in
-    let left : c.split_at.result.1.now ≡ c.args.self.now.left = c.split_at.ensures.back ∙ ap (λ (l : List ℕ). drop s.taken l) c.deref.ensures.value ∙ state in
-    let copy : c.copy_from_slice.new.self ≡ take n c.args.self.now.left =
-    c.copy_from_slice.ensures.after ∙ c.split_at-2.ensures.front ∙ ap (λ (l : List ℕ). take n l) left in
+    let state = ap (λ s. s.left) c.self.view_is in
+    let left = c.split_at.ensures.back ∙ (rw c.deref.ensures.value state) in
+    let copy =
+    c.copy_from_slice.ensures.after ∙ c.split_at-2.ensures.front ∙ ap (λ l. take n l) left in
     let size = ap (λ l. length l) left in
     let within : n ≤ length c.args.self.now.left = omega (arith, size, c.min.ensures, c.min-count.ensures) in (
       given_front s.octets.items _ _ (drop n c.args.buf.now) s.taken n state copy within,
       λ zero some. drop_all (s.taken + n) s.octets.items
           (omega (
             arith,
-            zero,
-            some,
-            size,
             ap (λ l. length l) state,
             length-drop s.taken s.octets.items,
             length-take n c.args.buf.now,
