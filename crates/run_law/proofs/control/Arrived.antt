@@ -71,7 +71,7 @@ goes_with true false frame point clock g =
       | inl e ↦ absurd cc
       | inr (inl e) ↦ absurd cc
       | inr (inr e) ↦
-          (let same : frame ≡ g.0 = cc in g.3 ∙ ap (λ f. f.clock) (sym same))
+          (let same : frame ≡ g.0 = cc in g.3 ∙ (rw (sym same)))
     ]
 goes_with false parent frame point clock g =
     elim g.4 [

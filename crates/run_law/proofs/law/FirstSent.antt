@@ -31,9 +31,7 @@ module _ {n : Network} (master : DeviceId) (link : LinkId) (l : Link) (range : I
       in_all IsDeviceInRange n.device l.parent.0 switch.0 range.devices switch.1 in
       let at : device_at n master ≡ Some switch.0 =
       rw (sym same) switch.1 in
-      let is : is_master switch.0.role ≡ true =
-      rw at at role in
-      let ends = master_ends switch.0.role is in
+      let ends = master_ends switch.0.role (rw at at role) in
       both_ways (is_some switch.0.channel) (known.switches ∙ not_from_true (is_end_system switch.0.role) ends)
       (rw switch.2)
 
@@ -90,7 +88,6 @@ whole_departs s ps h master cycle link frame found is of_frame child up correct 
     let t = leaving_time s link (time_of h) in
     let clock = clock_at_leaving s master frame (time_of h) t in
     let gives : Gives s.network (notes.Sent master cycle) master link = (refl, child) in
-    let old = le-ltb (amount s.network.dmax) clock young in
     let cut : is_cut s link (way_from s.network master link) t ≡ false = rw up whole in
     record {
       giving = h;
@@ -101,7 +98,7 @@ whole_departs s ps h master cycle link frame found is of_frame child up correct 
       held = ap (λ w. time_of h + hold_at s link w (time_of h)) (sym up);
       correct = correct;
       becomes =
-          sym (rw old
+          sym (rw (le-ltb (amount s.network.dmax) clock young)
           (ap (λ b. if b then on_cut_way else leaves clock) cut));
     }
 

@@ -1,6 +1,6 @@
 -- Lists of numbers with zeros behind them compare as the lists do.
 use Rattle.std.proofs.Common.{◌∙◌, ◌∷◌, ◌≡◌, ◌≤◌, List, [], ap, arith, false, get_or, length, refl, suc, sym, take, true, zero, ℕ}
-use Rattle.std.{proofs.lemmas.Bool.{le-ltb, lt-ltb, ne_eqb}, specs.Prelude.{◌&&◌, drop, nat_lt}}
+use Rattle.std.{proofs.lemmas.Bool.{le-ltb, lt-ltb, ne_eqb}, specs.Prelude.{drop, nat_lt}}
 use Rattle.run_law.specs.{plain.Places.{AreZero, before_then}, records.Order.is_before}
 
 -- zeros are before what is not only zeros, and then the rest counts
@@ -17,7 +17,7 @@ zeros_last (x ∷ xs) [] e z = absurd (omega arith)
 zeros_last (zero ∷ xs) (y ∷ ys) e z = rw z.0 (zeros_last xs ys (omega arith) z.1)
 zeros_last (suc x ∷ xs) (y ∷ ys) e z =
     rw (le-ltb (suc x) y (omega (arith, z.0)))
-    (ap (λ b. b && before_then xs ys false) (ne_eqb (suc x) y (λ same. absurd (omega (arith, z.0)))))
+    (rw (ne_eqb (suc x) y (λ same. absurd (omega (arith, z.0)))))
 
 more : (n m : ℕ) → nat_lt n m ≡ nat_lt (suc n) (suc m)
 more n m = grind (arith)

@@ -24,5 +24,5 @@ itself p q same = never p q same (is_before p q) refl
 -- of time 0, places compare as what is behind the time
 pub behind_time : (b : Bool) (p q xs ys : List ℕ) → xs ≡ 0 ∷ p → ys ≡ 0 ∷ q → b ≡ is_before xs ys → IsTrue b ↔ IsBefore p q
 behind_time b p q xs ys first second e =
-    let is = e ∙ ap (λ zs. is_before zs ys) first ∙ ap (is_before (0 ∷ p)) second in
+    let is = e ∙ (rw first (ap (is_before (0 ∷ p)) second)) in
     (λ yes. is_there p q (sym is ∙ yes), λ before. is ∙ before_is p q before)

@@ -3,7 +3,7 @@ use Rattle.{compression.proofs.Elements.{in_cases, in_none}, run_law.{proofs.Wor
 use Rattle.run_law.proofs.Words.{◌&&◌, ◌++◌, ◌+◌, ◌-◌, ◌<◌, ◌==◌, ◌∙◌, ◌∷◌, ◌≡◌, ◌≤◌, ◌⊎◌, Bool, Contains, IsBefore, IsIn, List, None, Option, Some, [], ap}
 use Rattle.run_law.proofs.Words.{arith, cases_lt, cons_option, eqb-true, false, filter_map, if◌then◌else◌, inl, inr, length, nat_lt, not, refl, slice_get}
 use Rattle.{run_law.proofs.runs.Places.in_parts, std.proofs.lemmas.Bool.{and_from, and_parts, cond-true, eq-eqb, lt-ltb, ltb-true, or_cases, or_left, or_right}}
-use Rattle.std.proofs.{Common.{◌||◌, All, cond, drop, filter, length-append, reverse, zero-add}, lemmas.List.Elements.{All-cons, All-head, All-nil, All-tail}}
+use Rattle.std.proofs.{Common.{◌||◌, All, drop, filter, length-append, reverse, zero-add}, lemmas.List.Elements.{All-cons, All-head, All-nil, All-tail}}
 use Rattle.std.{proofs.lemmas.List.{length-reverse, reverse-append}, specs.List.{after_last, list_any, prefix_len, suffix_len}}
 use Rattle.tte_units.proofs.general_lemmas.Lists.{all_turned}
 
@@ -25,7 +25,7 @@ pub same_kept : {X : Type 0} (p q : X → Bool) (xs : List X) → ((x : X) → I
 same_kept p q [] same = refl
 same_kept {X} p q (x ∷ xs) same =
     rw (same x (inl refl))
-    (ap (λ t. if q x then x ∷ t else t) (same_kept p q xs (λ y i. same y (inr i))))
+    (rw (same_kept p q xs (λ y i. same y (inr i))))
 
 pub is_there : (p q : List ℕ) → is_before p q ≡ true → IsBefore p q
 is_there p [] e = absurd cc
@@ -56,7 +56,7 @@ in_any p (y ∷ xs) x (inr more) e = or_right (p y) (list_any p xs) (in_any p xs
 pub all_kept : {X : Type 0} (p : X → Bool) (xs : List X) → ((x : X) → IsIn x xs → p x ≡ true) → filter p xs ≡ xs
 all_kept p [] all = refl
 all_kept {X} p (x ∷ xs) all =
-    rw (all x (inl refl)) (ap (λ t. x ∷ t) (all_kept p xs (λ y i. all y (inr i))))
+    rw (all x (inl refl)) (rw (all_kept p xs (λ y i. all y (inr i))))
 
 -- where some element passes, one is there that does
 pub any_in : {X : Type 0} (p : X → Bool) (xs : List X) → list_any p xs ≡ true → (x : X) × IsIn x xs × (p x ≡ true)
@@ -79,7 +79,7 @@ given_of {X} {Y} f (x ∷ xs) y i =
     (let r = given_of f xs y j in (r.0, inr r.1, r.2)) in
     elim (f x) as (λ o. f x ≡ o → IsIn y (cons_option o (filter_map f xs)) → (z : X) × IsIn z (x ∷ xs) × (f z ≡ Some y)) [
       | None ↦ λ e j. later j
-      | Some w ↦ λ e j. elim j [ inl same ↦ (x, inl refl, e ∙ ap (λ u. Some u) (sym same)) | inr more ↦ later more ]
+      | Some w ↦ λ e j. elim j [ inl same ↦ (x, inl refl, e ∙ (rw (sym same))) | inr more ↦ later more ]
     ] refl i
 
 -- what makes nothing of each makes nothing
@@ -102,7 +102,7 @@ place_order t u d a b xs ys (inr (same, inr (e, inr (f, inr more)))) = inr (omeg
 pub contains : {X : Type 0} (xs : List X) (x : X) → IsIn x xs → Contains xs x
 contains [] x there = absurd there
 contains (y ∷ xs) x (inl e) = (0, omega arith, sym e)
-contains (y ∷ xs) x (inr rest) = let c = contains xs x rest in let lt = c.1 in (suc c.0, omega arith, c.2)
+contains (y ∷ xs) x (inr rest) = let c = contains xs x rest in (suc c.0, omega arith, c.2)
 
 -- what a filter keeps passes its test
 pub has_passed : {X : Type 0} (p : X → Bool) (xs : List X) (x : X) → IsIn x (filter p xs) → p x ≡ true
@@ -116,7 +116,7 @@ has_passed p (y ∷ xs) x i =
 -- where none passes, no test does
 pub none_any : {X : Type 0} (p : X → Bool) (xs : List X) → ((x : X) → IsIn x xs → p x ≡ false) → list_any p xs ≡ false
 none_any p [] none = refl
-none_any p (x ∷ xs) none = (let here = none x (inl refl) in rw here (none_any p xs (λ y i. none y (inr i))))
+none_any p (x ∷ xs) none = (rw (none x (inl refl)) (none_any p xs (λ y i. none y (inr i))))
 
 pub prefix_more : {X : Type 0} (p : X → Bool) (xs ys : List X) → All (λ x. p x ≡ true) xs → prefix_len p (xs ++ ys) ≡ length xs + prefix_len p ys
 prefix_more p [] ys h = sym (zero-add _)
@@ -128,7 +128,7 @@ pub suffix_more : {X : Type 0} (p : X → Bool) (xs ys : List X) → All (λ x. 
 suffix_more p xs ys h =
     ap (prefix_len p) (reverse-append xs ys)
     ∙ prefix_more p (reverse ys) (reverse xs) (all_turned (λ x. p x ≡ true) ys h)
-    ∙ ap (λ n. n + prefix_len p (reverse xs)) (length-reverse ys)
+    ∙ (rw (length-reverse ys))
 
 pub drop_more : {X : Type 0} (n : ℕ) (xs ys : List X) → n ≤ length xs → drop n (xs ++ ys) ≡ drop n xs ++ ys
 drop_more zero xs ys le = refl
@@ -162,7 +162,7 @@ pub prefix_same : {X : Type 0} (p q : X → Bool) (xs : List X) → ((x : X) →
 prefix_same p q [] same = refl
 prefix_same p q (x ∷ xs) same =
     rw (same x (inl refl))
-    (ap (λ n. cond (q x) (1 + n) 0) (prefix_same p q xs (λ y i. same y (inr i))))
+    (rw (prefix_same p q xs (λ y i. same y (inr i))))
 
 -- what stands behind the last that passes is the same by a test that agrees on the list
 pub after_same : {X : Type 0} (p q : X → Bool) (xs : List X) → ((x : X) → IsIn x xs → p x ≡ q x) → after_last p xs ≡ after_last q xs

@@ -1,14 +1,14 @@
 -- A record that is due is determined by its place.
 use Rattle.{compression.specs.declared.compressed.Compressed.Compressed, net_plan.proofs.SameIds.{same_device, same_link, same_vl}, std.proofs.Common.negsuc}
 use Rattle.{net_plan.specs.declared.event.What.TheVariants.On, sync_state.proofs.LawLemmas.one_verdict, tte_units.proofs.general_lemmas.Integers.same_number}
-use Rattle.run_law.proofs.Words.{◌+ℤ◌, ◌∙◌, ◌∷◌, ◌≡◌, ◌≤ℤ◌, Arrival, ArrivesAs, BecomesPermanent, ChangesState, Departs, DeviceId, Event, Happening}
+use Rattle.run_law.proofs.Words.{◌∙◌, ◌∷◌, ◌≡◌, ◌≤ℤ◌, Arrival, ArrivesAs, BecomesPermanent, ChangesState, Departs, DeviceId, Event, Happening}
 use Rattle.run_law.proofs.Words.{IsArrivedRecord, IsCaused, IsDetermined, IsDropped, IsDue, Judgement, LinkId, List, Members, Note, NoteBody, Reason, Scenario}
 use Rattle.run_law.proofs.Words.{State, Units, What, Why, [], amount, ap, arith, happening, inl, inr, ints, is_joined_by, key, members_in}
 use Rattle.run_law.proofs.Words.{numbered, place_of, pos, rank, refl, ripe_as, same_some, slice_get, subst, suc, sym, true, unsigned_abs, zero, ℕ, ℤ}
 use Rattle.run_law.proofs.runs.SameSteps.{arrives_or_departs, arrives_or_ripens, dropped_or_departs, same_arrival, same_departure, same_judgement, same_point}
 use Rattle.{run_law.{proofs.runs.SameSteps.same_ripening, specs.{control.Emissions.Emits, records.Causes.IsOfThisTime}}}
 use Rattle.run_law.specs.{control.Corrections.{ComesToCorrection, standing_before}, runs.DueRecords.{IsClockRecord, IsCorrectedRecord, IsEventRecord}}
-use Rattle.{run_law.specs.{control.Leaving.leaves, device.States.adjustment_before}, sync_state.specs.declared.answers.Verdict.Verdict}
+use Rattle.{run_law.specs.{control.Leaving.leaves}, sync_state.specs.declared.answers.Verdict.Verdict}
 use Rattle.run_law.specs.records.Ranks.{sign}
 use Rattle.sync_state.{proofs.membership_lemmas.OneSummary.one_summary}
 use Rattle.run_law.specs.declared.judgement.Why.TheVariants as whys
@@ -27,7 +27,7 @@ same_time a b begun after same = same_units a b (same_number a.0 b.0 begun after
 -- numbers of one amount and one sign are one
 same_signed : (a b : ℤ) → unsigned_abs a ≡ unsigned_abs b → sign a ≡ sign b → a ≡ b
 same_signed (pos m) (pos n) same signs = ap pos same
-same_signed (negsuc m) (negsuc n) same signs = let one : m ≡ n = omega (arith, ints) in ap negsuc one
+same_signed (negsuc m) (negsuc n) same signs = ap negsuc (omega (arith, ints))
 same_signed (pos m) (negsuc n) same signs = absurd (omega arith)
 same_signed (negsuc m) (pos n) same signs = absurd (omega arith)
 
@@ -77,9 +77,8 @@ module _ (s : Scenario) (hs : List Happening) (t : ℕ) (device : DeviceId) (cyc
   same_verdict : {v w : Verdict} → ComesToCorrection s hs device t cycle v → ComesToCorrection s hs device t other w
       → v ≡ w
   same_verdict {v} {w} a b =
-      let heard = one_summary _ a.summary b.summary a.heard b.heard in
       one_verdict (standing_before s hs device t) a.summary v w a.comes
-      (rw heard b.comes)
+      (rw (one_summary _ a.summary b.summary a.heard b.heard) b.comes)
 
   same_corrected : {by gain adjustment later : Units} → IsCorrectedRecord s hs device t cycle by adjustment
       → IsCorrectedRecord s hs device t other gain later
@@ -88,11 +87,10 @@ module _ (s : Scenario) (hs : List Happening) (t : ℕ) (device : DeviceId) (cyc
       let cycles = same_cycle a.corrected b.corrected in
       let verdicts = same_verdict a.corrected b.corrected in
       let gains : by ≡ gain = cc in
-      let sums = same_units adjustment later (a.sum ∙ ap (λ u. (adjustment_before s hs device t).0 +ℤ u.0)
-      gains ∙ sym b.sum) in
+      let sums = same_units adjustment later (a.sum ∙ (rw gains (sym b.sum))) in
       rw cycles
-      (ap (λ u. notes.Corrected device other u adjustment) gains
-      ∙ ap (λ u. notes.Corrected device other gain u) sums)
+      (rw gains
+      ((rw sums)))
 
 -- ---- states
 
@@ -127,7 +125,7 @@ module _ (s : Scenario) (hs : List Happening) (t : ℕ) (device : DeviceId) (cau
   same_change whys.On whys.Frame a b =
       absurd (event_tells device a.2.0 (On device) (tells_as device _ _ (same_cause b.1.1 a.2.2 ∙ a.2.3) b.1.2))
   same_change whys.On whys.Correction a b =
-      let bodies = sym a.2.3 ∙ same_cause a.2.2 b.2.4 ∙ b.2.5 in absurd cc
+      absurd cc
   same_change whys.On whys.SyncClique a b = absurd (no_cause cause b.1 a.2.2)
   same_change whys.On whys.AsyncClique a b = absurd (no_cause cause b.1 a.2.2)
   same_change whys.Frame whys.On a b =
@@ -183,7 +181,7 @@ moved P {other} {link} {by} {cause} same there =
 remade : (made : DeviceId → LinkId → ℕ → NoteBody) {device other : DeviceId} {link by : LinkId} {cause from : ℕ}
     → IsSameRoute device other link by cause from → made device link cause ≡ made other by from
 remade made {other} {link} {by} {cause} same =
-    rw same.devices (ap (λ l. made other l cause) same.links ∙ ap (λ c. made other by c) same.causes)
+    rw same.devices (rw same.links ((rw same.causes)))
 
 module _ (s : Scenario) (hs : List Happening) (t : ℕ) (device : DeviceId) (link : LinkId) (cause : ℕ)
     (reason other : Reason) where
@@ -210,8 +208,7 @@ same_permanent : {s : Scenario} {hs : List Happening} {t : ℕ} {device : Device
     → notes.Permanent device link cause p v ≡ notes.Permanent device link cause q w
 same_permanent {s} {hs} {t} {device} {link} {cause} {q} v w a b =
     rw (same_point s hs t device link cause a.permanent b.permanent)
-    (ap (λ j. notes.Permanent device link cause q j)
-    (same_judgement v w (same_ripening s hs t device link cause a b)))
+    (rw (same_judgement v w (same_ripening s hs t device link cause a b)))
 
 -- what a compression master sends is heard in one way
 same_heard : {s : Scenario} {hs : List Happening} {t : ℕ} {device : DeviceId} {sent : Compressed} {v w : Judgement}
@@ -300,8 +297,7 @@ same_body s hs time m n (notes.Lost device link cause) (notes.Lost other by from
     remade (λ d l c. notes.Lost d l c) (same_route device other link by cause from [] [] keys)
 same_body s hs time m n (notes.TtSent device link cause vl cycle) (notes.TtSent other by from second number) a b kinds keys =
     let same = same_route device other link by cause from (vl.0 ∷ cycle ∷ []) (second.0 ∷ number ∷ []) keys in
-    let ids : vl.0 ≡ second.0 = cc in
-    let vls : vl ≡ second = same_vl vl second ids in
+    let vls : vl ≡ second = same_vl vl second cc in
     let cycles : cycle ≡ number = cc in
     rw vls
     (ap (λ (k : ℕ). notes.TtSent device link cause second k) cycles

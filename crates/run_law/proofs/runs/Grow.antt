@@ -35,12 +35,12 @@ in_two [] (p ∷ r ∷ ps) qs x e = absurd cc
 in_two (n ∷ ns) (p ∷ ps) qs x e =
     let head : n ≡ p = cc in
     elim (in_two ns ps qs x cc) [
-      | inl l ↦ inl (l.0, rw l.1 (ap (λ t. t ∷ ns ++ x ∷ []) (sym head)))
+      | inl l ↦ inl (l.0, rw l.1 (rw (sym head)))
       | inr r ↦ inr (record {
         others = r.others;
         last = r.last;
         whole =
-            rw r.whole (ap (λ t. t ∷ ps ++ r.others) head);
+            rw r.whole (rw head);
       })
     ]
 

@@ -52,7 +52,7 @@ earlier_run_is_front network reading events mark later notes more earlier a b =
       sym (same_notes network more)
           ∙ ap notes_of front.1
           ∙ notes_of_parts (happenings network notes) front.0
-          ∙ ap (λ ns. ns ++ notes_of front.0) (same_notes network notes),
+          ∙ (rw (same_notes network notes)),
     )
 
 pub run_goes_on : RunGoesOn

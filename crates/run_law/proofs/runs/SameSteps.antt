@@ -6,7 +6,7 @@ use Rattle.run_law.proofs.Words.{device_at, false, is_relay, launched, numbered,
 use Rattle.run_law.{proofs.Words.{time_of, true, ℕ}, specs.{control.Leaving.{Departure}, scenario.Devices.{is_cm, is_cm_role, is_relay_role}}}
 use Rattle.run_law.specs.{control.Collections.{IsCollectedAs, points_of, ripe_by_role}, device.States.{adjustment_at_hearing, state_at_hearing}}
 use Rattle.run_law.specs.control.{Permanence.{IsCollectedOrDropped, IsJudgedBy, IsPermanenceOutcome, IsPermanent, before_permanence}, Wires.{Arrives, Signal}}
-use Rattle.compression.{proofs.Times.one_list_of_clusters, specs.{Clusters.Point, Role.role, declared.taken.Taken.Taken}}
+use Rattle.compression.{proofs.Times.one_list_of_clusters, specs.{Clusters.Point, declared.taken.Taken.Taken}}
 use Rattle.run_law.specs.declared.judgement.Judgement.TheVariants as judgements
 use Rattle.run_law.specs.declared.note.NoteBody.TheVariants as notes
 use Rattle.run_law.specs.declared.steps.Ripe.TheVariants as ripe
@@ -33,7 +33,7 @@ module _ (network : Network) (points : List Point) (point : Point) where
   pub same_taken : {a b : Taken} → IsCollectedAs network points point a → IsCollectedAs network points point b → a ≡ b
   same_taken x y =
       let only = (one_list_of_clusters (observation_window network) points).2 in
-      x.is ∙ ap (λ cs. role cs point) (only x.clusters x.are ∙ sym (only y.clusters y.are)) ∙ sym y.is
+      x.is ∙ (rw (only x.clusters x.are ∙ sym (only y.clusters y.are)) (sym y.is))
 
   same_collected : (fault : Option Reason) (a b : Ripe) → IsCollectedOrDropped network points point fault a
       → IsCollectedOrDropped network points point fault b → a ≡ b
@@ -67,8 +67,7 @@ module _ (s : Scenario) (hs : List Happening) (t : ℕ) (device : DeviceId) (lin
   same_frame : {f g : Pcf} {p q : Units} → IsPermanent s hs device t link cause f p
       → IsPermanent s hs device t link cause g q → f ≡ g
   same_frame {f} {g} a b =
-      let one = same_permanent_arrival a b in
-      same_some a.arrival.frame f g a.of_frame (rw one b.of_frame)
+      same_some a.arrival.frame f g a.of_frame (rw (same_permanent_arrival a b) b.of_frame)
 
   pub same_point : {f g : Pcf} {p q : Units} → IsPermanent s hs device t link cause f p
       → IsPermanent s hs device t link cause g q → p ≡ q

@@ -1,7 +1,7 @@
 -- Each condition of the fault hypothesis is decided.
 use Rattle.net_plan.specs.{Places.IsSwitchOf, Rules.HasOffSwitch, declared.event.What.TheVariants.{Break, Cut, Hold, On, Rate, Wire}}
 use Rattle.run_law.proofs.Words.{◌++◌, ◌+ℤ◌, ◌<ℤ◌, ◌∙◌, ◌∷◌, ◌≡◌, ◌⊎◌, A, B, DeviceId, Event, IsSomeAnd, LinkId, List, Network, None, Option, Send, Some}
-use Rattle.run_law.proofs.Words.{Units, What, [], ap, device_at, inl, inr, is_master, link_at, refl, subst, sym, true, unsigned_abs}
+use Rattle.run_law.proofs.Words.{Units, What, [], device_at, inl, inr, is_master, link_at, refl, subst, sym, true, unsigned_abs}
 use Rattle.run_law.proofs.scenario.Decisions.{IsDecided, decided_and, decided_any, decided_at, decided_by, decided_false, decided_less, decided_less_int}
 use Rattle.run_law.proofs.scenario.Decisions.{decided_not, decided_or, decided_same, decided_some, decided_true}
 use Rattle.run_law.specs.scenario.Faults.{BeginsOn, Breaks, Cuts, CutsOn, IsBroken, IsFaulty, IsFirstCutOn, IsLinkOf, IsTurnedOn, TurnsOn}
@@ -100,7 +100,7 @@ no_channel P each = decided_by (λ none c p. none (c, p)) (λ none h. none h.0 h
 
 is_channel : (o : Option Channel) (c : Channel) → IsDecided (o ≡ Some c)
 is_channel None c = inr (λ e. cc)
-is_channel (Some d) c = decided_by (λ e. rw e) (λ e. let same : d ≡ c = cc in same) (same_channel d c)
+is_channel (Some d) c = decided_by (λ e. rw e) (λ e. cc) (same_channel d c)
 
 is_link_of : (network : Network) (channel : Channel) (link : LinkId) → IsDecided (IsLinkOf network channel link)
 is_link_of network channel link =
@@ -213,7 +213,7 @@ pub same_device : (a b : DeviceId) → IsDecided (a ≡ b)
 same_device a b = decided_by (λ e. rw e) (λ e. rw e) (decided_same a.0 b.0)
 
 breaks_by : (device : DeviceId) (event : Event) (what : What) → event.what ≡ what → IsDecided (Breaks device event)
-breaks_by device event (Break other) is = decided_by (λ e. is ∙ ap (λ d. Break d) e) (λ h. cc)
+breaks_by device event (Break other) is = decided_by (λ e. is ∙ (rw e)) (λ h. cc)
     (same_device other device)
 breaks_by device event other is = inr (λ h. cc)
 
@@ -222,7 +222,7 @@ breaks_some_by event (Break device) is = inl (device, is)
 breaks_some_by event other is = inr (λ h. cc)
 
 turns_on_by : (device : DeviceId) (event : Event) (what : What) → event.what ≡ what → IsDecided (TurnsOn device event)
-turns_on_by device event (On other) is = decided_by (λ e. is ∙ ap (λ d. On d) e) (λ h. cc) (same_device other device)
+turns_on_by device event (On other) is = decided_by (λ e. is ∙ (rw e)) (λ h. cc) (same_device other device)
 turns_on_by device event other is = inr (λ h. cc)
 
 pub is_broken : (events : List Event) (device : DeviceId) → IsDecided (IsBroken events device)

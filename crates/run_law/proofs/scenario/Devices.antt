@@ -1,6 +1,6 @@
 -- Devices of a scenario.
 use Rattle.{net_plan.proofs.SameIds.alike, run_law.proofs.{Words.{sym, true, ℕ}, runs.Grow.in_two}, std.proofs.lemmas.Bool.{eq-eqb, le-leb}}
-use Rattle.{net_plan.specs.Places.{IsEndSystem, is_end_system}, std.proofs.Common.{◌||◌, filter, nat_le}, tte_units.proofs.general_lemmas.Options.opened}
+use Rattle.{net_plan.specs.Places.{IsEndSystem, is_end_system}, std.proofs.Common.{filter, nat_le}, tte_units.proofs.general_lemmas.Options.opened}
 use Rattle.run_law.proofs.Words.{◌++◌, ◌==◌, ◌∙◌, ◌∷◌, ◌≡◌, ◌≤ℤ◌, ◌≤◌, Bool, Cm, DeviceId, Event, IsSomeAnd, IsWithinHypothesis, Link, LinkId, List}
 use Rattle.run_law.proofs.Words.{Network, None, Option, Role, Scenario, Some, What, [], amount, ap, append-nil, append_assoc, arith, cases_lt, device_at}
 use Rattle.run_law.proofs.Words.{eqb-true, false, if◌then◌else◌, inl, inr, ints, is_broken, is_master, is_parent_of, link_at, option_map_or, pos, refl}
@@ -50,7 +50,7 @@ in_turn network front last event within first second = elim (cases_lt (amount ev
 
 pub broken_by : (device : DeviceId) (what : What) → breaks_at device.0 what ≡ true → what ≡ events.Break device
 broken_by device (events.Break other) e =
-    let same = eqb-true other.0 device.0 e in rw same
+    rw (eqb-true other.0 device.0 e)
 broken_by device other e = absurd cc
 
 -- a link's parent shows as one
@@ -103,8 +103,8 @@ any_less q t later (x ∷ xs) le none =
           (sym (le-leb (amount x.time) later (omega arith))) ∙ none in
           let parts = Rattle.std.proofs.lemmas.Bool.or_parts (q x) (list_any q (filter (λ e. nat_le (amount e.time) later) xs)) both in
           rw (le-leb (amount x.time) t near)
-          (ap (λ b. b || list_any q (filter (λ e. nat_le (amount e.time) t) xs)) parts.0
-          ∙ any_less q t later xs le parts.1)
+          (rw parts.0
+          (any_less q t later xs le parts.1))
     ]
   where
     rest : (b : Bool) → list_any q (if b then x ∷ filter (λ e. nat_le (amount e.time) later) xs else filter (λ e. nat_le (amount e.time) later) xs) ≡ false

@@ -1,5 +1,4 @@
-use Rattle.{run_law.specs.records.Ranks.place_at, std.proofs.Common.{◌∙◌, ap, rules}}
-use Rattle.run_law.specs.declared.note.NoteBody.TheVariants as notes
+use Rattle.{std.proofs.Common.{◌∙◌, rules}}
 use Rattle.run_law.proofs.plain.places.place.Place.of_plain.Goals as goal
 
 pub returns-in-Permanent : goal.returns-in-Permanent
@@ -11,6 +10,4 @@ returns-in-Compressed c = rw c.in-Compressed.is (c.of_emission.ensures c.args.me
 pub returns-in-TtSent : goal.returns-in-TtSent
 returns-in-TtSent c =
     rw c.in-TtSent.is (c.of_dispatch.ensures c.args.members
-    ∙ ap (λ cycle. place_at c.args.time c.args.members (notes.TtSent c.in-TtSent.device c.in-TtSent.link
-    c.in-TtSent.cause c.in-TtSent.vl cycle))
-    c.from-in-TtSent.ensures)
+    ∙ (rw c.from-in-TtSent.ensures))
