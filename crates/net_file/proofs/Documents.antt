@@ -1,7 +1,7 @@
 -- When a text is a document.
 use Rattle.{net_file.specs.Schema.{document_of, filled, network_of, parsed}, std.specs.Prelude.{IsUtf8, if◌then◌else◌}, toml.specs.Parse.parse_document}
 use Rattle.{net_file.specs.Steps.◌>>=◌, std.specs.Str.is_utf8, toml.specs.Data.{Data, Members}}
-use Rattle.std.proofs.{Common.{◌≡◌, Bool, List, None, Ok, Option, false, refl, true, ℕ}, lemmas.Str.{IsUtf8-from_is_utf8, is_utf8-from_IsUtf8}}
+use Rattle.std.proofs.{Common.{◌≡◌, Bool, List, None, Option, false, refl, true, ℕ}, lemmas.Str.{IsUtf8-from_is_utf8, is_utf8-from_IsUtf8}}
 
 barred : (b : Bool) (o : Option Members) → (b ≡ true → ⊥) → (if b then o else None) ≡ None
 barred true o h = absurd (h refl)

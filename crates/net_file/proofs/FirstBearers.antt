@@ -15,7 +15,7 @@ none_in name names text other none (suc k) e = none k e
 none_before : (name : List ℕ) (names : List (List ℕ)) (text : List ℕ) (k : ℕ) → name ≢ text → IsFirstBearer names text k → (j : ℕ) → j < suc k
     → slice_get (name ∷ names) j ≢ Some text
 none_before name names text k other first zero h e = other (same_name name text e)
-none_before name names text k other first (suc j) h e = first.first j (omega (arith, h)) e
+none_before name names text k other first (suc j) h e = first.first j (omega arith) e
 
 later : (s : ℕ) (name : List ℕ) (names : List (List ℕ)) (text : List ℕ) (found : Option ℕ) → name ≢ text → Finds (s + 1) names text found
     → Finds s (name ∷ names) text found
@@ -23,7 +23,7 @@ later s name names text None other h = none_in name names text other h
 later s name names text (Some i) other h = (suc h.0, omega (arith, h.1), record { bears = h.2.bears; first = none_before name names text h.0 other h.2 })
 
 here : (s : ℕ) (name : List ℕ) (names : List (List ℕ)) (text : List ℕ) → name ≡ text → Finds s (name ∷ names) text (Some s)
-here s name names text e = (0, omega arith, record { bears = ap (λ (n : List ℕ). Some n) e; first = λ k h. absurd (omega (arith, h)) })
+here s name names text e = (0, omega arith, record { bears = rw e; first = λ k h. absurd (omega arith) })
 
 decide : (s : ℕ) (name : List ℕ) (names : List (List ℕ)) (text : List ℕ) (found : Option ℕ) (b : Bool) → bytes_eq text name ≡ b → Finds (s + 1) names text found
     → Finds s (name ∷ names) text (cond b (Some s) found)
@@ -37,7 +37,7 @@ finds s (name ∷ names) text = decide s name names text (position_from (bytes_e
 whole_list : (names : List (List ℕ)) (text : List ℕ) (found : Option ℕ) → Finds 0 names text found
     → MatchOption found (HasNoBearer names text) (IsFirstBearer names text)
 whole_list names text None h = h
-whole_list names text (Some i) h = let e : h.0 ≡ i = omega (arith, h.1) in subst (IsFirstBearer names text) e h.2
+whole_list names text (Some i) h = subst (IsFirstBearer names text) (omega (arith, h.1)) h.2
 
 pub means_first_bearer : MeansFirstBearer
 means_first_bearer names text = whole_list names text (first_of names text) (finds 0 names text)

@@ -1,7 +1,7 @@
 -- How a numbering grows by a name.
-use Rattle.{indexmap.specs.IndexMap.insert_entry, std.{proofs.{Common.{sym, take, true, ℕ}, lemmas.Bool.false≢true}, specs.Prelude.{IfSome, bytes_eq}}}
+use Rattle.{indexmap.specs.IndexMap.insert_entry, std.{proofs.{Common.{take, true, ℕ}, lemmas.Bool.false≢true}, specs.Prelude.{IfSome, bytes_eq}}}
 use Rattle.{net_file.specs.Numbering.{IsBelow, Numbering, first_of, with_name}, std.proofs.lemmas.List.{length-map, length-take, map-append, take_more}}
-use Rattle.std.proofs.Common.{◌++◌, ◌+◌, ◌<◌, ◌∷◌, ◌≡◌, Bool, Bor, List, None, Option, Some, [], ap, arith, cond, false, get_or, length, map, refl, subst, suc}
+use Rattle.std.proofs.Common.{◌++◌, ◌+◌, ◌<◌, ◌∷◌, ◌≡◌, Bool, Bor, List, None, Option, Some, [], ap, arith, cond, false, get_or, length, map, refl, suc}
 use Rattle.std.specs.{List.position_from, Map.lookup, Option.option_or}
 
 abbrev pub Entries : Type 0
@@ -42,23 +42,21 @@ position_last t s (y ∷ ys) x =
 first_of_last : (names : List (List ℕ)) (name text : List ℕ) → first_of (names ++ name ∷ []) text ≡ with_name (first_of names) name (length names) text
 first_of_last names name text =
     let e : 0 + length names ≡ length names = omega arith in
-    subst (λ (n : ℕ). first_of (names ++ name ∷ []) text ≡ option_or (first_of names text) (cond (bytes_eq text name) (Some n) None)) e
-    (position_last (bytes_eq text) 0 names name)
+    rw e at (position_last (bytes_eq text) 0 names name)
 
 -- the numbering of the names of some things and the next
 pub first_of_more : {X : Type 0} (f : X → List ℕ) (xs : List X) (i : ℕ) (d : X) → i < length xs
     → first_of (map f (take (i + 1) xs)) ≡ with_name (first_of (map f (take i xs))) (f (get_or xs i d)) i
 first_of_more f xs i d h j text =
-    let count : length (map f (take i xs)) ≡ i = omega (arith, h, length-map (take i xs) f, length-take i xs) in
+    let count : length (map f (take i xs)) ≡ i = omega (arith, length-map (take i xs) f, length-take i xs) in
     let step : first_of (map f (take (i + 1) xs)) text ≡ with_name (first_of (map f (take i xs))) (f (get_or xs i d)) i text =
     rw (take_more xs i d h, map-append f (take i xs) (get_or xs i d ∷ []))
-    (subst (λ (n : ℕ). first_of (map f (take i xs) ++ f (get_or xs i d) ∷ []) text ≡ with_name (first_of (map f (take i xs))) (f (get_or xs i d)) n text) count
-    (first_of_last (map f (take i xs)) (f (get_or xs i d)) text)) in
+    (rw count at (first_of_last (map f (take i xs)) (f (get_or xs i d)) text)) in
     step j
 
 below_case : (b : Bool) (s n : ℕ) (o : Option ℕ) → IfSome o (λ i. i < s + 1 + n) → IfSome (cond b (Some s) o) (λ i. i < s + suc n)
 below_case true s n o h = omega arith
-below_case false s n o h = let e : s + 1 + n ≡ s + suc n = omega arith in subst (λ (m : ℕ). IfSome o (λ i. i < m)) e h
+below_case false s n o h = let e : s + 1 + n ≡ s + suc n = omega arith in rw e at h
 
 position_below : (t : List ℕ → Bool) (s : ℕ) (xs : List (List ℕ)) → IfSome (position_from t s xs) (λ i. i < s + length xs)
 position_below t s [] = tt
@@ -68,6 +66,5 @@ position_below t s (x ∷ xs) = below_case (t x) s (length xs) (position_from t 
 pub names_below : {X : Type 0} (f : X → List ℕ) (xs : List X) (count : ℕ) (numbers : Numbering) → numbers ≡ first_of (map f xs) → count ≡ length xs
     → IsBelow count numbers
 names_below f xs count numbers same sized text =
-    let e : 0 + length (map f xs) ≡ count = omega (arith, length-map xs f, sized) in
-    subst (λ (m : Numbering). IfSome (m text) (λ i. i < count)) (sym same)
-    (subst (λ (n : ℕ). IfSome (first_of (map f xs) text) (λ i. i < n)) e (position_below (bytes_eq text) 0 (map f xs)))
+    let e : 0 + length (map f xs) ≡ count = omega (arith, length-map xs f) in
+    rw same (rw e at (position_below (bytes_eq text) 0 (map f xs)))

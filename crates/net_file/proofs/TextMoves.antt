@@ -1,5 +1,5 @@
 -- An octet moves the place in a text by one line or one character at most.
-use Rattle.std.proofs.Common.{rules, arith, if◌then◌else◌, ◌&&◌, ◌+◌, ◌==◌, ◌≤◌, Bool, false, true, nat_le, ℕ}
+use Rattle.std.proofs.Common.{arith, if◌then◌else◌, ◌&&◌, ◌+◌, ◌==◌, ◌≤◌, Bool, false, true, nat_le, ℕ}
 use Rattle.net_file.specs.{TextPlaces.place_after, declared.text_place.TextPlace.TextPlace}
 
 abbrev pub IsNear : TextPlace → TextPlace → Type 0

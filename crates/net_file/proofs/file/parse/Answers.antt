@@ -1,5 +1,5 @@
-use Rattle.{net_file.proofs.Documents.is_parsed, std.proofs.Common.{◌∙◌, ◌≡◌, List, Some, rules, subst, ℕ}, toml.specs.declared.value.Value.the_lemmas}
-use Rattle.toml.specs.{Parse.parse_document, View.table_view}
+use Rattle.{net_file.proofs.Documents.is_parsed, std.proofs.Common.{◌∙◌, rules}, toml.specs.declared.value.Value.the_lemmas}
+use Rattle.toml.specs.{View.table_view}
 use Rattle.net_file.proofs.file.parse.Goals as goal
 
 pub returns-in-Ok-table_from_str : goal.returns-in-Ok-table_from_str
@@ -7,5 +7,5 @@ returns-in-Ok-table_from_str c =
     let entries = table_view c.in-Ok-table_from_str.table in
     let text = c.args.text.now in
     let told = c.in-Ok.ensures.cases in
-    let read : parse_document c.in-Ok.text.now ≡ Some entries = c.in-Ok-table_from_str.ensures.ok in
-    (entries, is_parsed text told.1 ∙ subst (λ (t : List ℕ). parse_document t ≡ Some entries) told.0 read, search (rules, the_lemmas))
+    let read = c.in-Ok-table_from_str.ensures.ok in
+    (entries, is_parsed text told.1 ∙ (rw told.0 at read), search (rules, the_lemmas))
