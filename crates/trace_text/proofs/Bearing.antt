@@ -17,20 +17,20 @@ found_from : (s : ℕ) (names : List (List ℕ)) (text : List ℕ) (i : ℕ) →
 found_from s [] text i h = absurd (false≢true (ap is_some h.bears))
 found_from s (name ∷ names) text zero h =
     let here : bytes_eq text name ≡ true = (bytes_decides text name).1 (sym (same_name name text h.bears)) in
-    rw here (ap (λ (k : ℕ). Some k) (omega arith))
+    rw here (ap (λ k. Some k) (omega arith))
 found_from s (name ∷ names) text (suc i) h =
-    let there : bytes_eq text name ≡ false = other text name (λ e. h.first 0 (omega arith) (ap (λ (n : List ℕ). Some n) e)) in
-    let later : position_from (bytes_eq text) (s + 1) names ≡ Some (s + 1 + i) = found_from (s + 1) names text i
+    let there = other text name (λ e. h.first 0 (omega arith) (rw e)) in
+    let later = found_from (s + 1) names text i
     (record { bears = h.bears; first = λ k lt. h.first (suc k) (omega arith) }) in
-    rw there (later ∙ ap (λ (k : ℕ). Some k) (omega arith))
+    rw there (later ∙ ap (λ k. Some k) (omega arith))
 
 pub place_found : (names : List (List ℕ)) (text : List ℕ) (i : ℕ) → IsFirstBearer names text i → first_place names text ≡ Some i
-place_found names text i h = found_from 0 names text i h ∙ ap (λ (k : ℕ). Some k) (omega arith)
+place_found names text i h = found_from 0 names text i h ∙ ap (λ k. Some k) (omega arith)
 
 absent_from : (s : ℕ) (names : List (List ℕ)) (text : List ℕ) → HasNoBearer names text → position_from (bytes_eq text) s names ≡ None
 absent_from s [] text none = refl
 absent_from s (name ∷ names) text none =
-    let there : bytes_eq text name ≡ false = other text name (λ e. none 0 (ap (λ (n : List ℕ). Some n) e)) in
+    let there = other text name (λ e. none 0 (rw e)) in
     rw there (absent_from (s + 1) names text (λ k. none (suc k)))
 
 pub place_absent : (names : List (List ℕ)) (text : List ℕ) → HasNoBearer names text → first_place names text ≡ None
@@ -49,7 +49,8 @@ name_is_utf8 text h =
 pub bears_utf8 : {X : Type 0} (f : X → List ℕ) (xs : List X) (text : List ℕ) → All (λ x. IsNameText (f x)) xs → ¬ (IsUtf8 text) → HasNoBearer (map f xs) text
 bears_utf8 f xs text names not_utf8 k e =
     let b = behind f xs k text e in
-    let here : IsNameText (f b.0) = subst (λ x. IsNameText (f x)) (get_or_from_slice_get xs k b.0 b.0 b.1) (names k b.0 (slice_get_within xs k b.0 b.1)) in
+    let here : IsNameText (f b.0) =
+    rw (get_or_from_slice_get xs k b.0 b.0 b.1) at (names k b.0 (slice_get_within xs k b.0 b.1)) in
     not_utf8 (subst IsUtf8 b.2 (name_is_utf8 (f b.0) here))
 
 -- a bearer is one of the things

@@ -37,7 +37,8 @@ decimal_digits most text bound h = subst (AllDigits 10) (sym h.same) ((decimal_i
 -- no digits are no decimal
 pub number_empty : (most : ℕ) (text : List ℕ) → length text ≡ 0 → number_up_to most text ≡ None
 number_empty most (x ∷ xs) none = absurd (omega arith)
-number_empty most [] none = number_no most [] (λ h. let e : 0 < length (decimal 0) = decimal_nonempty 0 (omega arith) in omega (arith, ap length h.same))
+number_empty most [] none = number_no most [] (λ h. let e = decimal_nonempty 0 (omega arith) in
+    omega (arith, ap length h.same))
 
 zero_or_more : (n : ℕ) → n < 2 ^ 64 → get_or (decimal n) 0 0 ≡ 48 → length (decimal n) ≡ 1
 zero_or_more zero bound e = ap length (decimal_digit 0 (omega arith))
@@ -48,25 +49,25 @@ pub number_leading_zero : (most : ℕ) (text : List ℕ) → most ≤ 2 ^ 60 →
 number_leading_zero most text bound leading longer =
     number_no most text (λ h.
     let n = digits_value 10 text in
-    let here : get_or (decimal n) 0 0 ≡ 48 = ap (λ (t : List ℕ). get_or t 0 0) (sym h.same) ∙ leading in
-    let one : length (decimal n) ≡ 1 = zero_or_more n (omega (arith, h.within)) here in
-    omega (arith, ap length h.same, one))
+    let here : get_or (decimal n) 0 0 ≡ 48 = rw (sym h.same) leading in
+    let one = zero_or_more n (omega (arith, h.within)) here in
+    omega (arith, ap length h.same))
 
 -- the value of digits without a leading zero
 pub number_of_digits : (most : ℕ) (text : List ℕ) (found : Option ℕ) → most ≤ 2 ^ 60 → 0 < length text → (get_or text 0 0 ≡ 48 → length text ≡ 1)
     → SomeIff found (AllDigits 10 text × (digits_value 10 text ≤ most)) (digits_value 10 text) → found ≡ number_up_to most text
 number_of_digits most text None bound some plain h = sym (number_no most text (λ d. h (decimal_digits most text bound d, d.within)))
 number_of_digits most text (Some n) bound some plain h =
-    ap (λ (k : ℕ). Some k) h.1 ∙ sym (number_yes most text (record {
+    rw h.1 (sym (number_yes most text (record {
       same = sym (decimal-digits_value own text h.0.0 some plain (omega (arith, h.0.1)));
       within = h.0.1;
-    }))
+    })))
 
 -- a decimal reads back
 pub number_of_decimal : (most n : ℕ) → most ≤ 2 ^ 60 → n ≤ most → number_up_to most (decimal n) ≡ Some n
 number_of_decimal most n bound within =
     let value : digits_value 10 (decimal n) ≡ n = (decimal_is_IsNumeral n (omega arith)).1 in
-    number_yes most (decimal n) (record { same = ap decimal (sym value); within = omega (arith, value, within) }) ∙ ap (λ (k : ℕ). Some k) value
+    number_yes most (decimal n) (record { same = ap decimal (sym value); within = omega arith }) ∙ (rw value)
 
 -- a digit's value
 pub digit_shows : (c : ℕ) → is_ascii_digit c ≡ true → digit_value c < 10
@@ -79,4 +80,4 @@ digit_spells c h = grind (arith, nat_tests)
 pub digits_pass : (text : List ℕ) (i : ℕ) → AllDigits 10 text → i < length text → is_ascii_digit (get_or text i 0) ≡ true
 digits_pass text i all below =
     let range = digit_at text i all below in
-    grind (arith, nat_tests, range)
+    grind (arith, nat_tests)

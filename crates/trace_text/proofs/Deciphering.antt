@@ -7,7 +7,7 @@ use Rattle.std.{proofs.Common.{slice_set, sym, take, ℕ}, specs.Prelude.{IfSome
 
 small_value : (c : ℕ) (o : Option ℕ) → hex_digit_value c ≡ o → IfSome o (λ v. v < 16)
 small_value c None e = tt
-small_value c (Some v) e = grind (arith, e)
+small_value c (Some v) e = grind arith
 
 -- what two digits are, by what each of them is
 abbrev pair_of : ℕ → ℕ → ℕ → Option ℕ → Option ℕ → Result ℕ FromHexError
@@ -22,8 +22,8 @@ bad_pair : (a b i : ℕ) (h l : Option ℕ) → IfSome h (λ v. v < 16) → IfSo
     → (16 ≤ unwrap_or h 16) ⊎ (16 ≤ unwrap_or l 16) → (e : FromHexError) × (pair_of a b i h l ≡ Err e)
 bad_pair a b i None l hs ls bad = (_, refl)
 bad_pair a b i (Some x) None hs ls bad = (_, refl)
-bad_pair a b i (Some x) (Some y) hs ls (inl bad) = absurd (omega (arith, hs, bad))
-bad_pair a b i (Some x) (Some y) hs ls (inr bad) = absurd (omega (arith, ls, bad))
+bad_pair a b i (Some x) (Some y) hs ls (inl bad) = absurd (omega arith)
+bad_pair a b i (Some x) (Some y) hs ls (inr bad) = absurd (omega arith)
 
 -- the octets before this place are read
 abbrev pub IsRead : List ℕ → List ℕ → ℕ → Type 0
@@ -66,14 +66,18 @@ pub decipher_more : (text octets : List ℕ) (i greatest h l next : ℕ) → 2 *
 decipher_more text octets i greatest h l next fits room eh el low high known = record {
   read = λ few.
       let parts = low few in
-      read_more text octets i ((h * 16 % 256 + l) % 256) fits room (omega (arith, eh, parts.1)) (omega (arith, el, parts.2))
-      (omega (arith, eh, el, parts.1, parts.2)) (known.read parts.0);
+      read_more text octets i ((h * 16 % 256 + l) % 256) fits room (omega (arith, parts.1)) (omega (arith, parts.2))
+      (omega (arith, parts.1, parts.2)) (known.read parts.0);
   spoilt = λ many.
       elim (cases_lt greatest 16) [
         | inl good ↦
             elim (high many) [
-              | inl bad ↦ absurd (omega (arith, good, bad))
-              | inr bad ↦ spoilt_here text octets i fits (elim bad [ inl b ↦ inl (omega (arith, eh, b)) | inr b ↦ inr (omega (arith, el, b)) ])
+              | inl bad ↦ absurd (omega arith)
+              | inr bad ↦ spoilt_here text octets i fits (elim bad [
+                | inl b ↦ inl (omega arith)
+                | inr b ↦
+                    inr (omega arith)
+              ])
                   (known.read good)
             ]
         | inr bad ↦ known.spoilt bad
@@ -85,14 +89,14 @@ pub deciphered : (text octets : List ℕ) (i greatest : ℕ) → length text ≡
     → (greatest < 16 → IsRead text octets i) → (16 ≤ greatest → IsSpoilt text)
     → MatchResult (decode_of text) (λ decoded. IsTrue (nat_lt greatest 16) × (octets ≡ decoded)) (λ e. IsFalse (nat_lt greatest 16))
 deciphered text octets i greatest size all read spoilt =
-    let whole : decode_of text ≡ decode_pairs 0 text = decode_of-even text (omega (arith, size)) in
+    let whole = decode_of-even text (omega arith) in
     elim (cases_lt greatest 16) [
       | inl low ↦
-          let yes : nat_lt greatest 16 ≡ true = grind (arith, nat_tests, low) in
-          let done = whole ∙ decode_done text octets i all (omega (arith, size, all)) (read low) in
+          let yes : nat_lt greatest 16 ≡ true = grind (arith, nat_tests) in
+          let done = whole ∙ decode_done text octets i all (omega arith) (read low) in
           rw (done, yes) (refl, refl)
       | inr high ↦
-          let no : nat_lt greatest 16 ≡ false = grind (arith, nat_tests, high) in
+          let no : nat_lt greatest 16 ≡ false = grind (arith, nat_tests) in
           let fault = spoilt high in
           rw (whole ∙ fault.1, no) refl
     ]

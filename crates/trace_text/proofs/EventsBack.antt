@@ -2,7 +2,7 @@
 use Rattle.{hex.specs.Hex.encode_lower, net_plan.specs.declared.event.{Event.Event, What.What}, std.specs.{Fmt.signed_decimal, List.join_with_byte}}
 use Rattle.{net_plan.specs.{Belonging.{IsOfNetwork, device_name, link_name}, Ranges.IsInRange}, trace_text.specs.EventLine.{event_text, what_text, what_words}}
 use Rattle.{net_plan.specs.Rules.{DeviceIsNew, LinkIsNew}, trace_text.specs.{EventWords.{event_word_text, way_text}, Ranges.{IsEventInRange, IsWhatInRange}}}
-use Rattle.{net_plan.specs.declared.network.Network.Network, std.proofs.Common.{◌++◌, ◌∙◌, ◌∷◌, ◌≡◌, List, Ok, [], ap, append_assoc, refl, subst, sym, ℕ}}
+use Rattle.{net_plan.specs.declared.network.Network.Network, std.proofs.Common.{◌++◌, ◌∙◌, ◌∷◌, ◌≡◌, List, Ok, [], ap, append_assoc, refl, ℕ}}
 use Rattle.std.specs.Prelude.{codes}
 use Rattle.trace_text.proofs.{Joining.{AreWords, event_word_is_word, hex_is_word, way_is_word, words_joined}, WordsBack.{time_is_word, units_back, way_back}}
 use Rattle.trace_text.proofs.WordsBack.{device_back, device_is_word, event_word_back, link_back, link_is_word, octets_back, rate_back, rate_is_word}
@@ -100,10 +100,9 @@ pub words_back : (network : Network) (what : What) → ((i : ℕ) → DeviceIsNe
     → IsWhatInRange what → what_reader network (what_words network what) ≡ Ok (what, [])
 unfolding what_reader
 words_back network what devices links of_network h =
-    let behind = behind_kind network what in
     rw (
       what_words_are network what,
-      event_word_back (kind what) behind,
+      event_word_back (kind what) (behind_kind network what),
       what_back network what (record { devices = devices; links = links }) of_network h,
       end_back,
     ) refl
@@ -117,22 +116,21 @@ pub text_joined : (network : Network) (event : Event)
 unfolding what_text
 text_joined network event =
     let time = signed_decimal event.time.0 in
-    subst (λ (ws : Words). time ++ codes " " ++ join_with_byte space ws ≡ join_with_byte space (time ∷ ws)) (sym (what_words_are network event.what))
-    (joined time (event_word_text (kind event.what)) (behind_kind network event.what))
+    rw (what_words_are network event.what) (joined time (event_word_text (kind event.what))
+    (behind_kind network event.what))
 
 event_words_are : (network : Network) (event : Event) → IsInRange network → IsOfNetwork network event.what → IsEventInRange event
     → words (event_text network event) ≡ signed_decimal event.time.0 ∷ event_word_text (kind event.what) ∷ behind_kind network event.what
 event_words_are network event n of_network h =
     let time = signed_decimal event.time.0 in
-    let word = event_word_text (kind event.what) in
-    let behind = behind_kind network event.what in
     ap words (text_joined network event)
-    ∙ ap (λ (ws : Words). words (join_with_byte space (time ∷ ws))) (what_words_are network event.what)
-    ∙ words_joined time (word ∷ behind) (time_is_word event.time h.time)
-    (event_word_is_word (kind event.what), are_words network event.what n of_network h.what)
+    ∙ (rw (what_words_are network event.what)
+    (words_joined time ((event_word_text (kind event.what)) ∷ (behind_kind network event.what))
+    (time_is_word event.time h.time)
+    (event_word_is_word (kind event.what), are_words network event.what n of_network h.what)))
 
 pub reads_back : ReadsBack
 unfolding event_read
 reads_back network event n devices links of_network h =
-    ap (λ (ws : Words). outcome (event_reader network ws)) (event_words_are network event n of_network h)
-    ∙ ap outcome (event_back network event (record { devices = devices; links = links }) of_network h)
+    rw (event_words_are network event n of_network h)
+    (ap outcome (event_back network event (record { devices = devices; links = links }) of_network h))

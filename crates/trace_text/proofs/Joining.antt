@@ -1,7 +1,7 @@
 -- The words of a text that words were joined to.
 use Rattle.{hex.specs.Hex.{encode_lower, encode_with, lower_digits}, net_plan.specs.declared.tables.Way.{TheVariants.{Down, Up}, Way}}
 use Rattle.{net_plan.specs.NameText.{IsNameText, is_name_character}, trace_text.specs.EventWords.{event_word_text, way_text}}
-use Rattle.std.{proofs.Common.{◌%◌, ◌/◌, ◌<◌, ◌∙◌, ◌∷◌, ◌≡◌, Bool, List, [], ap, arith, false, refl, slice_index, suc, true, zero, ℕ}, specs.Char.digit_value}
+use Rattle.std.{proofs.Common.{◌%◌, ◌/◌, ◌<◌, ◌∙◌, ◌∷◌, ◌≡◌, Bool, List, [], arith, false, refl, slice_index, suc, true, zero, ℕ}, specs.Char.digit_value}
 use Rattle.std.{proofs.lemmas.{Bool.Decides.nat_tests, Fmt.decimal_is_IsNumeral}, specs.{List.{join_with_byte, list_all}, Str.Parse.AllDigits}}
 use Rattle.{std.{proofs.lemmas.Bool.{and_parts, not-true}, specs.Prelude.{◌^◌, All, decimal, not, ⊤}}, trace_text.specs.Steps.{Words, is_space, space, words}}
 use Rattle.std.proofs.lemmas.List.{Elements.{All-cons, All-nil, All-weaker}, Splits.{slice_split_at, slice_split_none}, Sums.AllPass-from_list_all}
@@ -18,7 +18,7 @@ AreWords (w ∷ ws) = IsWord w × AreWords ws
 pub words_joined : (w : List ℕ) (ws : Words) → IsWord w → AreWords ws → words (join_with_byte space (w ∷ ws)) ≡ w ∷ ws
 words_joined w [] h hs = slice_split_none is_space w h
 words_joined w (v ∷ vs) h hs =
-    slice_split_at is_space w space (join_with_byte space (v ∷ vs)) h refl ∙ ap (λ (rest : Words). w ∷ rest) (words_joined v vs hs.0 hs.1)
+    slice_split_at is_space w space (join_with_byte space (v ∷ vs)) h refl ∙ (rw (words_joined v vs hs.0 hs.1))
 
 abbrev pub no_space : List ℕ → Bool
 no_space text = list_all (λ c. not (is_space c)) text

@@ -4,9 +4,9 @@ use Rattle.hex.specs.Hex.{◌>>=◌, decode_of, decode_pairs, digit_or_error, en
 use Rattle.{hex.specs.declared.error.FromHexError.FromHexError, std.proofs.lemmas.List.{Elements.{All-head, All-tail}, Sums.AllPass-from_list_all}}
 use Rattle.{net_plan.proofs.Bearing.behind, std.specs.{Fmt.signed_decimal, List.position_from}}
 use Rattle.net_plan.specs.{Bearers.{device_names, link_names}, Belonging.{device_name, link_name}, declared.{ids.DeviceId.DeviceId, network.Network.Network}}
-use Rattle.{net_plan.specs.{NameText.{IsNameText, is_name_character}, declared.tables.Device.Device}, std.proofs.lemmas.Bool.{and_parts, cases_lt, eqb-true}}
-use Rattle.{net_plan.specs.Ranges.{IsDeviceInRange, IsInRange, IsLinkInRange}, std.proofs.Common.{inr, map, refl, slice_index, subst, suc, sym, true, zero, ℕ}}
-use Rattle.{net_plan.specs.declared.{ids.LinkId.LinkId, tables.Link.Link}, std.{proofs.lemmas.Bool.Decides.nat_tests, specs.Cmp.Lexicographic.bytes_decides}}
+use Rattle.{net_plan.specs.{NameText.{IsNameText, is_name_character}}, std.proofs.lemmas.Bool.{and_parts, cases_lt, eqb-true}}
+use Rattle.{net_plan.specs.Ranges.{IsDeviceInRange, IsInRange, IsLinkInRange}, std.proofs.Common.{inr, map, refl, slice_index, suc, sym, true, zero, ℕ}}
+use Rattle.{net_plan.specs.declared.{ids.LinkId.LinkId}, std.{proofs.lemmas.Bool.Decides.nat_tests, specs.Cmp.Lexicographic.bytes_decides}}
 use Rattle.{net_plan.specs.declared.tables.Way.TheVariants.{Down, Up}, trace_text.specs.Names.{device_id, device_spelled, first_place, link_id, link_spelled}}
 use Rattle.{net_plan.specs.declared.tables.Way.Way, std.specs.{Result.result_unwrap_or, Str.str_to_ascii_lowercase}, tte_units.specs.declared.rates.Ppb.Ppb}
 use Rattle.std.proofs.Common.{◌%◌, ◌*◌, ◌+◌, ◌/◌, ◌<◌, ◌^◌, ◌∙◌, ◌∷◌, ◌≡◌, ◌≤◌, ◌⊎◌, Bool, Err, List, None, Ok, Option, Some, [], ap, arith, cond, false, inl}
@@ -30,7 +30,7 @@ abbrev IsLower : List ℕ → Type 0
 IsLower text = lower text ≡ text
 
 lower_cons : (c : ℕ) (cs : List ℕ) → to_ascii_lowercase c ≡ c → IsLower cs → IsLower (c ∷ cs)
-lower_cons c cs h t = ap (λ (d : ℕ). d ∷ map to_ascii_lowercase cs) h ∙ ap (λ (t : List ℕ). c ∷ t) t
+lower_cons c cs h t = rw h ((rw t))
 
 lower_digit : (c : ℕ) → digit_value c < 10 → to_ascii_lowercase c ≡ c
 lower_digit c h = grind (arith, nat_tests)
@@ -62,8 +62,8 @@ record Bound {A : Type 0} (r : Read A) (rest left : Words) (x : A) : Type 0 wher
 
 bound : {A : Type 0} (r : Read A) (rest left : Words) (x : A) → with_rest rest r ≡ Ok (x, left) → Bound r rest left x
 bound {A} (Ok y) rest left x e =
-    let same : (y, rest) ≡ (x, left) = ap (λ (p : Read (A × Words)). result_unwrap_or p (y, rest)) e in
-    record { read = ap (λ (p : A × Words). Ok p.0) same; same = ap (λ (p : A × Words). p.1) same }
+    let same : (y, rest) ≡ (x, left) = ap (λ p. result_unwrap_or p (y, rest)) e in
+    record { read = ap (λ p. Ok p.0) same; same = ap (λ p. p.1) same }
 bound (Err fault) rest left x e = absurd (cc e)
 
 word_forth : {A : Type 0} (meaning : List ℕ → Read A) (printed : A → List ℕ) → ((text : List ℕ) (x : A) → meaning text ≡ Ok x → printed x ≡ lower text)
@@ -71,7 +71,7 @@ word_forth : {A : Type 0} (meaning : List ℕ → Read A) (printed : A → List 
 word_forth meaning printed spells [] x left e = absurd (cc e)
 word_forth meaning printed spells (w ∷ rest) x left e =
     let b = bound (meaning w) rest left x e in
-    ap (λ (t : List ℕ). t ∷ lower_words rest) (sym (spells w x b.read)) ∙ ap (λ (ws : Words). printed x ∷ lower_words ws) b.same
+    rw (sym (spells w x b.read)) ((rw b.same))
 
 meant : {A : Type 0} (o : Option A) (fault : LineRefusal) (x : A) → ok_or o fault ≡ Ok x → o ≡ Some x
 meant (Some y) fault x e = cc e
@@ -90,13 +90,12 @@ number_forth : (most : ℕ) (text : List ℕ) (n : ℕ) → most ≤ 2 ^ 60 → 
 number_forth most text n bound e =
     let m = digits_value 10 text in
     let h = number_case m text most n (bytes_eq text (decimal m) && nat_le m most) refl e in
-    let same : decimal n ≡ text = ap decimal h.0 ∙ sym h.1 in
-    sym (decimal_is_lower n (omega (arith, h.0, h.2))) ∙ ap lower same
+    sym (decimal_is_lower n (omega (arith, h.0, h.2))) ∙ ap lower (ap decimal h.0 ∙ sym h.1)
 
 units_text : (text : List ℕ) (u : Units) → ok_or (units_spelled text) Number ≡ Ok u → signed_decimal u.0 ≡ lower text
 units_text text u e =
     let m = mapped units_of (number_up_to latest text) u (meant (units_spelled text) Number u e) in
-    ap (λ (v : Units). signed_decimal v.0) (sym m.2) ∙ number_forth latest text m.0 (omega arith) m.1
+    rw (sym m.2) (number_forth latest text m.0 (omega arith) m.1)
 
 pub units_forth : (ws : Words) (u : Units) (left : Words) → units ws ≡ Ok (u, left) → lower_words ws ≡ signed_decimal u.0 ∷ lower_words left
 unfolding units
@@ -104,7 +103,7 @@ units_forth ws u left e = word_forth (λ text. ok_or (units_spelled text) Number
 
 minus_case : (n : ℕ) (r : Ppb) → minus n ≡ Some r → signed_decimal r.0 ≡ 45 ∷ decimal n
 minus_case zero r e = absurd (cc e)
-minus_case (suc n) r e = ap (λ (o : Option Ppb). signed_decimal (option_map_or (λ p. p.0) o (pos 0))) (sym e ∙ minus_some n)
+minus_case (suc n) r e = ap (λ o. signed_decimal (option_map_or (λ p. p.0) o (pos 0))) (sym e ∙ minus_some n)
 
 chained : (o : Option ℕ) (r : Ppb) → option_and_then minus o ≡ Some r → (n : ℕ) × (o ≡ Some n) × (minus n ≡ Some r)
 chained (Some n) r e = (n, refl, e)
@@ -116,10 +115,10 @@ rate_case : (first : ℕ) (rest : List ℕ) (r : Ppb) (b : Bool) → (first == 4
 rate_case first rest r true test e =
     let m = chained (number_up_to fastest rest) r e in
     let sign : 45 ≡ to_ascii_lowercase first = grind (arith, nat_tests) in
-    minus_case m.0 r m.2 ∙ ap (λ (t : List ℕ). 45 ∷ t) (number_forth fastest rest m.0 (omega arith) m.1) ∙ ap (λ (c : ℕ). c ∷ lower rest) sign
+    minus_case m.0 r m.2 ∙ (rw (number_forth fastest rest m.0 (omega arith) m.1) ((rw sign)))
 rate_case first rest r false test e =
     let m = mapped (λ n. ppb_of (pos n)) (number_up_to fastest (first ∷ rest)) r e in
-    ap (λ (p : Ppb). signed_decimal p.0) (sym m.2) ∙ number_forth fastest (first ∷ rest) m.0 (omega arith) m.1
+    rw (sym m.2) (number_forth fastest (first ∷ rest) m.0 (omega arith) m.1)
 
 rate_spells : (text : List ℕ) (r : Ppb) → rate_spelled text ≡ Some r → signed_decimal r.0 ≡ lower text
 rate_spells [] r e = absurd (cc e)
@@ -144,7 +143,7 @@ found_at : (s : ℕ) (names : List (List ℕ)) (text : List ℕ) (i : ℕ) → p
 found_at s [] text i e = absurd (cc e)
 found_at s (name ∷ names) text i e =
     elim (place_case text name names s i (bytes_eq text name) refl e) [
-      | inl here ↦ (0, omega (arith, here.0), ap (λ (t : List ℕ). Some t) (sym here.1))
+      | inl here ↦ (0, omega (arith, here.0), rw (sym here.1))
       | inr there ↦ let f = found_at (s + 1) names text i there in (suc f.0, omega (arith, f.1), f.2)
     ]
 
@@ -152,17 +151,17 @@ place_bears : (names : List (List ℕ)) (text : List ℕ) (i : ℕ) → first_pl
 place_bears names text i e =
     let f = found_at 0 names text i e in
     let same : f.0 ≡ i = omega (arith, f.1) in
-    subst (λ (k : ℕ). slice_get names k ≡ Some text) same f.2
+    rw same at f.2
 
 device_spells : (network : Network) → IsInRange network → (text : List ℕ) (d : DeviceId) → device_spelled network text ≡ Some d
     → device_name network d ≡ lower text
 unfolding device_spelled
 device_spells network n text d e =
     let m = mapped device_id (first_place (device_names network.device) text) d e in
-    let b = behind (λ (x : Device). x.name) network.device m.0 text (place_bears (device_names network.device) text m.0 m.1) in
+    let b = behind (λ x. x.name) network.device m.0 text (place_bears (device_names network.device) text m.0 m.1) in
     let name : IsNameText b.0.name = (in_list IsDeviceInRange network.device m.0 b.0 b.1 n.devices).name in
-    ap (device_name network) (sym m.2) ∙ ap (λ (o : Option Device). option_map_or (λ (x : Device). x.name) o []) b.1 ∙ sym (name_is_lower b.0.name name)
-    ∙ ap lower b.2
+    ap (device_name network) (sym m.2) ∙ (rw b.1 (sym (name_is_lower b.0.name name)
+    ∙ ap lower b.2))
 
 pub device_forth : (network : Network) → IsInRange network → (ws : Words) (d : DeviceId) (left : Words) → device network ws ≡ Ok (d, left)
     → lower_words ws ≡ device_name network d ∷ lower_words left
@@ -175,10 +174,10 @@ link_spells : (network : Network) → IsInRange network → (text : List ℕ) (l
 unfolding link_spelled
 link_spells network n text l e =
     let m = mapped link_id (first_place (link_names network.link) text) l e in
-    let b = behind (λ (x : Link). x.name) network.link m.0 text (place_bears (link_names network.link) text m.0 m.1) in
+    let b = behind (λ x. x.name) network.link m.0 text (place_bears (link_names network.link) text m.0 m.1) in
     let name : IsNameText b.0.name = (in_list (IsLinkInRange network) network.link m.0 b.0 b.1 n.links).name in
-    ap (link_name network) (sym m.2) ∙ ap (λ (o : Option Link). option_map_or (λ (x : Link). x.name) o []) b.1 ∙ sym (name_is_lower b.0.name name)
-    ∙ ap lower b.2
+    ap (link_name network) (sym m.2) ∙ (rw b.1 (sym (name_is_lower b.0.name name)
+    ∙ ap lower b.2))
 
 pub link_forth : (network : Network) → IsInRange network → (ws : Words) (l : LinkId) (left : Words) → link network ws ≡ Ok (l, left)
     → lower_words ws ≡ link_name network l ∷ lower_words left
@@ -196,7 +195,8 @@ way_is_lower Down = refl
 way_spells : (text : List ℕ) (w : Way) → way_spelled text ≡ Some w → way_text w ≡ lower text
 unfolding way_spelled
 way_spells text w e =
-    let same : way_text w ≡ text = (bytes_decides (way_text w) text).0 (found_passes (λ (v : Way). bytes_eq (way_text v) text) (Up ∷ Down ∷ []) w e) in
+    let same : way_text w ≡ text = (bytes_decides (way_text w) text).0
+    (found_passes (λ v. bytes_eq (way_text v) text) (Up ∷ Down ∷ []) w e) in
     sym (way_is_lower w) ∙ ap lower same
 
 pub way_forth : (ws : Words) (w : Way) (left : Words) → way ws ≡ Ok (w, left) → lower_words ws ≡ way_text w ∷ lower_words left
@@ -219,7 +219,7 @@ event_word_spells : (text : List ℕ) (w : EventWord) → event_word_spelled tex
 unfolding event_word_spelled
 event_word_spells text w e =
     let same : event_word_text w ≡ text = (bytes_decides (event_word_text w) text).0
-    (found_passes (λ (v : EventWord). bytes_eq (event_word_text v) text) event_words w e) in
+    (found_passes (λ v. bytes_eq (event_word_text v) text) event_words w e) in
     sym (event_word_is_lower w) ∙ ap lower same
 
 pub event_word_forth : (ws : Words) (w : EventWord) (left : Words) → event_word ws ≡ Ok (w, left) → lower_words ws ≡ event_word_text w ∷ lower_words left
@@ -288,20 +288,19 @@ pairs_spell i (high ∷ low ∷ rest) bytes e =
     let r = hex_bound (decode_pairs (i + 2) rest) _ bytes b.2 in
     let whole : b.0 ∷ r.0 ≡ bytes = cc (r.2) in
     let pair = pair_spells high low i b.0 b.1 in
-    rw (← whole) (ap (λ (c : ℕ). c ∷ slice_index lower_digits (b.0 % 16) ∷ encode_with lower_digits r.0) pair.0
-    ∙ ap (λ (c : ℕ). to_ascii_lowercase high ∷ c ∷ encode_with lower_digits r.0) pair.1
-    ∙ ap (λ (t : List ℕ). to_ascii_lowercase high ∷ to_ascii_lowercase low ∷ t) (pairs_spell (i + 2) rest r.0 r.1))
+    rw (← whole) (ap (λ c. c ∷ slice_index lower_digits (b.0 % 16) ∷ encode_with lower_digits r.0) pair.0
+    ∙ (rw pair.1
+    ((rw (pairs_spell (i + 2) rest r.0 r.1)))))
 
 frame_case : (r : Result (List ℕ) FromHexError) (o : List ℕ) → frame_of r ≡ Ok o → r ≡ Ok o
-frame_case (Ok octets) o e = grind (arith, nat_tests, e)
+frame_case (Ok octets) o e = grind (arith, nat_tests)
 frame_case (Err fault) o e = absurd (cc e)
 
 octets_spell : (text o : List ℕ) → octets_spelled text ≡ Ok o → encode_lower o ≡ lower text
 unfolding octets_spelled
 octets_spell text o e =
     let decoded = frame_case (decode_of text) o e in
-    let even = (decode_of-ok text o decoded).0 in
-    pairs_spell 0 text o (sym (decode_of-even text even) ∙ decoded)
+    pairs_spell 0 text o (sym (decode_of-even text ((decode_of-ok text o decoded).0)) ∙ decoded)
 
 pub octets_forth : (ws : Words) (o : List ℕ) (left : Words) → octets ws ≡ Ok (o, left) → lower_words ws ≡ encode_lower o ∷ lower_words left
 unfolding octets

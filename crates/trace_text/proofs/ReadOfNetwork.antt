@@ -38,8 +38,8 @@ place_within : (test : List ℕ → Bool) (from : ℕ) (names : List (List ℕ))
 place_within test from [] place e = absurd cc
 place_within test from (name ∷ names) place e =
     elim (test name) as (λ b. cond b (Some from) (position_from test (from + 1) names) ≡ Some place → place < from + length (name ∷ names)) [
-      | true ↦ λ here. let same : from ≡ place = cc in omega (arith, same)
-      | false ↦ λ there. let more = place_within test (from + 1) names place there in omega (arith, more)
+      | true ↦ λ here. let same : from ≡ place = cc in omega arith
+      | false ↦ λ there. let more = place_within test (from + 1) names place there in omega arith
     ] e
 
 found : {A : Type 0} (make : ℕ → A) (P : A → Type 0) (place : Option ℕ) (left : Words) → ((i : ℕ) → place ≡ Some i → P (make i))
@@ -53,14 +53,15 @@ device_is_there network [] = tt
 device_is_there network (text ∷ left) =
     found device_id (HasDevice network) (first_place (device_names network.device) text) left
     (λ i e. let within = place_within (bytes_eq text) 0 (device_names network.device) i e in omega
-    (arith, within, length-map network.device (λ (d : Device). d.name)))
+    (arith, length-map network.device (λ (d : Device). d.name)))
 
 link_is_there : (network : Network) (ws : Words) → Gives (link network ws) (HasLink network)
 unfolding link link_spelled
 link_is_there network [] = tt
 link_is_there network (text ∷ left) =
     found link_id (HasLink network) (first_place (link_names network.link) text) left
-    (λ i e. let within = place_within (bytes_eq text) 0 (link_names network.link) i e in omega (arith, within, length-map network.link (λ (l : Link). l.name)))
+    (λ i e. let within = place_within (bytes_eq text) 0 (link_names network.link) i e in
+    omega (arith, length-map network.link (λ (l : Link). l.name)))
 
 -- ---- the event
 
@@ -109,4 +110,5 @@ event_is network ws =
 pub read_of_network : (network : Network) (text : List ℕ) (event : Event) → event_read network text ≡ Ok event → IsOfNetwork network event.what
 unfolding event_read
 read_of_network network text event e =
-    from_outcome (λ (d : Event). IsOfNetwork network d.what) (event_reader network (words text)) event (event_is network (words text)) e
+    from_outcome (λ d. IsOfNetwork network d.what) (event_reader network (words text)) event
+    (event_is network (words text)) e

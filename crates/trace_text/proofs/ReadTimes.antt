@@ -11,7 +11,11 @@ use Rattle.net_plan.specs.declared.event.What.TheVariants as events
 -- a number up to the latest is a time
 number_is_time : (n : ℕ) (test : Bool) (left : Words) → (test ≡ true → n ≤ latest)
     → Gives (with_rest left (ok_or (option_map units_of (cond test (Some n) None)) Number)) IsTime
-number_is_time n true left le = let small : n ≤ latest = le refl in record { least = omega (arith, ints); most = omega (arith, ints) }
+number_is_time n true left le = let small = le refl in record {
+  least = omega (arith, ints);
+  most =
+      omega (arith, ints);
+}
 number_is_time n false left le = tt
 
 units_are_time : (ws : Words) → Gives (units ws) IsTime
@@ -38,7 +42,8 @@ time_first network ws =
 -- a line's event has a time
 pub event_time : (network : Network) (text : List ℕ) (event : Event) → event_read network text ≡ Ok event → IsTime event.time
 unfolding event_read
-event_time network text event e = from_outcome (λ (d : Event). IsTime d.time) (event_reader network (words text)) event (time_first network (words text)) e
+event_time network text event e = from_outcome (λ d. IsTime d.time) (event_reader network (words text)) event
+    (time_first network (words text)) e
 
 -- ---- a hold
 
@@ -86,4 +91,5 @@ event_holds network ws =
 -- a hold that a line sets is a time
 pub event_hold : (network : Network) (text : List ℕ) (event : Event) → event_read network text ≡ Ok event → HoldsATime event.what
 unfolding event_read
-event_hold network text event e = from_outcome (λ (d : Event). HoldsATime d.what) (event_reader network (words text)) event (event_holds network (words text)) e
+event_hold network text event e = from_outcome (λ d. HoldsATime d.what) (event_reader network (words text)) event
+    (event_holds network (words text)) e

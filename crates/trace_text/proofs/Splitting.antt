@@ -18,7 +18,7 @@ parted : (p : ℕ → Bool) (xs : List ℕ) → PartedAt p xs (position p xs)
 parted p xs = parted_case p xs (nat_lt (position_or_len p xs) (length xs)) refl
 
 pub words_parted : (text : List ℕ) (i : ℕ) → position is_space text ≡ Some i → words text ≡ take i text ∷ words (drop (i + 1) text)
-words_parted text i e = let h : PartedAt is_space text (position is_space text) = parted is_space text in rw e at h
+words_parted text i e = let h = parted is_space text in rw e at h
 
 pub words_whole : (text : List ℕ) → position is_space text ≡ None → words text ≡ text ∷ []
-words_whole text e = let h : PartedAt is_space text (position is_space text) = parted is_space text in rw e at h
+words_whole text e = let h = parted is_space text in rw e at h

@@ -2,7 +2,7 @@
 use Rattle.{hex.specs.Hex.encode_lower, net_plan.specs.Ranges.IsInRange, std.specs.List.join_with_byte}
 use Rattle.net_plan.specs.{Belonging.{device_name, link_name}, declared.{event.Event.Event, ids.{DeviceId.DeviceId, LinkId.LinkId}, network.Network.Network}}
 use Rattle.{net_plan.specs.declared.{event.What.What, tables.Way.Way}, trace_text.proofs.EventsBack.text_joined, tte_units.specs.declared.units.Units.Units}
-use Rattle.std.proofs.{Common.{◌++◌, ◌∙◌, ◌∷◌, ◌≡◌, Err, List, Ok, [], ap, append-nil, refl, sym, ℕ}, lemmas.List.Splits.join_with_byte-slice_split}
+use Rattle.std.proofs.{Common.{◌++◌, ◌∙◌, ◌∷◌, ◌≡◌, Err, Ok, [], ap, append-nil, refl, sym}, lemmas.List.Splits.join_with_byte-slice_split}
 use Rattle.{std.{proofs.lemmas.List.map-append, specs.{Char.to_ascii_lowercase, Fmt.signed_decimal, Result.result_unwrap_or}}, trace_text.specs.Laws.PrintsBack}
 use Rattle.trace_text.proofs.Lowering.{device_forth, event_word_forth, link_forth, lower, lower_words, octets_forth, rate_forth, units_forth, way_forth}
 use Rattle.trace_text.specs.{EventLine.what_words, declared.event_word.EventWord.{EventWord, TheVariants.{Break, Cut, End, Heal, Hold, On, Rate, Send, Wire}}}
@@ -25,7 +25,7 @@ steps (Err fault) next y left e = absurd (cc e)
 given : {A : Type 0} (x y : A) (left rest : Words) → ◌≡◌ {A = Read (A × Words)} (Ok (x, left)) (Ok (y, rest)) → (x ≡ y) × (left ≡ rest)
 given {A} x y left rest e =
     let pairs : ◌≡◌ {A = A × Words} (x, left) (y, rest) = ap (λ (r : Read (A × Words)). result_unwrap_or r (x, left)) e in
-    (ap (λ (p : A × Words). p.0) pairs, ap (λ (p : A × Words). p.1) pairs)
+    (ap (λ p. p.0) pairs, ap (λ p. p.1) pairs)
 
 -- the words of an event and those that are left
 abbrev Spelled : Network → EventWord → Words → What → Words → Type 0
@@ -39,9 +39,10 @@ device_spelled_forth : (network : Network) (word : EventWord) (make : DeviceId �
 device_spelled_forth network word make spells n ws what left e =
     let s = steps (device network ws) (λ d. give (make d)) what left e in
     let g = given (make s.x) what s.between left s.behind in
-    ap (λ (t : Words). event_word_text word ∷ t) (device_forth network n ws s.x s.between s.first ∙ ap (λ (t : Words). device_name network s.x ∷ lower_words t)
+    ap (λ t. event_word_text word ∷ t) (device_forth network n ws s.x s.between s.first ∙ ap
+    (λ t. device_name network s.x ∷ lower_words t)
     g.1)
-    ∙ ap (λ (t : Words). t ++ lower_words left) (sym (spells s.x) ∙ ap (what_words network) g.0)
+    ∙ ap (λ t. t ++ lower_words left) (sym (spells s.x) ∙ ap (what_words network) g.0)
 
 -- a name and a way
 way_spelled_forth : (network : Network) (word : EventWord) (make : LinkId → Way → What)
@@ -52,10 +53,11 @@ way_spelled_forth network word make spells n ws what left e =
     let s = steps (link network ws) (λ l. way >>= λ w. give (make l w)) what left e in
     let t = steps (way s.between) (λ w. give (make s.x w)) what left s.behind in
     let g = given (make s.x t.x) what t.between left t.behind in
-    ap (λ (ws : Words). event_word_text word ∷ ws)
-    (link_forth network n ws s.x s.between s.first ∙ ap (λ (ws : Words). link_name network s.x ∷ ws) (way_forth s.between t.x t.between t.first
-    ∙ ap (λ (ws : Words). way_text t.x ∷ lower_words ws) g.1))
-    ∙ ap (λ (ws : Words). ws ++ lower_words left) (sym (spells s.x t.x) ∙ ap (what_words network) g.0)
+    ap (λ ws. event_word_text word ∷ ws)
+    (link_forth network n ws s.x s.between s.first ∙ ap (λ ws. link_name network s.x ∷ ws)
+    (way_forth s.between t.x t.between t.first
+    ∙ ap (λ ws. way_text t.x ∷ lower_words ws) g.1))
+    ∙ ap (λ ws. ws ++ lower_words left) (sym (spells s.x t.x) ∙ ap (what_words network) g.0)
 
 -- a name, a way and a time
 delay_spelled_forth : (network : Network) (word : EventWord) (make : LinkId → Way → Units → What)
@@ -67,12 +69,13 @@ delay_spelled_forth network word make spells n ws what left e =
     let t = steps (way s.between) (λ w. units >>= λ u. give (make s.x w u)) what left s.behind in
     let v = steps (units t.between) (λ u. give (make s.x t.x u)) what left t.behind in
     let g = given (make s.x t.x v.x) what v.between left v.behind in
-    ap (λ (ws : Words). event_word_text word ∷ ws)
+    ap (λ ws. event_word_text word ∷ ws)
     (link_forth network n ws s.x s.between s.first
-    ∙ ap (λ (ws : Words). link_name network s.x ∷ ws)
-    (way_forth s.between t.x t.between t.first ∙ ap (λ (ws : Words). way_text t.x ∷ ws) (units_forth t.between v.x v.between v.first
-    ∙ ap (λ (ws : Words). signed_decimal v.x.0 ∷ lower_words ws) g.1)))
-    ∙ ap (λ (ws : Words). ws ++ lower_words left) (sym (spells s.x t.x v.x) ∙ ap (what_words network) g.0)
+    ∙ ap (λ ws. link_name network s.x ∷ ws)
+    (way_forth s.between t.x t.between t.first ∙ ap (λ ws. way_text t.x ∷ ws)
+    (units_forth t.between v.x v.between v.first
+    ∙ ap (λ ws. signed_decimal v.x.0 ∷ lower_words ws) g.1)))
+    ∙ ap (λ ws. ws ++ lower_words left) (sym (spells s.x t.x v.x) ∙ ap (what_words network) g.0)
 
 what_forth : (network : Network) → IsInRange network → (word : EventWord) (ws : Words) (what : What) (left : Words)
     → what_behind network word ws ≡ Ok (what, left) → Spelled network word ws what left
@@ -81,10 +84,11 @@ what_forth network n Rate ws what left e =
     let s = steps (device network ws) (λ d. rate >>= λ r. give (events.Rate d r)) what left e in
     let t = steps (rate s.between) (λ r. give (events.Rate s.x r)) what left s.behind in
     let g = given (events.Rate s.x t.x) what t.between left t.behind in
-    ap (λ (ws : Words). event_word_text Rate ∷ ws)
-    (device_forth network n ws s.x s.between s.first ∙ ap (λ (ws : Words). device_name network s.x ∷ ws) (rate_forth s.between t.x t.between t.first
-    ∙ ap (λ (ws : Words). signed_decimal t.x.0 ∷ lower_words ws) g.1))
-    ∙ ap (λ (x : What). what_words network x ++ lower_words left) g.0
+    ap (λ ws. event_word_text Rate ∷ ws)
+    (device_forth network n ws s.x s.between s.first ∙ ap (λ ws. device_name network s.x ∷ ws)
+    (rate_forth s.between t.x t.between t.first
+    ∙ ap (λ ws. signed_decimal t.x.0 ∷ lower_words ws) g.1))
+    ∙ ap (λ x. what_words network x ++ lower_words left) g.0
 what_forth network n Wire ws what left e = delay_spelled_forth network Wire events.Wire (λ l w u. refl) n ws what left e
 what_forth network n Hold ws what left e = delay_spelled_forth network Hold events.Hold (λ l w u. refl) n ws what left e
 what_forth network n Cut ws what left e = way_spelled_forth network Cut events.Cut (λ l w. refl) n ws what left e
@@ -95,13 +99,13 @@ what_forth network n Send ws what left e =
     let s = steps (link network ws) (λ l. octets >>= λ o. give (events.Send l o)) what left e in
     let t = steps (octets s.between) (λ o. give (events.Send s.x o)) what left s.behind in
     let g = given (events.Send s.x t.x) what t.between left t.behind in
-    ap (λ (ws : Words). event_word_text Send ∷ ws)
-    (link_forth network n ws s.x s.between s.first ∙ ap (λ (ws : Words). link_name network s.x ∷ ws) (octets_forth s.between t.x t.between t.first
-    ∙ ap (λ (ws : Words). encode_lower t.x ∷ lower_words ws) g.1))
-    ∙ ap (λ (x : What). what_words network x ++ lower_words left) g.0
+    rw (link_forth network n ws s.x s.between s.first ∙ ap (λ ws. link_name network s.x ∷ ws)
+    (octets_forth s.between t.x t.between t.first
+    ∙ ap (λ ws. encode_lower t.x ∷ lower_words ws) g.1))
+    (ap (λ x. what_words network x ++ lower_words left) g.0)
 what_forth network n End ws what left e =
     let g = given events.End what ws left e in
-    ap (λ (ws : Words). event_word_text End ∷ lower_words ws) g.1 ∙ ap (λ (x : What). what_words network x ++ lower_words left) g.0
+    rw g.1 (ap (λ x. what_words network x ++ lower_words left) g.0)
 
 -- no word is left at the end
 ended : (ws : Words) (u : Unit {0}) (left : Words) → line_end ws ≡ Ok (u, left) → (ws ≡ []) × (left ≡ [])
@@ -126,18 +130,19 @@ event_forth network n ws event left e =
     let time = signed_decimal s.x.0 in
     let what = what_words network v.x in
     units_forth ws s.x s.between s.first
-    ∙ ap (λ (ws : Words). time ∷ ws) (event_word_forth s.between t.x t.between t.first ∙ what_forth network n t.x t.between v.x v.between v.first
-    ∙ ap (λ (ws : Words). what ++ lower_words ws) none ∙ append-nil what)
-    ∙ ap (λ (x : Event). signed_decimal x.time.0 ∷ what_words network x.what) g.0
+    ∙ ap (λ ws. time ∷ ws) (event_word_forth s.between t.x t.between t.first ∙ what_forth network n t.x t.between v.x
+    v.between v.first
+    ∙ ap (λ ws. what ++ lower_words ws) none ∙ append-nil what)
+    ∙ ap (λ x. signed_decimal x.time.0 ∷ what_words network x.what) g.0
 
 lower_joined : (ws : Words) → lower (join_with_byte space ws) ≡ join_with_byte space (lower_words ws)
 lower_joined [] = refl
 lower_joined (w ∷ []) = refl
 lower_joined (w ∷ v ∷ vs) =
-    map-append to_ascii_lowercase w (space ∷ join_with_byte space (v ∷ vs)) ∙ ap (λ (t : List ℕ). lower w ++ space ∷ t) (lower_joined (v ∷ vs))
+    map-append to_ascii_lowercase w (space ∷ join_with_byte space (v ∷ vs)) ∙ (rw (lower_joined (v ∷ vs)))
 
 read_case : (r : Read (Event × Words)) (event : Event) → outcome r ≡ Ok event → (left : Words) × (r ≡ Ok (event, left))
-read_case (Ok step) event e = (step.1, ap (λ (x : Event). Ok (x, step.1)) (ap (λ (r : Read Event). result_unwrap_or r step.0) e))
+read_case (Ok step) event e = (step.1, ap (λ x. Ok (x, step.1)) (ap (λ r. result_unwrap_or r step.0) e))
 read_case (Err fault) event e = absurd (cc e)
 
 pub prints_back : PrintsBack

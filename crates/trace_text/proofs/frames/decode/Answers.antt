@@ -2,7 +2,11 @@ use Rattle.{hex.proofs.Pairs.decode_start, std.proofs.Common.arith, trace_text.p
 use Rattle.trace_text.proofs.frames.decode.Goals as goal
 
 pub octets-init : goal.octets-init
-octets-init c = record { read = λ low. decode_start c.args.text.now c.args.octets.now; spoilt = λ high. absurd (omega (arith, high)) }
+octets-init c = record {
+  read = λ low. decode_start c.args.text.now c.args.octets.now;
+  spoilt =
+      λ high. absurd (omega arith);
+}
 
 pub octets-preserved : goal.octets-preserved
 octets-preserved c =

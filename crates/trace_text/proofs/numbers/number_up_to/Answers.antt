@@ -1,10 +1,9 @@
-use Rattle.{std.proofs.Common.{◌<◌, ◌≡◌, get_or, length, rules, sym}, trace_text.proofs.Decimals.{number_empty, number_leading_zero, number_of_digits}}
+use Rattle.{std.proofs.Common.{◌≡◌, get_or, length, rules, sym}, trace_text.proofs.Decimals.{number_empty, number_leading_zero, number_of_digits}}
 use Rattle.trace_text.proofs.numbers.number_up_to.Goals as goal
 
 pub returns-then-is_empty-clause-value : goal.returns-then-is_empty-clause-value
 returns-then-is_empty-clause-value c =
-    let none : length c.args.text.now ≡ 0 = search rules in
-    sym (number_empty c.args.most c.args.text.now none)
+    sym (number_empty c.args.most c.args.text.now (search rules))
 
 pub returns-then-has_leading_zero-clause-value : goal.returns-then-has_leading_zero-clause-value
 returns-then-has_leading_zero-clause-value c =
@@ -14,6 +13,5 @@ returns-then-has_leading_zero-clause-value c =
 pub returns-clause-value : goal.returns-clause-value
 returns-clause-value c =
     let text = c.args.text.now in
-    let some : 0 < length text = search rules in
     let plain : get_or text 0 0 ≡ 48 → length text ≡ 1 = λ zero. search rules in
-    number_of_digits c.args.most text c.value_up_to.result c.requires some plain c.value_up_to.ensures
+    number_of_digits c.args.most text c.value_up_to.result c.requires (search rules) plain c.value_up_to.ensures

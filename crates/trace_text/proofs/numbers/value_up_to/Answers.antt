@@ -1,10 +1,10 @@
-use Rattle.{std.proofs.Common.{◌+◌, ◌-◌, ◌<◌, ◌≡◌, arith, get_or, length, rules, true}, trace_text.proofs.Decimals.{digit_shows, digit_spells, digits_pass}}
-use Rattle.std.{proofs.lemmas.{Int.Digits.{digits_more, digits_value_more}, Str.Parse.digits_value-take-le}, specs.Char.{digit_value, is_ascii_digit}}
+use Rattle.{std.proofs.Common.{◌+◌, ◌<◌, ◌≡◌, arith, get_or, length, rules, true}, trace_text.proofs.Decimals.{digit_shows, digit_spells, digits_pass}}
+use Rattle.std.{proofs.lemmas.{Int.Digits.{digits_more, digits_value_more}, Str.Parse.digits_value-take-le}, specs.Char.{is_ascii_digit}}
 use Rattle.trace_text.proofs.numbers.value_up_to.Goals as goal
 
 pub returns-then-not-is_ascii_digit : goal.returns-then-not-is_ascii_digit
 returns-then-not-is_ascii_digit c all =
-    let passes : is_ascii_digit (get_or c.args.text.now c.digits.digit-index 0) ≡ true = digits_pass c.args.text.now c.digits.digit-index all.0
+    let passes = digits_pass c.args.text.now c.digits.digit-index all.0
     c.digits-test.true in
     cc
 
@@ -13,10 +13,17 @@ returns-then-number-most c all =
     let text = c.args.text.now in
     let i = c.digits.digit-index in
     let digit = get_or text i 0 in
-    let below : i < length text = search rules in
-    let spelled : digit_value digit ≡ digit - 48 = digit_spells digit (search rules) in
-    let more = digits_value_more 10 text i below in
-    omega (arith, more, spelled, c.digits.invariant.value, c.from.ensures, c.if-number-most.true, digits_value-take-le 10 text (i + 1) (omega arith), all.1)
+    let spelled = digit_spells digit (search rules) in
+    let more = digits_value_more 10 text i (search rules) in
+    omega (
+      arith,
+      c.digits.invariant.value,
+      c.from.ensures,
+      c.if-number-most.true,
+      digits_value-take-le 10 text (i + 1)
+          (omega arith),
+      all.1,
+    )
 
 pub digits-preserved : goal.digits-preserved
 digits-preserved c =

@@ -1,4 +1,4 @@
-use Rattle.std.proofs.{Common.{◌+◌, ◌∙◌, ◌∷◌, ◌≡◌, List, ap, drop, rules, sym, take, ℕ}, lemmas.List.take_rest}
+use Rattle.std.proofs.{Common.{◌+◌, ◌∙◌, ◌∷◌, ◌≡◌, ap, rules, sym, take}, lemmas.List.take_rest}
 use Rattle.trace_text.{proofs.Splitting.{words_parted, words_whole}, specs.Steps.words}
 use Rattle.trace_text.proofs.words.Words.next_word.Goals as goal
 
@@ -6,12 +6,11 @@ pub returns-in-Some : goal.returns-in-Some
 returns-in-Some c =
     let text = c.in_ok-left.left.now in
     let place = c.in-Some.place in
-    let parted : words text ≡ take place text ∷ words (drop (place + 1) text) = words_parted text place (search rules) in
+    let parted = words_parted text place (search rules) in
     let whole : c.args.self.now ≡ words text = search rules in
-    whole ∙ parted ∙ ap (λ (rest : List ℕ). take place text ∷ words rest) (sym (take_rest text (place + 1)))
+    whole ∙ parted ∙ ap (λ rest. take place text ∷ words rest) (sym (take_rest text (place + 1)))
 
 pub returns-in-None : goal.returns-in-None
 returns-in-None c =
     let text = c.in_ok-left.left.now in
-    let whole : c.args.self.now ≡ words text = search rules in
-    whole ∙ words_whole text (search rules)
+    (search rules) ∙ words_whole text (search rules)
