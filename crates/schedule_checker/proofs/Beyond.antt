@@ -1,10 +1,10 @@
 -- A rule that is kept at the places where it is judged is kept at each.
-use Rattle.std.proofs.Common.{◌<◌, ◌∷◌, ◌≡◌, ◌≤◌, Bool, List, None, Some, [], ap, arith, cond, false, get_or, length, refl, subst, true, ℕ, ⊎_elim}
+use Rattle.std.proofs.Common.{◌<◌, ◌∷◌, ◌≡◌, ◌≤◌, Bool, List, Some, [], ap, arith, cond, false, length, refl, subst, true, ℕ, ⊎_elim}
 use Rattle.std.proofs.lemmas.{Bool.{cases_lt, ne_eqb}, List.{Elements.All-tail, Sums.sum_by-cons}, Option.{slice_get_cases, slice_get_within}}
 use Rattle.std.specs.{List.{All, count_by}, Prelude.slice_get}
-use Rattle.net_plan.specs.{Places.is_end_system, Ranges.{IsInRange, IsLinkInRange, IsRowInRange}, declared.{network.Network.Network, tables.Device.Device}}
+use Rattle.net_plan.specs.{Places.is_end_system, Ranges.{IsInRange, IsLinkInRange, IsRowInRange}, declared.{network.Network.Network}}
 use Rattle.net_plan.specs.declared.tables.{Link.Link, Row.Row, Way.{Way, TheVariants.{Down, Up}}}
-use Rattle.schedule_tables.specs.{Entries.source_by, Rules.{IsKept, IsKeptAt}, Schedule.{HasFewRows, leaves}, declared.rule.Rule.{Rule, TheVariants.WindowEnds}}
+use Rattle.schedule_tables.specs.{Entries.source_by, Rules.{IsKept, IsKeptAt}, Schedule.{leaves}, declared.rule.Rule.{Rule, TheVariants.WindowEnds}}
 use Rattle.schedule_tables.specs.declared.rule.Rule.TheVariants.{BothChannels, CompressionMasters, Connections, Correction, Delays, DevicesDiffer, Forwarding}
 use Rattle.schedule_tables.specs.declared.rule.Rule.TheVariants.{Joints, Limits, LinksDiffer, LinksOnce, Masters, Periods, Precision, RowsOfDevice}
 use Rattle.schedule_tables.specs.declared.rule.Rule.TheVariants.{ScheduleStart, Senders, Settling, Sources, Spacing, Targets, VlIdsDiffer, VlNamesDiffer}
@@ -16,40 +16,44 @@ IsKeptWhereJudged rule n = (k : ℕ) → k < places_of rule n → IsKeptAt rule 
 
 limits : (n : Network) → IsKeptWhereJudged Limits n → IsKept Limits n
 limits n h k =
-    ⊎_elim (λ (l : k < 4). h k l)
-    (λ (g : 4 ≤ k). let r : IsKeptAt Limits n k = record {
-      devices = λ e. absurd (omega (arith, e, g));
-      links = λ e. absurd (omega (arith, e, g));
-      vls = λ e. absurd (omega (arith, e, g));
-      rows = λ e. absurd (omega (arith, e, g));
+    ⊎_elim (λ l. h k l)
+    (λ g. let r : IsKeptAt Limits n k = record {
+      devices = λ e. absurd (omega arith);
+      links = λ e. absurd (omega arith);
+      vls = λ e. absurd (omega arith);
+      rows = λ e. absurd (omega arith);
     } in r)
     (cases_lt k 4)
 
 cms : (n : Network) → IsKeptWhereJudged CompressionMasters n → IsKept CompressionMasters n
 cms n h k =
-    ⊎_elim (λ (l : k < 2). h k l)
-    (λ (g : 2 ≤ k). let r : IsKeptAt CompressionMasters n k = record { on_a = λ e. absurd (omega (arith, e, g)); on_b = λ e. absurd (omega (arith, e, g)) } in
+    ⊎_elim (λ l. h k l)
+    (λ g. let r : IsKeptAt CompressionMasters n k = record {
+      on_a = λ e. absurd (omega arith);
+      on_b =
+          λ e. absurd (omega arith);
+    } in
     r)
     (cases_lt k 2)
 
 masters : (n : Network) → IsKeptWhereJudged Masters n → IsKept Masters n
 masters n h k =
-    ⊎_elim (λ (l : k < 6). h k l)
-    (λ (g : 6 ≤ k). let r : IsKeptAt Masters n k = record {
-      least = λ e. absurd (omega (arith, e, g));
-      most = λ e. absurd (omega (arith, e, g));
-      members = λ e. absurd (omega (arith, e, g));
-      threshold_least = λ e. absurd (omega (arith, e, g));
-      threshold_most = λ e. absurd (omega (arith, e, g));
-      begin_on = λ e. absurd (omega (arith, e, g));
-      starts = λ e. absurd (omega (arith, e, g));
-      one_faulty = λ e. absurd (omega (arith, e, g));
+    ⊎_elim (λ l. h k l)
+    (λ g. let r : IsKeptAt Masters n k = record {
+      least = λ e. absurd (omega arith);
+      most = λ e. absurd (omega arith);
+      members = λ e. absurd (omega arith);
+      threshold_least = λ e. absurd (omega arith);
+      threshold_most = λ e. absurd (omega arith);
+      begin_on = λ e. absurd (omega arith);
+      starts = λ e. absurd (omega arith);
+      one_faulty = λ e. absurd (omega arith);
     } in r)
     (cases_lt k 6)
 
 connections : (n : Network) → IsKeptWhereJudged Connections n → IsKept Connections n
 connections n h k = record {
-  ends = λ e. (h k (within (λ (d : Device). is_end_system d.role ≡ true) n.device k e)).ends e;
+  ends = λ e. (h k (within (λ d. is_end_system d.role ≡ true) n.device k e)).ends e;
   relays = λ c e. (h k (within _ n.device k e)).relays c e;
   paths = λ c e. (h k (within _ n.device k e)).paths c e;
 }
@@ -72,15 +76,15 @@ both_channels n h k = record {
   leaves = λ vl c at. (h k (slice_get_within n.vl k vl at)).leaves vl c at;
   enters = λ vl at. (h k (slice_get_within n.vl k vl at)).enters vl at;
   same = λ d c e end on.
-      let at : slice_get n.vl k ≡ Some on.entry.vl = subst (λ v. slice_get n.vl v.0 ≡ Some on.entry.vl) on.same_vl on.is.vl in
+      let at : slice_get n.vl k ≡ Some on.entry.vl = rw on.same_vl at on.is.vl in
       (h k (slice_get_within n.vl k on.entry.vl at)).same d c e end on;
 }
 
 -- the ends of a link in range are there
 source_there : {n : Network} (k : ℕ) (way : Way) {link : Link} → length n.device ≤ k → IsLinkInRange n link
     → (source_by way link).0 ≡ k → ⊥
-source_there k Up past ends e = omega (arith, past, ends.child, e)
-source_there k Down past ends e = omega (arith, past, ends.parent, e)
+source_there k Up past ends e = omega (arith, ends.child)
+source_there k Down past ends e = omega (arith, ends.parent)
 
 -- no row leaves a device that is not there
 unleft : {n : Network} → IsInRange n → (k : ℕ) → length n.device ≤ k → {row : Row} → IsRowInRange n row
@@ -88,29 +92,29 @@ unleft : {n : Network} → IsInRange n → (k : ℕ) → length n.device ≤ k �
 unleft {n} range k past {row} is =
     let at = slice_get_cases n.link row.link.0 in
     ⊎_elim
-    (λ (c : (l : Link) × (row.link.0 < length n.link) × (slice_get n.link row.link.0 ≡ Some l) × (get_or n.link row.link.0 l ≡ l)).
+    (λ c.
     let ends : IsLinkInRange n c.0 = subst (IsLinkInRange n) c.3 (range.links row.link.0 c.0 c.1) in
     let r : leaves n (record { 0 = k }) row ≡ false =
     rw c.2 (ne_eqb (source_by row.way c.0).0 k (λ e. source_there k row.way past ends e)) in r)
-    (λ (c : (length n.link ≤ row.link.0) × (slice_get n.link row.link.0 ≡ None)). absurd (omega (arith, c.0, is.link)))
+    (λ c. absurd (omega (arith, c.0, is.link)))
     at.1
 
 -- a test that fails at each element counts none
 none_counted : {X : Type 0} (p : X → Bool) (xs : List X) → All (λ x. p x ≡ false) xs → count_by p xs ≡ 0
 none_counted p [] h = refl
 none_counted p (x ∷ xs) h =
-    let first : p x ≡ false = h 0 x (omega arith) in
+    let first = h 0 x (omega arith) in
     let one : Bool → ℕ = λ b. cond b 1 0 in
     let here : one (p x) ≡ 0 = ap one first in
-    omega (arith, sum_by-cons (λ y. one (p y)) x xs, here, none_counted p xs (All-tail (λ y. p y ≡ false) x xs h))
+    omega (arith, sum_by-cons (λ y. one (p y)) x xs, none_counted p xs (All-tail (λ y. p y ≡ false) x xs h))
 
 rows_of_device : {n : Network} → IsInRange n → IsKeptWhereJudged RowsOfDevice n → IsKept RowsOfDevice n
 rows_of_device {n} range h k =
-    ⊎_elim (λ (l : k < length n.device). h k l)
-    (λ (g : length n.device ≤ k).
-    let none : count_by (leaves n (record { 0 = k })) n.row ≡ 0 = none_counted (leaves n (record { 0 = k })) n.row
+    ⊎_elim (λ l. h k l)
+    (λ g.
+    let none = none_counted (leaves n (record { 0 = k })) n.row
     (λ i d below. unleft range k g (range.rows i d below)) in
-    let r : HasFewRows n k = omega (arith, none) in r)
+    (omega (arith, none)))
     (cases_lt k (length n.device))
 
 pub kept_beyond : (rule : Rule) {n : Network} → IsInRange n → IsKeptWhereJudged rule n → IsKept rule n

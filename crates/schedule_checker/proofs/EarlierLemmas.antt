@@ -28,7 +28,7 @@ new_from_all mark xs place x false at old = (
   λ t. absurd (false≢true t),
   λ new.
       let bounds = length-take place xs in
-      let below : old.0 < place = omega (arith, bounds, old.1) in
-      let within : old.0 < length xs = omega (arith, bounds, old.1) in
+      let below : old.0 < place = omega (arith, old.1) in
+      let within : old.0 < length xs = omega (arith, old.1) in
       absurd (new old.0 (get_or xs old.0 x) x below (slice_get-get_or xs old.0 x within) at (sym (old.2 x) ∙ ap mark (get_or-take place xs old.0 x below))),
 )

@@ -9,7 +9,8 @@ same_padded size xs ys = pointwise eqb (padded size xs) (padded size ys) && eqb 
 
 -- names of one length that are equal with zeros behind them are equal
 one_text : (size : ℕ) (xs ys : List ℕ) → padded size xs ≡ padded size ys → length xs ≡ length ys → xs ≡ ys
-one_text size xs ys same long = sym (take-append_seam xs _) ∙ ap (take (length xs)) same ∙ ap (λ n. take n (padded size ys)) long ∙ take-append_seam ys _
+one_text size xs ys same long = sym (take-append_seam xs _) ∙ ap (take (length xs)) same ∙
+    (rw long (take-append_seam ys _))
 
 -- `==` decides whether names are equal
 pub decides_name : (size : ℕ) (xs ys : List ℕ) (r : Bool) → r ≡ same_padded size xs ys → Decides r (xs ≡ ys)

@@ -1,7 +1,7 @@
 -- A network has one first broken rule.
-use Rattle.std.proofs.{Common.{◌-◌, ◌<◌, ◌∙◌, ◌∷◌, ◌≡◌, ◌≤◌, List, [], ap, arith, get_or, refl, subst, sym, ℕ, ⊎_elim}, lemmas.Bool.cases_lt}
+use Rattle.std.proofs.{Common.{◌-◌, ◌<◌, ◌∙◌, ◌∷◌, ◌≡◌, List, [], ap, arith, get_or, refl, sym, ℕ, ⊎_elim}, lemmas.Bool.cases_lt}
 use Rattle.net_plan.specs.declared.network.Network.{Network}
-use Rattle.schedule_tables.specs.{Numbers.number_of, Rules.{IsFirstBroken, IsKeptAt}, declared.rule.Rule.{Rule, TheVariants.WindowEnds}}
+use Rattle.schedule_tables.specs.{Numbers.number_of, Rules.{IsFirstBroken}, declared.rule.Rule.{Rule, TheVariants.WindowEnds}}
 use Rattle.schedule_tables.specs.declared.rule.Rule.TheVariants.{BothChannels, CompressionMasters, Connections, Correction, Delays, DevicesDiffer, Forwarding}
 use Rattle.schedule_tables.specs.declared.rule.Rule.TheVariants.{Joints, Limits, LinksDiffer, LinksOnce, Masters, Periods, Precision, RowsOfDevice}
 use Rattle.schedule_tables.specs.declared.rule.Rule.TheVariants.{ScheduleStart, Senders, Settling, Sources, Spacing, Targets, VlIdsDiffer, VlNamesDiffer}
@@ -54,26 +54,26 @@ no_earlier : {n : Network} {r s : Rule} {i j : ℕ} → IsFirstBroken n r i → 
 no_earlier {r} {i} a b below = a.broken (b.rules r below i)
 
 no_sooner : {n : Network} {r s : Rule} {i j : ℕ} → r ≡ s → IsFirstBroken n r i → IsFirstBroken n s j → i < j → ⊥
-no_sooner {n} {i} e a b below = a.broken (subst (λ x. IsKeptAt x n i) (sym e) (b.places i below))
+no_sooner {n} {i} e a b below = a.broken (rw e (b.places i below))
 
 same_number : {n : Network} {r s : Rule} {i j : ℕ} → IsFirstBroken n r i → IsFirstBroken n s j
     → number_of r ≡ number_of s
 same_number {r} {s} a b =
     ⊎_elim
-    (λ (l : number_of r < number_of s). let z : number_of r ≡ number_of s = absurd (no_earlier a b l) in z)
-    (λ (g : number_of s ≤ number_of r). ⊎_elim
-    (λ (l : number_of s < number_of r). let z : number_of r ≡ number_of s = absurd (no_earlier b a l) in z)
-    (λ (h : number_of r ≤ number_of s). let z : number_of r ≡ number_of s = omega (arith, g, h) in z)
+    (λ l. let z = absurd (no_earlier a b l) in z)
+    (λ g. ⊎_elim
+    (λ l. let z = absurd (no_earlier b a l) in z)
+    (λ h. (omega (arith, g, h)))
     (cases_lt (number_of s) (number_of r)))
     (cases_lt (number_of r) (number_of s))
 
 same_place : {n : Network} {r s : Rule} {i j : ℕ} → r ≡ s → IsFirstBroken n r i → IsFirstBroken n s j → i ≡ j
 same_place {i} {j} e a b =
     ⊎_elim
-    (λ (l : i < j). let z : i ≡ j = absurd (no_sooner e a b l) in z)
-    (λ (g : j ≤ i). ⊎_elim
-    (λ (l : j < i). let z : i ≡ j = absurd (no_sooner (sym e) b a l) in z)
-    (λ (h : i ≤ j). let z : i ≡ j = omega (arith, g, h) in z)
+    (λ l. let z = absurd (no_sooner e a b l) in z)
+    (λ g. ⊎_elim
+    (λ l. let z = absurd (no_sooner (sym e) b a l) in z)
+    (λ h. (omega (arith, g, h)))
     (cases_lt j i))
     (cases_lt i j)
 
@@ -81,4 +81,4 @@ pub refusal_is_one : RefusalIsOne
 refusal_is_one n t u a b =
     let numbers = same_number a.first b.first in
     let places = same_place (same_rule a.rule b.rule numbers) a.first b.first in
-    ap (λ m. told_of m t.index) (a.number ∙ numbers ∙ sym b.number) ∙ ap (λ i. told_of u.number i) places
+    rw (a.number ∙ numbers ∙ sym b.number) ((rw places))

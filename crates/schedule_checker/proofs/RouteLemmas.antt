@@ -1,9 +1,9 @@
 -- What holds of a network's entries, said of its virtual links.
 use Rattle.{net_plan.specs.Places.IsEndSystem, schedule_checker.proofs.SomePlaces.HoldsBy, std.specs.{Bool.Decides, List.{All, slice_get}}}
-use Rattle.{net_plan.specs.declared.{ids.{DeviceId.DeviceId, VlId.VlId}, network.Network.Network, tables.Row.Row}, std.proofs.lemmas.Bool.Decides.Decides-like}
+use Rattle.{net_plan.specs.declared.{ids.{DeviceId.DeviceId, VlId.VlId}, network.Network.Network}, std.proofs.lemmas.Bool.Decides.Decides-like}
 use Rattle.{net_plan.specs.declared.tables.VirtualLink.VirtualLink, schedule_checker.proofs.EntryPlaces.{all_of_earlier, earlier_of_all, entry_at, stands_at}}
 use Rattle.tte_units.{proofs.general_lemmas.Options.some_same, specs.declared.frames.channel.Channel.{Channel, TheVariants.{A, B}}}
-use Rattle.schedule_checker.{proofs.Selection.{Each, Holds}, specs.Routes.{IsEntering, IsEnteringEnd, IsLeaving, LeavesOnBoth, ShareChannel, TargetIsAlike}}
+use Rattle.schedule_checker.{proofs.Selection.{Each, Holds}, specs.Routes.{IsEntering, IsEnteringEnd, IsLeaving, LeavesOnBoth, TargetIsAlike}}
 use Rattle.schedule_checker.specs.Routes.{EntersAgain, EntersAlike, EntersAllAlike, EntersEndSystem, EntersSource, GoesElsewhere, IsEnteredElsewhere}
 use Rattle.schedule_tables.specs.{Entries.{AreEntries, EntryIsOne, IsEntry, IsOnChannel, source_of, target_of}, declared.entry.Entry.Entry}
 use Rattle.schedule_tables.specs.Schedule.{EntersAnew, EntersOn, GoesByBothChannels, GoesOnceByLink, HasSource, IsSwitch, LeavesOn}
@@ -20,8 +20,7 @@ goes_once {n} {es} {place} {e} r are one at =
     let found = entry_at n es are k earlier was in
     let apart : GoesElsewhere e found.0 = earlier_of_all n es (take place es) place (GoesElsewhere e) are one refl all k found.0 below found.1 in
     let same : e.row ≡ here = some_same e.row here (slice_get n.row place) at.row is in
-    subst (λ (x : Row). x.vl ≡ earlier.vl → x.link ≢ earlier.link) same
-    (subst (λ (y : Row). e.row.vl ≡ y.vl → e.row.link ≢ y.link) found.2 apart))
+    rw (sym same) (rw (sym found.2) apart))
     (λ kept. all_of_earlier n es (take place es) place (GoesElsewhere e) are refl (λ k earlier below was. kept k earlier.row e.row below was.row at.row))
 
 -- ---- rows of a virtual link on a channel
@@ -42,8 +41,8 @@ module _ {n : Network} {es : List Entry} (vl : VlId) (channel : Channel) (device
 
 on_some : (n : Network) (e : Entry) → IsOnChannel n A e ⊎ IsOnChannel n B e → (channel : Channel) × IsOnChannel n channel e
 on_some n e h =
-    ⊎_elim (λ (a : IsOnChannel n A e). let r : (channel : Channel) × IsOnChannel n channel e = (A, a) in r)
-    (λ (b : IsOnChannel n B e). let r : (channel : Channel) × IsOnChannel n channel e = (B, b) in r) h
+    ⊎_elim (λ (a : IsOnChannel n A e). (A, a))
+    (λ (b : IsOnChannel n B e). (B, b)) h
 
 on_either : (n : Network) (e : Entry) (channel : Channel) → IsOnChannel n channel e → IsOnChannel n A e ⊎ IsOnChannel n B e
 on_either n e A h = inl h
@@ -71,7 +70,7 @@ enters_end_system {n} vl r are one =
       l.place,
       l.entry,
       stands_at are one l.is,
-      (l.same_vl, subst (λ d. IsEndSystem n d) (sym l.target) h.2, on_either n l.entry h.0 l.on_channel),
+      (l.same_vl, rw (sym l.target) at h.2, on_either n l.entry h.0 l.on_channel),
     ))
 
 -- ---- the same end systems on both channels
@@ -113,7 +112,7 @@ pub both_channels : {n : Network} (place : ℕ) (vl : VirtualLink) → slice_get
     → EntersAllAlike n (record { 0 = place }) → GoesByBothChannels n place
 both_channels {n} place vl at leaves enters alike = record {
   leaves =
-      λ here channel is. let same : vl ≡ here = cc in subst (λ (x : VirtualLink). LeavesOn n (record { 0 = place }) channel x.sender) same (leaves channel);
+      λ here channel is. let same : vl ≡ here = cc in rw (sym same) (leaves channel);
   enters = λ here is. enters;
   same = λ device. (alike device).alike;
 }
@@ -153,10 +152,7 @@ module _ {n : Network} {es : List Entry} (place : ℕ) (e : Entry) (are : AreEnt
 
   pub has_source : EntryIsOne → IsEntry n place e → IsFed n es place e → HasSource n place
   has_source one at fed here is =
-      subst (λ (x : Entry). (source_of x ≡ x.vl.sender)
-      ⊎ (IsSwitch n (source_of x) × ((k : ℕ) × (k ≢ place) × Schedule.Enters n k x.row.vl (source_of x))))
-      (one n place e here at is)
-      (⊎_elim (λ (s : source_of e ≡ e.vl.sender). inl s)
+      rw (sym (one n place e here at is)) (⊎_elim (λ (s : source_of e ≡ e.vl.sender). inl s)
       (λ (s : IsSwitch n (source_of e) × IsEnteredElsewhere es place e). inr (s.0, entered s.1)) fed)
 
   pub has_source_back : EntryIsOne → IsEntry n place e → HasSource n place → IsFed n es place e
@@ -177,21 +173,22 @@ pub enters_anew : {n : Network} {es : List Entry} (front : List Entry) {place : 
 enters_anew {n} {es} front {place} {e} are one at cut sender all =
     let none = earlier_of_all n es front place (EntersNoneAgain n e) are one cut all in
     record {
-      no_sender = λ here is. subst (λ (x : Entry). target_of x ≢ x.vl.sender) (one n place e here at is) sender;
+      no_sender = λ here is. rw (one n place e here at is) at sender;
       switches =
-          λ k earlier here below was is same switch meets. subst (λ x. EntersNoneAgain n x earlier) (one n place e here at is)
-          (none k earlier below was) (record { same_vl = same; same_target = meets; once = inl switch });
+          λ k earlier here below was is same switch meets. (rw (one n place e here at is) at (none k earlier below was))
+          (record { same_vl = same; same_target = meets; once = inl switch });
       end_systems =
-          λ k earlier here channel below was is same end on_earlier on_here meets. subst (λ x. EntersNoneAgain n x earlier) (one n place e here at is)
-          (none k earlier below was) (record { same_vl = same; same_target = meets; once = inr (end, (channel, on_earlier, on_here)) });
+          λ k earlier here channel below was is same end on_earlier on_here meets.
+          (rw (one n place e here at is) at (none k earlier below was))
+          (record { same_vl = same; same_target = meets; once = inr (end, (channel, on_earlier, on_here)) });
     }
 
 none_again : (n : Network) (place : ℕ) (e : Entry) → IsEntry n place e → EntersAnew n place → (k : ℕ) (earlier : Entry) → k < place → IsEntry n k earlier
     → EntersAgain n earlier e → ⊥
 none_again n place e at kept k earlier below was h =
     ⊎_elim
-    (λ (s : IsSwitch n (target_of e)). kept.switches k earlier e below was at h.same_vl s h.same_target)
-    (λ (s : IsEndSystem n (target_of e) × ShareChannel n earlier e). let c = s.1 in kept.end_systems k earlier e c.0 below was at h.same_vl s.0 c.1 c.2
+    (λ s. kept.switches k earlier e below was at h.same_vl s h.same_target)
+    (λ s. let c = s.1 in kept.end_systems k earlier e c.0 below was at h.same_vl s.0 c.1 c.2
     h.same_target)
     h.once
 

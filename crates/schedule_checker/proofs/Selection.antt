@@ -19,17 +19,17 @@ all_of_each P xs each k d h = each k (get_or xs k d) (slice_get-get_or xs k d h)
 
 -- an element of the first n is one of all, and back
 from_take : {X : Type 0} (xs : List X) (n k : ℕ) (x : X) → slice_get (take n xs) k ≡ Some x → (k < n) × (slice_get xs k ≡ Some x)
-from_take [] zero k x h = absurd (grind (arith, h))
-from_take [] (suc n) k x h = absurd (grind (arith, h))
-from_take (y ∷ ys) zero k x h = absurd (grind (arith, h))
+from_take [] zero k x h = absurd (grind arith)
+from_take [] (suc n) k x h = absurd (grind arith)
+from_take (y ∷ ys) zero k x h = absurd (grind arith)
 from_take (y ∷ ys) (suc n) zero x h = (omega arith, h)
-from_take (y ∷ ys) (suc n) (suc k) x h = let r : (k < n) × (slice_get ys k ≡ Some x) = from_take ys n k x h in (omega (arith, r.0), r.1)
+from_take (y ∷ ys) (suc n) (suc k) x h = let r = from_take ys n k x h in (omega (arith, r.0), r.1)
 
 into_take : {X : Type 0} (xs : List X) (n k : ℕ) (x : X) → k < n → slice_get xs k ≡ Some x → slice_get (take n xs) k ≡ Some x
-into_take [] n k x below h = absurd (grind (arith, h))
-into_take (y ∷ ys) zero k x below h = absurd (omega (arith, below))
+into_take [] n k x below h = absurd (grind arith)
+into_take (y ∷ ys) zero k x below h = absurd (omega arith)
 into_take (y ∷ ys) (suc n) zero x below h = h
-into_take (y ∷ ys) (suc n) (suc k) x below h = into_take ys n k x (omega (arith, below)) h
+into_take (y ∷ ys) (suc n) (suc k) x below h = into_take ys n k x (omega arith) h
 
 pub below_of_all : {X : Type 0} (P : X → Type 0) (xs : List X) (n : ℕ) → All P (take n xs) → EachBelow P xs n
 below_of_all P xs n all k x below at = each_of_all P (take n xs) all k x (into_take xs n k x below at)
@@ -55,5 +55,8 @@ pub any_decides : {X : Type 0} (P : X → Type 0) (r : Bool) (xs : List X) → M
 any_decides P true xs h =
     let found = some_at xs h.0 h.1 in
     (λ e. (h.0, found.0, found.1, subst P (get_or_from_slice_get xs h.0 found.0 found.0 found.1) (h.2 found.0)), λ some. refl)
-any_decides {X} P false xs h =
-    (λ e. absurd (false≢true e), λ some. absurd (each_of_all (λ (x : X). ¬ P x) xs (λ k d below. h k d (omega arith) below) some.0 some.1 some.2 some.3))
+any_decides {X} P false xs h = (
+  λ e. absurd (false≢true e),
+  λ some. absurd (each_of_all (λ x. ¬ P x) xs (λ k d below. h k d (omega arith) below)
+      some.0 some.1 some.2 some.3),
+)

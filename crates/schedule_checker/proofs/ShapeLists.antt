@@ -7,7 +7,7 @@ use Rattle.std.{proofs.lemmas.{Bool.false≢true, List.{get_or-take, length-take
 -- what `all` answers, at a test of P
 pub decides_all : {X : Type 0} (P Q : X → Type 0) (xs : List X) (r : Bool) → ((x : X) → P x → Q x → ⊥)
     → MatchBool r (AllWithin P xs 0 (length xs)) ((k : ℕ) × (k < length xs) × HoldsAt Q xs k) → Decides r (All P xs)
-decides_all P Q [] true apart h = (λ _ k d below. absurd (omega (arith, below)), λ _. refl)
+decides_all P Q [] true apart h = (λ _ k d below. absurd (omega arith), λ _. refl)
 decides_all P Q [] false apart h = (λ e. absurd (false≢true e), λ _. absurd (omega (arith, h.1)))
 decides_all P Q (y ∷ ys) true apart h = (λ _ k d below. h k d (omega arith) below, λ _. refl)
 decides_all P Q (y ∷ ys) false apart h = (λ e. absurd (false≢true e), λ all. absurd (apart (get_or (y ∷ ys) h.0 y) (all h.0 y h.1) (h.2 y)))
@@ -19,16 +19,16 @@ IsNew {X} Differ xs i = (k : ℕ) (earlier x : X) → k < i → slice_get xs k �
 pub new_from_all : {X : Type 0} (Differ : X → X → Type 0) (xs : List X) (i : ℕ) (x : X) → slice_get xs i ≡ Some x → All (Differ x) (take i xs)
     → IsNew Differ xs i
 new_from_all Differ xs i x at all k e y below ke ie =
-    let within : k < length (take i xs) = omega (arith, length-take i xs, below, slice_get_within xs k e ke) in
-    let same : get_or (take i xs) k e ≡ e = get_or-take i xs k e below ∙ get_or_from_slice_get xs k e e ke in
-    let one : x ≡ y = same_Some x y (sym at ∙ ie) in
-    subst (λ z. Differ z e) one (subst (Differ x) same (all k e within))
+    let within : k < length (take i xs) = omega (arith, length-take i xs, slice_get_within xs k e ke) in
+    let same = get_or-take i xs k e below ∙ get_or_from_slice_get xs k e e ke in
+    let one = same_Some x y (sym at ∙ ie) in
+    rw one at (subst (Differ x) same (all k e within))
 
 pub all_from_new : {X : Type 0} (Differ : X → X → Type 0) (xs : List X) (i : ℕ) (x : X) → slice_get xs i ≡ Some x → IsNew Differ xs i
     → All (Differ x) (take i xs)
 all_from_new Differ xs i x at new k d within =
-    let below : k < i = omega (arith, length-take i xs, within) in
-    let inside : k < length xs = omega (arith, length-take i xs, within) in
+    let below : k < i = omega (arith, length-take i xs) in
+    let inside : k < length xs = omega (arith, length-take i xs) in
     subst (Differ x) (sym (get_or-take i xs k d below)) (new k (get_or xs k d) x below (slice_get-get_or xs k d inside) at)
 
 pub decides_new : {X : Type 0} (Differ : X → X → Type 0) (xs : List X) (i : ℕ) (x : X) (r : Bool) → slice_get xs i ≡ Some x
@@ -41,10 +41,10 @@ pub none_passes : {X : Type 0} (p : X → Bool) (P : X → Type 0) → ((x : X) 
 none_passes p P test [] none i h = absurd h
 none_passes p P test (x ∷ xs) none zero h =
     let e = (test x).1 h in
-    absurd (omega (arith, subst (λ (b : Bool). length (cond b (x ∷ filter p xs) (filter p xs)) ≡ 0) e none))
+    absurd (omega (arith, rw e at none))
 none_passes p P test (x ∷ xs) none (suc i) h =
     elim (p x) as (λ b. length (cond b (x ∷ filter p xs) (filter p xs)) ≡ 0 → ⊥) [
-      | true ↦ λ e. omega (arith, e)
+      | true ↦ λ e. omega arith
       | false ↦ λ e. none_passes p P test xs e i h
     ] none
 
@@ -59,7 +59,7 @@ none_to_pass p P test (x ∷ xs) none =
 
 -- exactly one element has the property, by its place
 abbrev pub IsAtOne : {X : Type 0} → (X → Type 0) → List X → Type 0
-IsAtOne P xs = ExactlyOne (λ (i : ℕ). IsSomeAnd (slice_get xs i) P)
+IsAtOne P xs = ExactlyOne (λ i. IsSomeAnd (slice_get xs i) P)
 
 first_alone : {X : Type 0} (P : X → Type 0) (x : X) (xs : List X) → P x → ((i : ℕ) → IsSomeAnd (slice_get xs i) P → ⊥) → IsAtOne P (x ∷ xs)
 first_alone P x xs here none = (0, here, only) where
@@ -78,10 +78,10 @@ only_in_rest P x xs zero out h only = absurd (out h)
 only_in_rest P x xs (suc i) out h only = (i, h, λ k g. omega (arith, only (suc k) g))
 
 pub one_passes : {X : Type 0} (p : X → Bool) (P : X → Type 0) → ((x : X) → Decides (p x) (P x)) → (xs : List X) → length (filter p xs) ≡ 1 → IsAtOne P xs
-one_passes p P test [] one = absurd (omega (arith, one))
+one_passes p P test [] one = absurd (omega arith)
 one_passes p P test (x ∷ xs) one =
     elim (p x) as (λ b. p x ≡ b → length (cond b (x ∷ filter p xs) (filter p xs)) ≡ 1 → IsAtOne P (x ∷ xs)) [
-      | true ↦ λ e n. first_alone P x xs ((test x).0 e) (none_passes p P test xs (omega (arith, n)))
+      | true ↦ λ e n. first_alone P x xs ((test x).0 e) (none_passes p P test xs (omega arith))
       | false ↦ λ e n. let one = one_passes p P test xs n in (suc one.0, one.1, only_behind P x xs one.0 (λ h. false≢true (sym e ∙ (test x).1 h)) one.2)
     ] refl one
 
@@ -89,25 +89,26 @@ pub one_to_pass : {X : Type 0} (p : X → Bool) (P : X → Type 0) → ((x : X) 
 one_to_pass p P test [] one = absurd one.1
 one_to_pass p P test (x ∷ xs) one =
     elim (p x) as (λ b. p x ≡ b → length (cond b (x ∷ filter p xs) (filter p xs)) ≡ 1) [
-      | true ↦ λ e. let rest = none_to_pass p P test xs (λ i h. omega (arith, one.2 (suc i) h, one.2 0 ((test x).0 e))) in omega (arith, rest)
+      | true ↦ λ e. let rest = none_to_pass p P test xs (λ i h. omega
+          (arith, one.2 (suc i) h, one.2 0 ((test x).0 e))) in omega arith
       | false ↦ λ e. one_to_pass p P test xs (only_in_rest P x xs one.0 (λ h. false≢true (sym e ∙ (test x).1 h)) one.1 one.2)
     ] refl
 
 module _ {I : Type 0} (number : I → ℕ) (id : ℕ → I) (back : ((i : I) → id (number i) ≡ i))
     (forth : ((k : ℕ) → number (id k) ≡ k)) where
   -- the same where places are ids
-  pub one_id : (P : ℕ → Type 0) → ExactlyOne P → ExactlyOne (λ (i : I). P (number i))
+  pub one_id : (P : ℕ → Type 0) → ExactlyOne P → ExactlyOne (λ i. P (number i))
   one_id P one = (id one.0, subst P (sym (forth one.0)) one.1, λ i h. sym (back i) ∙ ap id (one.2 (number i) h))
 
-  pub one_place : (P : ℕ → Type 0) → ExactlyOne (λ (i : I). P (number i)) → ExactlyOne P
+  pub one_place : (P : ℕ → Type 0) → ExactlyOne (λ i. P (number i)) → ExactlyOne P
   one_place P one = (number one.0, one.1, λ k h. sym (forth k) ∙ ap number (one.2 (id k) (subst P (sym (forth k)) h)))
 
 -- what a count of what passes answers
 pub decides_one : {X I : Type 0} (number : I → ℕ) (id : ℕ → I) → ((i : I) → id (number i) ≡ i) → ((k : ℕ) → number (id k) ≡ k)
     → (p : X → Bool) (P : X → Type 0) → ((x : X) → Decides (p x) (P x)) → (xs : List X) (n : ℕ) → n ≡ length (filter p xs)
-    → Decides (eqb n 1) (ExactlyOne (λ (i : I). IsSomeAnd (slice_get xs (number i)) P))
+    → Decides (eqb n 1) (ExactlyOne (λ i. IsSomeAnd (slice_get xs (number i)) P))
 decides_one number id back forth p P test xs n e =
     Decides-like (eqb n 1)
-    (λ (h : n ≡ 1). one_id number id back forth (λ (k : ℕ). IsSomeAnd (slice_get xs k) P) (one_passes p P test xs (sym e ∙ h)))
-    (λ one. e ∙ one_to_pass p P test xs (one_place number id back forth (λ (k : ℕ). IsSomeAnd (slice_get xs k) P) one))
+    (λ h. one_id number id back forth (λ k. IsSomeAnd (slice_get xs k) P) (one_passes p P test xs (sym e ∙ h)))
+    (λ one. e ∙ one_to_pass p P test xs (one_place number id back forth (λ k. IsSomeAnd (slice_get xs k) P) one))
     (Decides-eqb n 1)

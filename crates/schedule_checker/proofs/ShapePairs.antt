@@ -18,8 +18,8 @@ Before p R y x = p x ≡ true → R x y
 pub before_from_pairs : {X : Type 0} (p : X → Bool) (R : X → X → Type 0) (xs : List X) (n i : ℕ) (y : X) → PairsBelow p R xs n → i < n → slice_get xs i ≡ Some y
     → p y ≡ true → All (Before p R y) (take i xs)
 before_from_pairs p R xs n i y pairs below at passes k d within =
-    let front : k < i = omega (arith, length-take i xs, within) in
-    let inside : k < length xs = omega (arith, length-take i xs, within) in
+    let front : k < i = omega (arith, length-take i xs) in
+    let inside : k < length xs = omega (arith, length-take i xs) in
     let same = get_or-take i xs k d front in
     subst (Before p R y) (sym same) (λ h. pairs k i (get_or xs k d) y front below (slice_get-get_or xs k d inside) at h passes)
 
@@ -27,14 +27,13 @@ pub pairs_more : {X : Type 0} (p : X → Bool) (R : X → X → Type 0) (xs : Li
     → (p z ≡ true → All (Before p R z) (take n xs)) → PairsBelow p R xs (n + 1)
 pairs_more p R xs n z at pairs here j k x y lt below jx ky px py =
     ⊎_elim
-    (λ (l : k < n). pairs j k x y lt l jx ky px py)
-    (λ (g : n ≤ k). let e : k ≡ n = omega (arith, g, below) in
-    let one : z ≡ y = same_Some z y (sym at ∙ subst (λ (i : ℕ). slice_get xs i ≡ Some y) e ky) in
-    let front : j < n = omega (arith, e, lt) in
-    let within : j < length (take n xs) = omega (arith, length-take n xs, front, slice_get_within xs j x jx) in
-    let same : get_or (take n xs) j x ≡ x = get_or-take n xs j x front ∙ get_or_from_slice_get xs j x x jx in
-    let all = here (ap p one ∙ py) in
-    subst (λ (w : _). R x w) one (subst (Before p R z) same (all j x within) px))
+    (λ l. pairs j k x y lt l jx ky px py)
+    (λ g. let e : k ≡ n = omega arith in
+    let one = same_Some z y (sym at ∙ (rw e at ky)) in
+    let front : j < n = omega arith in
+    let within : j < length (take n xs) = omega (arith, length-take n xs, slice_get_within xs j x jx) in
+    let same = get_or-take n xs j x front ∙ get_or_from_slice_get xs j x x jx in
+    rw one at (subst (Before p R z) same ((here (ap p one ∙ py)) j x within) px))
     (cases_lt k n)
 
 -- what a filter keeps is an element that passes, and back
@@ -59,7 +58,7 @@ IsAmong xs y = (i : ℕ) × (slice_get xs i ≡ Some y)
 
 keeps : {X : Type 0} (p : X → Bool) (xs : List X) (k : ℕ) (y : X) → slice_get xs k ≡ Some y → p y ≡ true → IsAmong (filter p xs) y
 keeps p [] k y h e = absurd (none-some y h)
-keeps p (x ∷ xs) zero y h e = subst (λ (b : Bool). IsAmong (cond b (x ∷ filter p xs) (filter p xs)) y) (sym (ap p (same_Some x y h) ∙ e)) (0, h)
+keeps p (x ∷ xs) zero y h e = rw (ap p (same_Some x y h) ∙ e) (0, h)
 keeps p (x ∷ xs) (suc k) y h e =
     let rest = keeps p xs k y h e in
     elim (p x) as (λ b. IsAmong (cond b (x ∷ filter p xs) (filter p xs)) y) [
@@ -69,10 +68,10 @@ keeps p (x ∷ xs) (suc k) y h e =
 
 -- pairs with one more element in front
 pairs_cons : {X : Type 0} (R : X → X → Type 0) (z : X) (xs : List X) → ((k : ℕ) (y : X) → slice_get xs k ≡ Some y → R z y) → AtPairs R xs → AtPairs R (z ∷ xs)
-pairs_cons R z xs each pairs zero zero x y lt jx ky = absurd (omega (arith, lt))
-pairs_cons R z xs each pairs zero (suc k) x y lt jx ky = subst (λ (w : _). R w y) (same_Some z x jx) (each k y ky)
-pairs_cons R z xs each pairs (suc j) zero x y lt jx ky = absurd (omega (arith, lt))
-pairs_cons R z xs each pairs (suc j) (suc k) x y lt jx ky = pairs j k x y (omega (arith, lt)) jx ky
+pairs_cons R z xs each pairs zero zero x y lt jx ky = absurd (omega arith)
+pairs_cons R z xs each pairs zero (suc k) x y lt jx ky = rw (same_Some z x jx) at (each k y ky)
+pairs_cons R z xs each pairs (suc j) zero x y lt jx ky = absurd (omega arith)
+pairs_cons R z xs each pairs (suc j) (suc k) x y lt jx ky = pairs j k x y (omega arith) jx ky
 
 -- the elements that pass, and what the filter keeps
 abbrev PassingPairs : {X : Type 0} → (X → Bool) → (X → X → Type 0) → List X → Type 0
@@ -81,7 +80,7 @@ PassingPairs p R xs = AtPairs (λ x y. p x ≡ true → p y ≡ true → R x y) 
 filtered : {X : Type 0} (p : X → Bool) (R : X → X → Type 0) (xs : List X) → PassingPairs p R xs → AtPairs R (filter p xs)
 filtered p R [] pairs = λ j k x y lt jx ky. absurd (none-some x jx)
 filtered p R (z ∷ xs) pairs =
-    let rest = filtered p R xs (λ j k x y lt jx ky. pairs (suc j) (suc k) x y (omega (arith, lt)) jx ky) in
+    let rest = filtered p R xs (λ j k x y lt jx ky. pairs (suc j) (suc k) x y (omega arith) jx ky) in
     elim (p z) as (λ b. p z ≡ b → AtPairs R (cond b (z ∷ filter p xs) (filter p xs))) [
       | true ↦ λ e. pairs_cons R z (filter p xs) (λ k y h. let r = kept p xs k y h in pairs 0 (suc r.0) z y (omega arith) refl r.1 e r.2) rest
       | false ↦ λ e. rest
@@ -90,23 +89,25 @@ filtered p R (z ∷ xs) pairs =
 rest_of : {X : Type 0} (p : X → Bool) (R : X → X → Type 0) (z : X) (xs : List X) → AtPairs R (filter p (z ∷ xs)) → AtPairs R (filter p xs)
 rest_of p R z xs pairs =
     elim (p z) as (λ b. AtPairs R (cond b (z ∷ filter p xs) (filter p xs)) → AtPairs R (filter p xs)) [
-      | true ↦ λ h j k x y lt jx ky. h (suc j) (suc k) x y (omega (arith, lt)) jx ky
+      | true ↦ λ h j k x y lt jx ky. h (suc j) (suc k) x y (omega arith) jx ky
       | false ↦ λ h. h
     ] pairs
 
 unfiltered : {X : Type 0} (p : X → Bool) (R : X → X → Type 0) (xs : List X) → AtPairs R (filter p xs) → PassingPairs p R xs
 unfiltered p R [] pairs j k x y lt jx ky px py = absurd (none-some x jx)
-unfiltered p R (z ∷ xs) pairs zero zero x y lt jx ky px py = absurd (omega (arith, lt))
+unfiltered p R (z ∷ xs) pairs zero zero x y lt jx ky px py = absurd (omega arith)
 unfiltered p R (z ∷ xs) pairs zero (suc k) x y lt jx ky px py =
     let one = same_Some z x jx in
-    let whole = subst (λ (b : Bool). AtPairs R (cond b (z ∷ filter p xs) (filter p xs))) (ap p one ∙ px) pairs in
+    let whole = rw (ap p one ∙ px) at pairs in
     let place = keeps p xs k y ky py in
     whole 0 (suc place.0) x y (omega arith) jx place.1
-unfiltered p R (z ∷ xs) pairs (suc j) zero x y lt jx ky px py = absurd (omega (arith, lt))
-unfiltered p R (z ∷ xs) pairs (suc j) (suc k) x y lt jx ky px py = unfiltered p R xs (rest_of p R z xs pairs) j k x y (omega (arith, lt)) jx ky px py
+unfiltered p R (z ∷ xs) pairs (suc j) zero x y lt jx ky px py = absurd (omega arith)
+unfiltered p R (z ∷ xs) pairs (suc j) (suc k) x y lt jx ky px py =
+    unfiltered p R xs (rest_of p R z xs pairs) j k x y (omega arith) jx ky px py
 
 pub filter_pairs : {X : Type 0} (p : X → Bool) (R : X → X → Type 0) (xs : List X) (n : ℕ) → length xs ≤ n → PairsBelow p R xs n → AtPairs R (filter p xs)
-filter_pairs p R xs n all pairs = filtered p R xs (λ j k x y lt jx ky. pairs j k x y lt (omega (arith, all, slice_get_within xs k y ky)) jx ky)
+filter_pairs p R xs n all pairs = filtered p R xs
+    (λ j k x y lt jx ky. pairs j k x y lt (omega (arith, slice_get_within xs k y ky)) jx ky)
 
 pub pairs_from_filter : {X : Type 0} (p : X → Bool) (R : X → X → Type 0) (xs : List X) (n : ℕ) → AtPairs R (filter p xs) → PairsBelow p R xs n
 pairs_from_filter p R xs n pairs j k x y lt below jx ky = unfiltered p R xs pairs j k x y lt jx ky

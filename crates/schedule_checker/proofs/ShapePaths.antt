@@ -2,7 +2,7 @@
 use Rattle.{net_plan.specs.{Paths.{IsFirstPath, IsFirstUplink, IsUplink}, Rules.IsConnected}, tte_units.proofs.general_lemmas.Options.{at_known, closed}}
 use Rattle.net_plan.specs.{Places.{IsCmOf, IsSwitchOf, link_at}, declared.{ids.{DeviceId.DeviceId, LinkId.LinkId}, network.Network.Network, tables.Link.Link}}
 use Rattle.{schedule_checker.specs.Shape.{IsConnectedOn, LeadsToCmWithin}, tte_units.specs.declared.frames.channel.Channel.{Channel, TheVariants.{A, B}}}
-use Rattle.std.proofs.{Common.{◌-◌, ◌<◌, ◌∙◌, ◌∷◌, ◌≡◌, ◌≢◌, ◌≤◌, List, Some, [], ap, arith, length, suc, zero, ℕ, ⊎_elim}, lemmas.Bool.cases_lt}
+use Rattle.std.proofs.{Common.{◌-◌, ◌<◌, ◌∷◌, ◌≡◌, ◌≢◌, ◌≤◌, List, Some, [], arith, length, suc, zero, ℕ, ⊎_elim}, lemmas.Bool.cases_lt}
 use Rattle.std.specs.Prelude.{IsSomeAnd, slice_get}
 
 pub within : {X : Type 0} (P : X → Type 0) (xs : List X) (i : ℕ) → IsSomeAnd (slice_get xs i) P → i < length xs
@@ -18,26 +18,26 @@ module _ (n : Network) (c : Channel) (d : DeviceId) where
   one_first : {link other : LinkId} → IsFirstUplink n c d link → IsFirstUplink n c d other → link.0 ≡ other.0
   one_first {link} {other} f g =
       ⊎_elim
-      (λ (l : link.0 < other.0). let r : link.0 ≡ other.0 = absurd (g.first link l f.leads) in r)
-      (λ (m : other.0 ≤ link.0). ⊎_elim
-      (λ (l : other.0 < link.0). let r : link.0 ≡ other.0 = absurd (f.first other l g.leads) in r)
-      (λ (k : link.0 ≤ other.0). let r : link.0 ≡ other.0 = omega (arith, k, m) in r)
+      (λ l. let r = absurd (g.first link l f.leads) in r)
+      (λ m. ⊎_elim
+      (λ l. let r = absurd (f.first other l g.leads) in r)
+      (λ k. (omega (arith, k, m)))
       (cases_lt other.0 link.0))
       (cases_lt link.0 other.0)
 
   pub leads_by : {link : LinkId} (l : Link) (most : ℕ) → most ≢ 0 → IsFirstUplink n c d link
       → link_at n link ≡ Some l → LeadsToCmWithin n c l.parent (most - 1) → LeadsToCmWithin n c d most
   leads_by {link} l most some first at h =
-      (link ∷ h.0, omega (arith, some, h.1), (first, closed (λ x. IsFirstPath n c x.parent h.0) (link_at n link) l at h.2))
+      (link ∷ h.0, omega (arith, h.1), (first, closed (λ x. IsFirstPath n c x.parent h.0) (link_at n link) l at h.2))
 
   walked : {link : LinkId} (l : Link) (links : List LinkId) (most : ℕ) → (IsCmOf n c d → ⊥)
       → IsFirstUplink n c d link → link_at n link ≡ Some l → length links ≤ most → IsFirstPath n c d links
       → LeadsToCmWithin n c l.parent (most - 1)
   walked l [] most bare first at short path = absurd (bare path)
   walked {link} l (m ∷ ms) most bare first at short path =
-      let same : m ≡ link = ap (λ (k : ℕ). let i : LinkId = record { 0 = k } in i) (one_first path.0 first) in
-      let known : link_at n m ≡ Some l = ap (λ i. link_at n i) same ∙ at in
-      (ms, omega (arith, short), at_known (λ x. IsFirstPath n c x.parent ms) (link_at n m) l known path.1)
+      let same : m ≡ link = rw (one_first path.0 first) in
+      let known : link_at n m ≡ Some l = rw same at in
+      (ms, omega arith, at_known (λ x. IsFirstPath n c x.parent ms) (link_at n m) l known path.1)
 
   pub leads_on : {link : LinkId} (l : Link) (most : ℕ) → (IsCmOf n c d → ⊥) → IsFirstUplink n c d link
       → link_at n link ≡ Some l → LeadsToCmWithin n c d most → LeadsToCmWithin n c l.parent (most - 1)

@@ -1,5 +1,5 @@
 -- Tests of roles, channels and links.
-use Rattle.std.proofs.{Common.{◌&&◌, ◌≡◌, ◌≤◌, Bool, None, Option, Some, ap, arith, eqb, false, leb, not, refl, true, ℕ}, lemmas.Bool.false≢true}
+use Rattle.std.proofs.{Common.{◌&&◌, ◌≡◌, ◌≤◌, Bool, None, Option, Some, arith, eqb, false, leb, not, refl, true, ℕ}, lemmas.Bool.false≢true}
 use Rattle.std.{proofs.lemmas.Bool.Decides.{Decides-and, Decides-eqb, Decides-like, nat_tests}, specs.{Bool.Decides, Prelude.IsSomeAnd}}
 use Rattle.net_plan.specs.{Places.{IsSwitchOf, device_at}, declared.{ids.DeviceId.DeviceId, network.Network.Network, tables.{Device.Device, Link.Link}}}
 use Rattle.net_plan.specs.declared.tables.Role.{Role, TheVariants.{Client, Cm, Master, Relay}}
@@ -25,7 +25,7 @@ on_channel (Some c) e = same_channel c e
 decides_on : (o : Option Channel) (e : Channel) → Decides (on_channel o e) (o ≡ Some e)
 unfolding on_channel
 decides_on None e = (λ h. absurd (false≢true h), λ h. cc)
-decides_on (Some c) e = Decides-like (same_channel c e) (λ (h : c ≡ e). ap (λ (x : Channel). Some x) h) (λ (h : Some c ≡ Some e). cc) (decides_channel c e)
+decides_on (Some c) e = Decides-like (same_channel c e) (λ h. rw h) (λ h. cc) (decides_channel c e)
 
 is_cm : Role → Bool
 is_cm Master = false
@@ -55,7 +55,7 @@ child_test d l = eqb l.child.0 d.0
 pub decides_child : (d : DeviceId) (l : Link) → Decides (child_test d l) (l.child ≡ d)
 unfolding child_test
 decides_child d l =
-    Decides-like (eqb l.child.0 d.0) (λ h. ap (λ k. let i : DeviceId = record { 0 = k } in i) h) (λ (h : l.child ≡ d). ap (λ (i : DeviceId). i.0) h)
+    Decides-like (eqb l.child.0 d.0) (λ h. rw h) (λ h. rw h)
     (Decides-eqb l.child.0 d.0)
 
 switch_test : Channel → Option Device → Bool
@@ -76,7 +76,7 @@ unfolding uplink_test
 decides_uplink n c d l = Decides-and (child_test d l) (switch_test c (device_at n l.parent)) (decides_child d l) (decides_switch c (device_at n l.parent))
 
 pub decides_at_most : (a b d : ℕ) → b ≡ d → Decides (leb a b) (a ≤ d)
-decides_at_most a b d e = grind (arith, nat_tests, e)
+decides_at_most a b d e = grind (arith, nat_tests)
 
 apart : A ≡ B → ⊥
 apart h = cc

@@ -2,7 +2,7 @@
 use Rattle.{net_plan.specs.declared.network.Network.Network, schedule_checker.specs.declared.parts.{PlanRule.PlanRule, ShapeRule.ShapeRule}}
 use Rattle.{schedule_checker.proofs.OneRefusal.same_rule, schedule_tables.specs.{Numbers.number_of, declared.rule.Rule.Rule}}
 use Rattle.{schedule_checker.specs.Judging.{BreaksAt, plan_rule, shape_rule}, schedule_tables.specs.Rules.{IsFirstBroken, IsKept, KeepsBelow}}
-use Rattle.std.proofs.{Common.{◌+◌, ◌<◌, ◌∷◌, ◌≡◌, ◌≤◌, List, [], arith, get_or, length, refl, subst, suc, zero, ℕ, ⊎_elim}, lemmas.Bool.cases_lt}
+use Rattle.std.proofs.{Common.{◌+◌, ◌<◌, ◌∷◌, ◌≡◌, List, [], arith, get_or, length, refl, suc, zero, ℕ, ⊎_elim}, lemmas.Bool.cases_lt}
 use Rattle.schedule_checker.specs.declared.parts.PlanRule.TheVariants as plans
 use Rattle.schedule_checker.specs.declared.parts.ShapeRule.TheVariants as shapes
 
@@ -12,9 +12,10 @@ AreNumbered number [] n = Unit {0}
 AreNumbered number (rule ∷ rules) n = (number rule ≡ n) × AreNumbered number rules (n + 1)
 
 number_at : {X : Type 0} (number : X → ℕ) (rules : List X) (n i : ℕ) (d : X) → AreNumbered number rules n → i < length rules → number (get_or rules i d) ≡ n + i
-number_at number [] n i d h below = absurd (omega (arith, below))
+number_at number [] n i d h below = absurd (omega arith)
 number_at number (rule ∷ rules) n zero d h below = omega (arith, h.0)
-number_at number (rule ∷ rules) n (suc i) d h below = omega (arith, number_at number rules (n + 1) i d h.1 (omega (arith, below)))
+number_at number (rule ∷ rules) n (suc i) d h below = omega
+    (arith, number_at number rules (n + 1) i d h.1 (omega arith))
 
 abbrev pub shape_rules : List ShapeRule
 shape_rules = shapes.Limits ∷ shapes.DevicesDiffer ∷ shapes.LinksDiffer ∷ shapes.CompressionMasters ∷ shapes.Joints ∷ shapes.Connections ∷ shapes.Masters ∷ []
@@ -38,16 +39,16 @@ plan_number i below =
 pub keeps_next : (n : Network) (rule : Rule) (i j : ℕ) → j ≡ i + 1 → KeepsBelow i n → number_of rule ≡ i → IsKept rule n → KeepsBelow j n
 keeps_next n rule i j next below here kept other less =
     ⊎_elim
-    (λ (l : number_of other < i). below other l)
-    (λ (g : i ≤ number_of other).
+    (λ l. below other l)
+    (λ g.
     let same : number_of rule ≡ number_of other = omega (arith, here, less, g, next) in
-    subst (λ r. IsKept r n) (same_rule rule other same) kept)
+    rw (same_rule rule other same) at kept)
     (cases_lt (number_of other) i)
 
 pub tells : {n : Network} {rule : Rule} (i : ℕ) {place : ℕ} → KeepsBelow i n → number_of rule ≡ i
     → BreaksAt n rule place → IsFirstBroken n rule place
 tells i kept here breaks = record {
-  rules = λ other below. kept other (omega (arith, below, here));
+  rules = λ other below. kept other (omega arith);
   places = breaks.places;
   broken = breaks.broken;
 }

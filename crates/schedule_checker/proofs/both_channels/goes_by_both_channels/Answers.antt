@@ -16,7 +16,7 @@ returns-then-enters_end_system c =
       )
       | else-leaves_on_both w ↦ absurd (false≢true (sym w.if-leaves_on_both.false ∙ sym w.value-is ∙ c.if-enters_end_system.true))
     ] in (
-      λ yes. both_channels {n = n} c.args.place vl at parts.0 parts.1 (c.enters_all_alike.ensures.0 yes),
+      λ yes. both_channels c.args.place vl at parts.0 parts.1 (c.enters_all_alike.ensures.0 yes),
       λ kept. c.enters_all_alike.ensures.1
           (λ device. record { alike = kept.same device }),
     )

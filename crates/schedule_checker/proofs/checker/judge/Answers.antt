@@ -1,5 +1,5 @@
 use Rattle.schedule_checker.proofs.Trees.{tree_of}
-use Rattle.{schedule_checker.specs.Groups.AreGroups, std.proofs.Common.{◌∙◌, subst, sym}}
+use Rattle.{std.proofs.Common.{◌∙◌, sym}}
 use Rattle.schedule_checker.proofs.checker.judge.Goals as goal
 
 pub beta-requires-clause-tree : goal.beta-requires-clause-tree
@@ -10,7 +10,6 @@ judge_plan-requires-clause-plan c = record {
   range = c.requires;
   tree = tree_of c.rules_give_trees.ensures c.args.network.now c.in-Ok.ensures.kept;
   entries = rw c.deref-2.ensures.value c.in-Ok-entries_of.ensures;
-  groups = subst (λ es. AreGroups es c.in-Ok-groups_of.groups) (c.deref.ensures.value ∙ sym c.deref-2.ensures.value)
-      c.in-Ok-groups_of.ensures;
+  groups = rw (c.deref.ensures.value ∙ sym c.deref-2.ensures.value) at c.in-Ok-groups_of.ensures;
   beta = c.beta.ensures;
 }

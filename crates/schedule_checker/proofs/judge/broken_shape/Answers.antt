@@ -8,4 +8,4 @@ pub returns-clause-none : goal.returns-clause-none
 returns-clause-none c =
     let many = ap (λ r. places_of r c.args.network.now) c.rule.ensures in
     kept_beyond (shape_rule c.args.rule) c.requires
-    (λ k below. c.places.invariant k (omega (arith, below, many, c.places_of-place-end.ensures, c.places-test.false)))
+    (λ k below. c.places.invariant k (omega (arith, c.places_of-place-end.ensures, c.places-test.false)))

@@ -1,11 +1,11 @@
 use Rattle.{net_plan.specs.declared.network.Network.Network, schedule_tables.specs.Rules.IsKeptAt}
-use Rattle.{schedule_checker.specs.{Judging.plan_rule, declared.parts.PlanRule.PlanRule}, std.proofs.Common.{◌↔◌, ◌≡◌, Bool, IsTrue, subst, sym, ℕ}}
+use Rattle.{schedule_checker.specs.{Judging.plan_rule, declared.parts.PlanRule.PlanRule}, std.proofs.Common.{◌↔◌, ◌≡◌, Bool, IsTrue, ℕ}}
 use Rattle.schedule_checker.proofs.kept.keeps_plan_rule.Goals as goal
 
 -- the test of a rule is the test of an equal one
 same_test : (r s : PlanRule) (n : Network) (place : ℕ) (b : Bool) → r ≡ s → (IsTrue b ↔ IsKeptAt (plan_rule s) n place)
     → (IsTrue b ↔ IsKeptAt (plan_rule r) n place)
-same_test r s n place b e h = subst (λ x. IsTrue b ↔ IsKeptAt (plan_rule x) n place) (sym e) h
+same_test r s n place b e h = rw e h
 
 pub returns-in-Delays : goal.returns-in-Delays
 returns-in-Delays c = same_test _ _ _ _ _ c.in-Delays.is c.delays_fit.ensures

@@ -1,5 +1,5 @@
 use Rattle.schedule_checker.proofs.{EntryPlaces.{entry_ranges, entry_read}, PortLemmas.{in_time_of_sender, in_time_of_switch}}
-use Rattle.{schedule_tables.specs.Entries.source_of, std.proofs.{Common.{◌≡◌, ◌≢◌, arith, rules}, lemmas.{Grind.common_steps, Int.ints}}}
+use Rattle.{std.proofs.{Common.{arith, rules}, lemmas.{Grind.common_steps, Int.ints}}}
 use Rattle.schedule_checker.proofs.ports.comes_in_time.Goals as goal
 
 pub comes_behind_all-requires-clause-entries : goal.comes_behind_all-requires-clause-entries
@@ -17,11 +17,10 @@ returns-then-eq c =
     let n = c.args.network.now in
     let e = c.index-entries-place.result in
     let at = entry_read n c.args.entries.now c.args.place e c.requires.entries c.requires.place c.index-entries-place.is in
-    let sender : source_of e ≡ e.vl.sender = search rules in
     let ranges = c.requires.range in
     let offset = (c.entries_law.ensures.range n c.args.place e ranges at).row.offset in
-    in_time_of_sender {n = n} {place = c.args.place} {e = e} _ c.entries_law.ensures.one at sender
-    (grind (arith, common_steps, ints, ranges.tt_start, offset))
+    in_time_of_sender _ c.entries_law.ensures.one at (search rules)
+    (grind (arith, common_steps, ints, ranges.tt_start))
 
 pub returns-else-eq : goal.returns-else-eq
 returns-else-eq c =
@@ -29,6 +28,5 @@ returns-else-eq c =
     let es = c.args.entries.now in
     let e = c.index-entries-place.result in
     let at = entry_read n es c.args.place e c.requires.entries c.requires.place c.index-entries-place.is in
-    let other : source_of e ≢ e.vl.sender = search rules in
-    in_time_of_switch {place = c.args.place} {e = e} c.comes_behind_all.result c.requires.entries
-    c.entries_law.ensures.one at other c.comes_behind_all.ensures
+    in_time_of_switch c.comes_behind_all.result c.requires.entries
+    c.entries_law.ensures.one at (search rules) c.comes_behind_all.ensures

@@ -17,6 +17,6 @@ returns c =
     let es = c.args.entries.now in
     let e = c.index-entries-place.result in
     let at = entry_read n es c.args.place e c.requires.entries c.requires.place c.index-entries-place.is in
-    stands_apart (take c.args.place es) {place = c.args.place} {e = e} c.stands_apart_from.result c.requires.entries
+    stands_apart (take c.args.place es) c.stands_apart_from.result c.requires.entries
     c.entries_law.ensures.one at refl
     c.stands_apart_from.ensures

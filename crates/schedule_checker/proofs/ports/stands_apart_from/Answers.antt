@@ -4,13 +4,12 @@ use Rattle.schedule_checker.proofs.ports.stands_apart_from.Goals as goal
 
 pub returns : goal.returns
 returns c =
-    let n = c.args.network.now in
     let es = c.args.entries.now in
-    let e = c.args.entry.now in
     let places = c.args.kin.now in
-    let P = IsApartFrom n e in
-    let At : ℕ → Type 0 = λ (k : ℕ). k < c.args.place → IfSome (slice_get es k) P in
-    let run = cases_from_all _ _ c.all.result At (λ (k : ℕ). ¬ At k) c.all.ensures.ran (YieldsList-from_slice places cc) (λ x q k. search (rules, tests))
+    let P = IsApartFrom c.args.network.now c.args.entry.now in
+    let At : ℕ → Type 0 = λ k. k < c.args.place → IfSome (slice_get es k) P in
+    let run = cases_from_all _ _ c.all.result At (λ k. ¬ At k) c.all.ensures.ran (YieldsList-from_slice places cc)
+    (λ x q k. search (rules, tests))
     (λ x q k. search (rules, tests)) in
     all_before P es places c.args.place c.all.result (λ k x at is same. is (c.requires.kin.all k x at (sym same)) same)
     (all_decides At c.all.result places run)

@@ -1,19 +1,17 @@
-use Rattle.{schedule_checker.proofs.EntryPlaces.entry_read, schedule_tables.specs.Entries.target_of}
-use Rattle.{schedule_checker.proofs.RouteLemmas.{enters_anew, enters_anew_back}, std.proofs.Common.{◌≡◌, ◌≢◌, refl, rules, take}}
+use Rattle.{schedule_checker.proofs.EntryPlaces.entry_read}
+use Rattle.{schedule_checker.proofs.RouteLemmas.{enters_anew, enters_anew_back}, std.proofs.Common.{refl, rules, take}}
 use Rattle.schedule_checker.proofs.routes.enters_anew.Goals as goal
 
 pub returns-then-ne : goal.returns-then-ne
 returns-then-ne c =
-    let n = c.args.network.now in
     let es = c.args.entries.now in
     let place = c.args.place in
     let e = c.index-entries-place.result in
-    let at = entry_read n es place e c.requires.entries c.requires.place c.index-entries-place.is in
-    let other : target_of e ≢ e.vl.sender = search rules in (
-      λ yes. enters_anew (take place es) {place = place} {e = e} c.requires.entries
-          c.entries_law.ensures.one at refl other (c.enters_none_again.ensures.0 yes),
+    let at = entry_read c.args.network.now es place e c.requires.entries c.requires.place c.index-entries-place.is in (
+      λ yes. enters_anew (take place es) c.requires.entries
+          c.entries_law.ensures.one at refl (search rules) (c.enters_none_again.ensures.0 yes),
       λ kept. c.enters_none_again.ensures.1 (enters_anew_back
-          (take place es) {place = place} {e = e} c.requires.entries at refl kept),
+          (take place es) c.requires.entries at refl kept),
     )
 
 pub returns-else-ne : goal.returns-else-ne
@@ -22,5 +20,4 @@ returns-else-ne c =
     let es = c.args.entries.now in
     let e = c.index-entries-place.result in
     let at = entry_read n es c.args.place e c.requires.entries c.requires.place c.index-entries-place.is in
-    let sender : target_of e ≡ e.vl.sender = search rules in
-    (λ yes. absurd (cc (yes, c.if-ne.false)), λ kept. absurd (kept.no_sender e at sender))
+    (λ yes. absurd (cc (yes, c.if-ne.false)), λ kept. absurd (kept.no_sender e at (search rules)))

@@ -1,4 +1,4 @@
-use Rattle.{schedule_checker.{proofs.EntryPlaces.entry_read, specs.Routes.IsEnteredElsewhere}, schedule_tables.specs.{Entries.source_of, Schedule.IsSwitch}}
+use Rattle.{schedule_checker.{proofs.EntryPlaces.entry_read}, schedule_tables.specs.{Entries.source_of, Schedule.IsSwitch}}
 use Rattle.{schedule_checker.proofs.RouteLemmas.{has_source, has_source_back}, std.proofs.Common.{◌≡◌, ◌≢◌, arith, inl, inr, rules, ⊎_elim}}
 use Rattle.schedule_checker.proofs.routes.has_source.Goals as goal
 
@@ -17,12 +17,11 @@ returns-then-is_switch c =
     let es = c.args.entries.now in
     let e = c.index-entries-place.result in
     let at = entry_read n es c.args.place e c.requires.entries c.requires.place c.index-entries-place.is in
-    let other : source_of e ≢ e.vl.sender = search rules in
-    let switch : IsSwitch n (source_of e) = search rules in (
+    let other : source_of e ≢ e.vl.sender = search rules in (
       λ yes. has_source c.args.place e c.requires.entries
-          c.entries_law.ensures.one at (inr (switch, c.is_entered_elsewhere.ensures.0 yes)),
+          c.entries_law.ensures.one at (inr (search rules, c.is_entered_elsewhere.ensures.0 yes)),
       λ kept. c.is_entered_elsewhere.ensures.1
-          (⊎_elim (λ (s : source_of e ≡ e.vl.sender). absurd (other s)) (λ (s : IsSwitch n (source_of e) × IsEnteredElsewhere es c.args.place e). s.1)
+          (⊎_elim (λ s. absurd (other s)) (λ s. s.1)
           (has_source_back c.args.place e c.requires.entries c.entries_law.ensures.one at kept)),
     )
 
@@ -34,7 +33,7 @@ returns-else-is_switch c =
     let at = entry_read n es c.args.place e c.requires.entries c.requires.place c.index-entries-place.is in
     let other : source_of e ≢ e.vl.sender = search rules in
     let no_switch : ¬ IsSwitch n (source_of e) = search rules in (
-      λ yes. absurd (grind (arith, yes, c.if-is_switch.false)),
-      λ kept. absurd (⊎_elim (λ (s : source_of e ≡ e.vl.sender). other s) (λ (s : IsSwitch n (source_of e) × IsEnteredElsewhere es c.args.place e). no_switch
+      λ yes. absurd (grind (arith, c.if-is_switch.false)),
+      λ kept. absurd (⊎_elim (λ s. other s) (λ s. no_switch
           s.0) (has_source_back c.args.place e c.requires.entries c.entries_law.ensures.one at kept)),
     )

@@ -5,11 +5,11 @@ use Rattle.schedule_checker.proofs.routes.is_new_by_link.Goals as goal
 pub returns : goal.returns
 returns c =
     let es = c.args.entries.now in
-    let e = c.args.entry.now in
     let places = c.args.kin.now in
-    let P = GoesElsewhere e in
-    let At : ℕ → Type 0 = λ (k : ℕ). k < c.args.place → IfSome (slice_get es k) P in
-    let run = cases_from_all _ _ c.all.result At (λ (k : ℕ). ¬ At k) c.all.ensures.ran (YieldsList-from_slice places cc) (λ x q k. search (rules, tests))
+    let P = GoesElsewhere c.args.entry.now in
+    let At : ℕ → Type 0 = λ k. k < c.args.place → IfSome (slice_get es k) P in
+    let run = cases_from_all _ _ c.all.result At (λ k. ¬ At k) c.all.ensures.ran (YieldsList-from_slice places cc)
+    (λ x q k. search (rules, tests))
     (λ x q k. search (rules, tests)) in
     all_before P es places c.args.place c.all.result (λ k x at is same. is (c.requires.kin.all k x at (sym same)) same)
     (all_decides At c.all.result places run)

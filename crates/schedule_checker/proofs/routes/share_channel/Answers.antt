@@ -15,7 +15,8 @@ returns-then-share c =
 
 pub returns-else-share : goal.returns-else-share
 returns-else-share c =
-    let P : Channel → Type 0 = λ (x : Channel). IsOnChannel c.args.network.now x c.args.earlier.now × IsOnChannel c.args.network.now x c.args.entry.now in
+    let P : Channel → Type 0 = λ x. IsOnChannel c.args.network.now x c.args.earlier.now × IsOnChannel c.args.network.now
+    x c.args.entry.now in
     let first : Decides c.share.result (P A) = search rules in
     let second : Decides c.share-else-share.result (P B) = search rules in
     (λ yes. let on = second.0 yes in (B, on.0, on.1), λ some. of_b P _ _ first second c.if-share.false some.0 (some.1, some.2))

@@ -3,7 +3,6 @@ use Rattle.schedule_checker.proofs.timing.delays_fit.Goals as goal
 
 pub returns-then-delays_fit_on : goal.returns-then-delays_fit_on
 returns-then-delays_fit_on c =
-    let n = c.args.network.now in
     let beta = c.amount-beta.result in (
       λ t. delays_from_channels c.args.beta beta c.args.place c.amount-beta.ensures.value c.beta_is_unique.ensures
           c.requires.beta
@@ -14,7 +13,6 @@ returns-then-delays_fit_on c =
 
 pub returns-else-delays_fit_on : goal.returns-else-delays_fit_on
 returns-else-delays_fit_on c =
-    let n = c.args.network.now in
     let beta = c.amount-beta.result in (
       λ t. delays_from_channels c.args.beta beta c.args.place c.amount-beta.ensures.value c.beta_is_unique.ensures
           c.requires.beta

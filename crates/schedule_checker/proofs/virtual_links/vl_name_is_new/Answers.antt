@@ -1,4 +1,4 @@
-use Rattle.{net_plan.specs.declared.tables.VirtualLink.VirtualLink, std.proofs.lemmas.Iterator.{YieldsList-from_slice, YieldsList-from_take, cases_from_all}}
+use Rattle.{std.proofs.lemmas.Iterator.{YieldsList-from_slice, YieldsList-from_take, cases_from_all}}
 use Rattle.{schedule_checker.proofs.EarlierLemmas.new_from_all, std.proofs.Common.{◌≡◌, ◌≢◌, rules, tests}}
 use Rattle.schedule_checker.proofs.virtual_links.vl_name_is_new.Goals as goal
 
@@ -7,6 +7,6 @@ returns c =
     let xs = c.args.network.now.vl in
     let place = c.args.place in
     let vl = c.vl_at-vl.result.now in
-    new_from_all (λ (v : VirtualLink). v.name) xs place vl c.all.result c.vl_at-vl.ensures
+    new_from_all (λ v. v.name) xs place vl c.all.result c.vl_at-vl.ensures
     (cases_from_all _ _ c.all.result (λ e. e.name ≢ vl.name) (λ e. e.name ≡ vl.name) c.all.ensures.ran
     (YieldsList-from_take place (YieldsList-from_slice xs cc) cc) (λ x q k. search (rules, tests)) (λ x q k. search (rules, tests)))

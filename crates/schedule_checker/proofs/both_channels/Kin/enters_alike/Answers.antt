@@ -1,4 +1,4 @@
-use Rattle.{net_plan.specs.Places.IsEndSystem, schedule_checker.proofs.RouteLemmas.{alike, alike_back}, std.proofs.lemmas.Bool.Decides.Decides-like}
+use Rattle.{schedule_checker.proofs.RouteLemmas.{alike, alike_back}, std.proofs.lemmas.Bool.Decides.Decides-like}
 use Rattle.std.{proofs.Common.rules, specs.Cmp.booleans_Decides}
 use Rattle.schedule_checker.proofs.both_channels.Kin.enters_alike.Goals as goal
 
@@ -8,7 +8,6 @@ returns-else-not-is_end_system c =
     let vl = c.args.self.now.vl in
     let a = c.enters.result in
     let b = c.enters-else-not-is_end_system.result in
-    let end : IsEndSystem n c.args.device = search rules in
     Decides-like _ (alike n vl c.args.device a b c.enters.ensures c.enters-else-not-is_end_system.ensures)
-    (alike_back {n = n} {vl = vl} {device = c.args.device} a b c.enters.ensures
-    c.enters-else-not-is_end_system.ensures end) (booleans_Decides a b)
+    (alike_back a b c.enters.ensures
+    c.enters-else-not-is_end_system.ensures (search rules)) (booleans_Decides a b)

@@ -1,6 +1,6 @@
 use Rattle.net_plan.specs.declared.tables.Link.{Link}
-use Rattle.{schedule_checker.proofs.ShapeLists.{decides_all, decides_new}, std.proofs.Common.{◌∙◌, ◌≡◌, ◌≢◌, List, Some, ap, get_or, rules, sym, take, tests}}
-use Rattle.std.{proofs.lemmas.{Iterator.{YieldsList-from_slice, YieldsList-from_take, cases_from_all}, Option.slice_get-get_or}, specs.List.slice_get}
+use Rattle.{schedule_checker.proofs.ShapeLists.{decides_all, decides_new}, std.proofs.Common.{◌∙◌, ◌≡◌, ◌≢◌, ap, get_or, rules, sym, take, tests}}
+use Rattle.std.{proofs.lemmas.{Iterator.{YieldsList-from_slice, YieldsList-from_take, cases_from_all}, Option.slice_get-get_or}}
 use Rattle.schedule_checker.proofs.shape.names.link_is_new.Goals as goal
 
 abbrev Differ : Link → Link → Type 0
@@ -14,8 +14,9 @@ returns c =
     let links = c.args.network.now.link in
     let place = c.args.place in
     let link = c.index-links-place.result in
-    let is : link ≡ get_or links place link = c.index-links-place.is ∙ ap (λ (xs : List Link). get_or xs place link) c.as_slice-links.ensures in
-    let at : slice_get links place ≡ Some link = slice_get-get_or links place link c.requires ∙ ap (λ (l : Link). Some l) (sym is) in
+    let is : link ≡ get_or links place link = c.index-links-place.is ∙ ap (λ xs. get_or xs place link)
+    c.as_slice-links.ensures in
+    let at = slice_get-get_or links place link c.requires ∙ (rw (sym is)) in
     let cases = cases_from_all _ _ c.all.result (Differ link) (Agree link) c.all.ensures.ran
     (YieldsList-from_take place (YieldsList-from_slice links cc) c.take.ensures.count) (λ x q k. search (rules, tests)) (λ x q k. search (rules, tests))
     in

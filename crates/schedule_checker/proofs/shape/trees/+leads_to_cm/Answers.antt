@@ -1,5 +1,5 @@
-use Rattle.std.proofs.{Common.{◌∙◌, ◌≡◌, ◌≢◌, List, Some, ap, get_or, sym}, lemmas.{Bool.false≢true, Option.slice_get-get_or}}
-use Rattle.net_plan.specs.{Places.{IsCmOf, link_at}, declared.tables.Link.Link}
+use Rattle.std.proofs.{Common.{◌∙◌, get_or, sym}, lemmas.{Bool.false≢true, Option.slice_get-get_or}}
+use Rattle.net_plan.specs.{Places.{IsCmOf}}
 use Rattle.schedule_checker.proofs.ShapePaths.{leads_by, leads_nowhere, leads_on, uplink_within}
 use Rattle.schedule_checker.proofs.shape.trees.+leads_to_cm.Goals as goal
 
@@ -12,10 +12,10 @@ returns-in-Some t c =
     let first = c.in-Some.ensures.first in
     let read = c.index-as_slice-link.result in
     let found = get_or c.as_slice.result.now link.0 read in
-    let at : link_at n link ≡ Some found = slice_get-get_or n.link link.0 read (uplink_within n channel device first)
-    ∙ ap (λ (xs : List Link). Some (get_or xs link.0 read)) (sym c.as_slice.ensures) in
+    let at = slice_get-get_or n.link link.0 read (uplink_within n channel device first)
+    ∙ (rw (sym c.as_slice.ensures)) in
     let bare = λ (h : IsCmOf n channel device). false≢true (sym c.if-is_role_of.false ∙ c.is_role_of.ensures.1 h) in
-    let some : c.args.most ≢ 0 = c.if-most-eq0.false in
+    let some = c.if-most-eq0.false in
     let rest = c.leads_to_cm.ensures in (
       λ h. leads_by n channel device found c.args.most some first at (rest.0 h),
       λ h. rest.1 (leads_on n channel device found c.args.most bare first at h),

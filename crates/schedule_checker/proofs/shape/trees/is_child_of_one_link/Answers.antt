@@ -1,5 +1,5 @@
-use Rattle.net_plan.specs.declared.{ids.LinkId.LinkId, tables.Link.Link}
-use Rattle.{schedule_checker.proofs.{ShapeLists.decides_one, ShapeTests.{child_test, decides_child}}, std.proofs.Common.{◌≡◌, refl, rules, tests, ℕ}}
+use Rattle.net_plan.specs.declared.{ids.LinkId.LinkId}
+use Rattle.{schedule_checker.proofs.{ShapeLists.decides_one, ShapeTests.{child_test, decides_child}}, std.proofs.Common.{◌≡◌, refl, rules, tests}}
 use Rattle.std.proofs.lemmas.{Bool.Decides.same_from_decides, Iterator.{Consumers.{YieldsList-from_filter, count_from_yields_List}, YieldsList-from_slice}}
 use Rattle.schedule_checker.proofs.shape.trees.is_child_of_one_link.Goals as goal
 
@@ -11,5 +11,6 @@ returns c =
     let count = count_from_yields_List c.filter.result c.count.result c.count.ensures.ran
     (YieldsList-from_filter _ test (YieldsList-from_slice links cc) c.filter.ensures.closure
     (λ x b q k. (search rules, same_from_decides b (test x.now) (search (rules, tests)) (decides_child device x.now)))) in
-    decides_one (λ (l : LinkId). l.0) (λ (k : ℕ). let l : LinkId = record { 0 = k } in l) (λ l. refl) (λ k. refl) test (λ (l : Link). l.child ≡ device)
+    decides_one (λ l. l.0) (λ k. let l : LinkId = record { 0 = k } in l) (λ l. refl) (λ k. refl) test
+    (λ l. l.child ≡ device)
     (decides_child device) links c.count.result count

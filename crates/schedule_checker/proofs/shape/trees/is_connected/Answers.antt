@@ -3,8 +3,8 @@ use Rattle.schedule_checker.proofs.shape.trees.is_connected.Goals as goal
 
 pub returns-then-is_connected_on : goal.returns-then-is_connected_on
 returns-then-is_connected_on c =
-    let n = c.args.network.now in
-    let i = c.args.place in
-    let a = c.is_connected_on.ensures.0 c.if-is_connected_on.true in
-    let b = c.is_connected_on-then-is_connected_on.ensures in
-    (λ h. connected i a (b.0 h), λ h. b.1 (connected_on B h))
+    let b = c.is_connected_on-then-is_connected_on.ensures in (
+      λ h. connected c.args.place (c.is_connected_on.ensures.0 c.if-is_connected_on.true) (b.0 h),
+      λ h. b.1
+          (connected_on B h),
+    )
