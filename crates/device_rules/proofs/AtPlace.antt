@@ -1,5 +1,5 @@
 -- What a function makes of what it finds at a place of a list.
-use Rattle.std.proofs.Common.{◌-◌, ◌∙◌, ◌≡◌, ◌≢◌, List, None, Option, Some, ap, arith, false, get_or, length, nat_lt, refl, suc, sym, true, zero, ℕ}
+use Rattle.std.proofs.Common.{◌-◌, ◌∙◌, ◌≡◌, ◌≢◌, List, None, Some, ap, arith, false, get_or, length, nat_lt, refl, suc, sym, true, zero, ℕ}
 use Rattle.device_rules.specs.frames.traced.Keeping.{at_number}
 use Rattle.std.{proofs.lemmas.{Bool.{ltb-false, ltb-true}, Option.{slice_get_past, slice_get_read}}, specs.{List.slice_get, Option.option_map_or}}
 
@@ -8,19 +8,19 @@ pub made_there : {X Y : Type 0} (f : X → Y) (none : Y) (xs ys : List X) (i : �
     → f x ≡ option_map_or f (slice_get ys i) none
 made_there f none xs ys i x same within is =
     let at = slice_get_read xs (length xs) i x refl (ltb-true i (length xs) (sym within)) is in
-    sym (ap (λ (zs : List _). option_map_or f (slice_get zs i) none) (sym same) ∙ ap (λ (o : Option _). option_map_or f o none) at)
+    sym (rw (sym same) ((rw at)))
 
 -- nothing is there
 pub made_past : {X Y : Type 0} (f : X → Y) (none : Y) (xs ys : List X) (i : ℕ) → xs ≡ ys → false ≡ nat_lt i (length xs)
     → none ≡ option_map_or f (slice_get ys i) none
 made_past f none xs ys i same beyond =
     let at = slice_get_past xs i (ltb-false i (length xs) (sym beyond)) in
-    sym (ap (λ (zs : List _). option_map_or f (slice_get zs i) none) (sym same) ∙ ap (λ (o : Option _). option_map_or f o none) at)
+    sym (rw (sym same) ((rw at)))
 
 -- the one of this number, from 1, and where there is none
 from_one : {X : Type 0} (xs : List X) (n : ℕ) → n ≢ 0 → at_number xs n ≡ slice_get xs (n - 1)
 from_one xs zero some = absurd (some refl)
-from_one xs (suc k) some = ap (λ (m : ℕ). slice_get xs m) (omega arith)
+from_one xs (suc k) some = ap (λ m. slice_get xs m) (omega arith)
 
 pub numbered : {X : Type 0} (xs : List X) (n : ℕ) (x : X) → n ≢ 0 → true ≡ nat_lt (n - 1) (length xs) → x ≡ get_or xs (n - 1) x → Some x ≡ at_number xs n
 numbered xs n x some within is = sym (from_one xs n some ∙ slice_get_read xs (length xs) (n - 1) x refl (ltb-true (n - 1) (length xs) (sym within)) is)

@@ -8,7 +8,7 @@ use Rattle.net_plan.specs.{Ranges.{IsInRange, IsVlInRange}, declared.{ids.{Devic
 use Rattle.{net_plan.specs.declared.tables.Row.Row, schedule_tables.specs.declared.entry.Entry.Entry, std.specs.Prelude.{find, option_and_then, option_map}}
 use Rattle.{run_law.specs.{device.Standpoints.Standpoint, scenario.Ways.{is_way, is_way_of, way_to}}, std.proofs.lemmas.Bool.{eq-eqb, eqb-true, false≢true}}
 use Rattle.run_law.specs.timed.Arrivals.{entry_arrival, entry_entering, entry_of, is_row_with, row_fault, taken_or_fault, timed_arrival}
-use Rattle.std.proofs.Common.{◌&&◌, ◌==◌, ◌∙◌, ◌∷◌, ◌≡◌, Bool, List, None, Option, Some, [], ap, arith, cond, false, if◌then◌else◌, length, refl, slice_get}
+use Rattle.std.proofs.Common.{◌&&◌, ◌==◌, ◌∙◌, ◌∷◌, ◌≡◌, Bool, List, None, Option, Some, [], ap, arith, false, if◌then◌else◌, length, refl, slice_get}
 use Rattle.std.specs.{BTreeMap.get, Option.option_map_or}
 use Rattle.tte_units.proofs.general_lemmas.{Lists.in_all, Options.opened}
 use Rattle.run_law.specs.declared.judgement.Reason.TheVariants as reasons
@@ -19,7 +19,7 @@ use Rattle.run_law.specs.declared.steps.Arrival.TheVariants as arrivals
 find_alike : (f g : Row → Bool) (rows : List Row) → ((row : Row) → f row ≡ g row) → find f rows ≡ find g rows
 find_alike f g [] same = refl
 find_alike f g (row ∷ rows) same =
-    ap (λ (b : Bool). cond b (Some row) (find f rows)) (same row) ∙ ap (λ (o : Option Row). cond (g row) (Some row) o) (find_alike f g rows same)
+    rw (same row) ((rw (find_alike f g rows same)))
 
 -- the row by which a frame with the id comes on the way of the link
 abbrev entering_on : Network → LinkId → ℕ → Way → Option Entry
@@ -55,7 +55,7 @@ module _ (network : Network) (entrances : Entrances) where
   found_is device link id way o are is up down =
       row_found way (record { link = link; id = id }) o are up down
       ∙ ap (option_map (entering_by network)) (alike network (On way) link id way (λ row e. refl))
-      ∙ ap (λ w. option_map (entering_by network) (entering_on network link id w)) is
+      ∙ (rw is)
 
 -- a row comes to the device by a link of its own on the way on which it receives
 comes_same : (parent : Bool) (l : Link) (device : DeviceId) (way : Way) → (l.parent.0 == device.0) ≡ parent → (parent ≡ false → (l.child.0 == device.0) ≡ true)
@@ -75,12 +75,12 @@ pub entered_at : (network : Network) (device : DeviceId) (link : LinkId) (id : �
 entered_at network device link id is =
     let l = link_of network device link is in
     alike network (Into device) link id (way_to network device link) (λ row e.
-    let same : link ≡ row.link = same_link link row.link (eqb-true link.0 row.link.0 e) in
-    ap (λ (o : Option Link). option_map_or (λ x. comes_by row.way x device) o false)
+    let same = same_link link row.link (eqb-true link.0 row.link.0 e) in
+    ap (λ o. option_map_or (λ x. comes_by row.way x device) o false)
     (subst (λ k. link_at network k ≡ Some l.0) same l.1)
     ∙ comes_same (is_parent_of network device link) l.0 device row.way
-    (sym (ap (λ (o : Option Link). option_map_or (λ x. x.parent.0 == device.0) o false) l.1))
-    (λ none. l.2 (sym (ap (λ (o : Option Link). option_map_or (λ x. x.parent.0 == device.0) o false) l.1) ∙ none)))
+    (sym (rw l.1))
+    (λ none. l.2 (sym (rw l.1) ∙ none)))
 
 pub some_mapped : (network : Network) (o : Option Entry) (row : EnteringRow) → option_map (entering_by network) o ≡ Some row
     → (entry : Entry) × (o ≡ Some entry) × (row ≡ entering_by network entry)
@@ -97,7 +97,7 @@ vl_by : (row : Row) (vl : Option VirtualLink) (link : Option Link) (entry : Entr
     → option_and_then (λ v. option_map (λ l. record { row = row; vl = v; link = l }) link) vl ≡ Some entry → vl ≡ Some entry.vl
 vl_by row None link entry e = absurd cc
 vl_by row (Some v) None entry e = absurd cc
-vl_by row (Some v) (Some l) entry e = ap (λ (x : Entry). Some x.vl) (same_Some _ _ e)
+vl_by row (Some v) (Some l) entry e = ap (λ x. Some x.vl) (same_Some _ _ e)
 
 has_vl : (network : Network) (o : Option Row) (entry : Entry) → option_and_then (entry_of network) o ≡ Some entry
     → (i : ℕ) × (slice_get network.vl i ≡ Some entry.vl)
@@ -133,7 +133,7 @@ module _ (network : Network) (device : DeviceId) (link : LinkId) where
         m.0,
         m.2,
         λ last. by_entry at octets heading (Some m.0) last is none m.1
-            ∙ ap (λ (r : EnteringRow). taken_or_fault network device at m.0
+            ∙ ap (λ r. taken_or_fault network device at m.0
             (row_fault network at m.0 (length octets) (last r.vl))) (sym m.2),
       )
 

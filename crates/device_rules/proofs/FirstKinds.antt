@@ -3,7 +3,7 @@ use Rattle.device_rules.specs.FirstKinds.{IsFirstKind, kind_of, order_of_kind}
 use Rattle.net_plan.specs.declared.{ids.DeviceId.DeviceId, network.Network.Network}
 use Rattle.run_law.specs.machines.Nodes.{Node, correcting, dispatching, sending}
 use Rattle.run_law.specs.{machines.Tasks.{IsFirstTask, Task, doing, emitting, order_of}, records.Order.IsBefore}
-use Rattle.std.proofs.Common.{◌<◌, ◌∷◌, ◌≡◌, List, arith, inl, inr, refl, subst, sym, ℕ, ℤ}
+use Rattle.std.proofs.Common.{◌<◌, ◌∷◌, ◌≡◌, List, inl, inr, refl, ℕ, ℤ}
 use Rattle.std.proofs.lemmas.Bool.{cases_lt}
 
 -- the order of a task begins with that of its kind
@@ -19,8 +19,7 @@ earlier_kind : (network : Network) (task other : Task) → order_of_kind (kind_o
 earlier_kind network task other lt =
     let a = order_from network other in
     let b = order_from network task in
-    subst (λ p. IsBefore p (order_of network task)) (sym a.1)
-    (subst (λ p. IsBefore (order_of_kind (kind_of other) ∷ a.0) p) (sym b.1) (inl lt))
+    rw a.1 (rw b.1 (inl lt))
 
 pub first_kind_of : {network : Network} {device : DeviceId} {node : Node} {reading : ℤ} {task : Task}
     → IsFirstTask network device node reading task → IsFirstKind network device node reading (kind_of task)

@@ -5,7 +5,7 @@ use Rattle.{device_rules.specs.declared.entrances.{Entrance.Entrance, Which.Whic
 use Rattle.{net_plan.{proofs.{SameIds.same_link, TableFacts.id_by}, specs.Ranges.IsInRange}, std.{proofs.Common.⊎_elim, specs.Ordering.{is_eq, nat_cmp}}}
 use Rattle.{net_plan.specs.declared.{ids.LinkId.LinkId, network.Network.Network, tables.Row.Row}, run_law.proofs.timed.Rows.{entry_at, has_entry}}
 use Rattle.{run_law.specs.timed.Arrivals.entry_of, std.{proofs.lemmas.{Cmp.ranked, List.Elements.All-take}, specs.BTreeMap.{BTreeMap, Updates, get}}}
-use Rattle.std.proofs.Common.{◌&&◌, ◌++◌, ◌∙◌, ◌∷◌, ◌≡◌, Bool, List, None, Option, Some, [], ap, arith, cond, false, refl, subst, sym, take, true, ℕ}
+use Rattle.std.proofs.Common.{◌&&◌, ◌++◌, ◌∙◌, ◌∷◌, ◌≡◌, Bool, List, None, Option, Some, [], ap, arith, cond, refl, subst, sym, take, true, ℕ}
 use Rattle.{std.proofs.lemmas.Bool.{and_parts, cases_Bool, eqb-true, false≢true}, tte_units.proofs.general_lemmas.Lists.{find_new, find_of, find_skips}}
 use Rattle.{std.specs.Prelude.{IsSome, find, option_and_then, option_map, slice_get}, tte_units.proofs.general_lemmas.Naturals.{cmp_equal, cmp_same, eqb_same}}
 
@@ -49,12 +49,11 @@ module _ (network : Network) (which : Which) (rows : List Row) where
       → option_map (entering_by network) (first_entering network which rows e) ≡ None
       → find (enters network which e) rows ≡ None
   none_found e have none = ⊎_elim
-      (λ (s : (y : Row) × (find (enters network which e) rows ≡ Some y)).
+      (λ s.
       let some = find_of (λ row. IsSome (entry_of network row)) (enters network which e) rows s.0 have s.1 in
       absurd (no_kept network (entry_of network s.0) some
-      (subst (λ (o : Option Row). option_map (entering_by network) (option_and_then (entry_of network) o) ≡ None) s.1
-      none)))
-      (λ (n : find (enters network which e) rows ≡ None). n)
+      (rw s.1 at none)))
+      (λ n. n)
       (some_or_none (find (enters network which e) rows))
 
   -- ---- one row more
@@ -65,14 +64,12 @@ module _ (network : Network) (which : Which) (rows : List Row) where
       → (is_of network which entry.row ≡ true → IsSome (get entrance_cmp kept (entrance_of entry)))
       → AreRows network which (rows ++ entry.row ∷ []) kept
   row_skipped {place} {entry} kept is have are stands e =
-      are e ∙ ap (λ (o : Option Row). option_map (entering_by network) (option_and_then (entry_of network) o))
-      (sym (find_skips (enters network which e) rows entry.row (λ t none.
+      are e ∙ (rw (sym (find_skips (enters network which e) rows entry.row (λ t none.
       let own = entrance_is network which place entry e is t in
-      let absent : get entrance_cmp kept e ≡ None =
-      are e ∙ ap (λ (o : Option Row). option_map (entering_by network) (option_and_then (entry_of network) o)) none
+      let absent =
+      are e ∙ (rw none)
       in
-      no_entry (get entrance_cmp kept e) (subst (λ (x : Entrance). IsSome (get entrance_cmp kept x)) (sym own.0)
-      (stands own.1)) absent)))
+      no_entry (get entrance_cmp kept e) (rw own.0 (stands own.1)) absent))))
 
   -- a row that is kept, the first for its entrance
   pub row_kept : {place : ℕ} {entry : Entry} (old new : BTreeMap Entrance EnteringRow) → IsEntry network place entry
@@ -80,19 +77,16 @@ module _ (network : Network) (which : Which) (rows : List Row) where
       → get entrance_cmp old (entrance_of entry) ≡ None → Updates entrance_cmp old new (entrance_of entry)
       (Some (entering_by network entry)) → AreRows network which (rows ++ entry.row ∷ []) new
   row_kept {place} {entry} old new is have are comes absent up e = ⊎_elim
-      (λ (y : is_eq (entrance_cmp (entrance_of entry) e) ≡ true).
+      (λ y.
       let same = same_entrance (entrance_of entry) e y in
-      up.0 e ∙ ap (λ (b : Bool). cond b (Some (entering_by network entry)) (get entrance_cmp old e)) y
-      ∙ subst (λ x. Some (entering_by network entry) ≡ option_map (entering_by network)
-      (first_entering network which (rows ++ entry.row ∷ []) x))
-      same
-      (sym (ap (λ (o : Option Row). option_map (entering_by network) (option_and_then (entry_of network) o))
+      up.0 e ∙ ap (λ b. cond b (Some (entering_by network entry)) (get entrance_cmp old e)) y
+      ∙ (rw (sym same) (sym (ap (λ o. option_map (entering_by network) (option_and_then (entry_of network) o))
       (find_new (enters network which (entrance_of entry)) rows entry.row (enters_own which is comes)
       (none_found (entrance_of entry) have (sym (are (entrance_of entry)) ∙ absent)))
-      ∙ ap (option_map (entering_by network)) (entry_at is))))
-      (λ (n : is_eq (entrance_cmp (entrance_of entry) e) ≡ false).
-      up.0 e ∙ ap (λ (b : Bool). cond b (Some (entering_by network entry)) (get entrance_cmp old e)) n
-      ∙ are e ∙ ap (λ (o : Option Row). option_map (entering_by network) (option_and_then (entry_of network) o))
+      ∙ ap (option_map (entering_by network)) (entry_at is)))))
+      (λ n.
+      up.0 e ∙ ap (λ b. cond b (Some (entering_by network entry)) (get entrance_cmp old e)) n
+      ∙ are e ∙ ap (λ o. option_map (entering_by network) (option_and_then (entry_of network) o))
       (sym (find_skips (enters network which e) rows entry.row (λ t none.
       let own = entrance_is network which place entry e is t in
       false≢true (sym n ∙ subst (λ x. is_eq (entrance_cmp x e) ≡ true) own.0 (cmp_itself e))))))

@@ -13,4 +13,4 @@ expected_is {network} device n range = by_parts n (amount network.cycle) (expect
     (its_amount range.cycle)
 
 pub fits_far : {z : ℤ} → IsFar z → FitsSigned w128 z
-fits_far far = let least = far.least in let most = far.most in grind (arith, ints, least, most)
+fits_far far = let least = far.least in let most = far.most in grind (arith, ints)

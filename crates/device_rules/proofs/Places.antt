@@ -3,14 +3,14 @@ use Rattle.net_plan.specs.{Places.link_at, declared.tables.Link.Link}
 use Rattle.{net_plan.specs.declared.{ids.{DeviceId.DeviceId, LinkId.LinkId}, network.Network.Network}, tte_units.proofs.general_lemmas.Naturals.unequal}
 use Rattle.{run_law.specs.control.Arrivals.{are_others, is_of_other_member}, std.proofs.lemmas.Option.{slice_get_past, slice_get_read}}
 use Rattle.{run_law.specs.scenario.Devices.{is_end, member_of}, tte_units.specs.declared.frames.members.Members.Members}
-use Rattle.std.proofs.Common.{◌&&◌, ◌<◌, ◌==◌, ◌∙◌, ◌≡◌, ◌≤◌, Bool, List, Some, ap, arith, false, get_or, length, refl, slice_get, subst, sym, true, ℕ}
+use Rattle.std.proofs.Common.{◌&&◌, ◌<◌, ◌==◌, ◌∙◌, ◌≡◌, ◌≤◌, Bool, List, Some, arith, false, get_or, length, refl, slice_get, sym, true, ℕ}
 
 -- what was read at a place of a list
 pub read_at : {X : Type 0} (xs ys : List X) (i : ℕ) (x : X) → xs ≡ ys → i < length xs → x ≡ get_or xs i x → slice_get ys i ≡ Some x
-read_at xs ys i x e lt at = subst (λ (zs : List _). slice_get zs i ≡ Some x) e (slice_get_read xs (length xs) i x refl lt at)
+read_at xs ys i x e lt at = rw e at (slice_get_read xs (length xs) i x refl lt at)
 
 equal : (a b : ℕ) → a ≡ b → (a == b) ≡ true
-equal a b e = grind (arith, e)
+equal a b e = grind arith
 
 regrouped : (a b c : Bool) → ((a && b) && c) ≡ (a && (b && c))
 regrouped true b c = refl
@@ -30,14 +30,14 @@ module _ (network : Network) (device : DeviceId) (link : LinkId) (members : Memb
   pub other_below : (l : Link) (is : Bool) → link_at network link ≡ Some l → l.parent.0 ≡ device.0
       → is ≡ other_end network l.child members → is ≡ is_of_other_member network device link members
   other_below l is e h at =
-      at ∙ sym (other_by l e ∙ ap (λ (b : Bool). b && other_end network l.child members) (equal l.parent.0 device.0 h))
+      at ∙ sym (other_by l e ∙ (rw (equal l.parent.0 device.0 h)))
 
   -- it is not
   pub none_below : (l : Link) → link_at network link ≡ Some l → (l.parent.0 ≡ device.0 → ⊥)
       → (l.parent.0 == device.0) ≡ is_of_other_member network device link members
   none_below l e h =
       unequal l.parent.0 device.0 h
-      ∙ sym (other_by l e ∙ ap (λ (b : Bool). b && other_end network l.child members) (unequal l.parent.0 device.0 h))
+      ∙ sym (other_by l e ∙ (rw (unequal l.parent.0 device.0 h)))
 
   -- there is no such link
   pub no_link : (xs : List Link) → xs ≡ network.link → length xs ≤ link.0

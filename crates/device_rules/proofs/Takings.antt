@@ -1,18 +1,18 @@
 -- Time-triggered frames that a device takes.
-use Rattle.device_rules.{proofs.Entered.{by_entry, entered_at, none_mapped, some_mapped}, specs.Entering.{entering_by, entrance_cmp, fault_of, first_entering}}
+use Rattle.device_rules.{proofs.Entered.{by_entry, entered_at, none_mapped, some_mapped}, specs.Entering.{entering_by, entrance_cmp, fault_of}}
 use Rattle.device_rules.{proofs.KeptRows.{enters, made}, specs.{Headings.{heading_fault, heading_of}, declared.{heading.Heading.Heading, intake.Intake.Intake}}}
 use Rattle.device_rules.specs.{Intakes.{HasTaken, IsWhole, Takes, cycle_of, last_by, last_in, row_arrival}, declared.entrances.EnteringRow.EnteringRow}
 use Rattle.{device_rules.specs.declared.entrances.Which.TheVariants.Into, run_law.specs.device.Standpoints.{Standpoint, clock_of, cycle_at, offset_in_cycle}}
-use Rattle.{net_plan.proofs.SameIds.same_vl, run_law.specs.machines.Calls.IsLinkAt, std.specs.{BTreeMap.get, Int.int_rem_euclid, List.{All, last_or}}}
+use Rattle.{net_plan.proofs.SameIds.same_vl, run_law.specs.machines.Calls.IsLinkAt, std.specs.{BTreeMap.get, Int.int_rem_euclid, List.{All}}}
 use Rattle.{net_plan.specs.Ranges.{IsInRange, IsRowInRange, IsVlInRange}, std.specs.Prelude.{IfSome, filter, find, option_and_then, option_map, unwrap_or}}
 use Rattle.{net_plan.specs.declared.ids.DeviceId.DeviceId, run_law.specs.declared.steps.Arrival.Arrival, std.proofs.lemmas.Bool.{cases_Bool, eqb-true}}
 use Rattle.{net_plan.specs.declared.ids.{LinkId.LinkId, VlId.VlId}, run_law.specs.machines.Nodes.TakenFrame, tte_units.specs.declared.units.Units.Units}
 use Rattle.{net_plan.specs.declared.network.Network.Network, run_law.specs.declared.judgement.Reason.Reason, schedule_tables.specs.declared.entry.Entry.Entry}
 use Rattle.net_plan.specs.declared.tables.{Row.Row, VirtualLink.VirtualLink}
 use Rattle.tte_units.proofs.general_lemmas.Lists.{find_of, in_all, last_kept, last_pushed, some_at}
-use Rattle.run_law.specs.timed.Arrivals.{entry_arrival, entry_entering, entry_of, octets_or_fault, row_fault, taken_by, taken_or_fault, timed_arrival}
+use Rattle.run_law.specs.timed.Arrivals.{entry_arrival, entry_entering, entry_of, octets_or_fault, taken_by, taken_or_fault, timed_arrival}
 use Rattle.std.proofs.Common.{◌++◌, ◌<◌, ◌==◌, ◌∙◌, ◌∷◌, ◌≡◌, ◌≤◌, Bool, List, None, Option, Some, [], ap, arith, cond, false, length, map, refl, slice_get}
-use Rattle.std.proofs.{Common.{subst, suc, sym, true, zero, ℕ, ℤ, ⊎_elim}, lemmas.List.{Elements.{All-head, All-map, All-tail, filter-append}, length-map}}
+use Rattle.std.proofs.{Common.{suc, sym, true, zero, ℕ, ℤ, ⊎_elim}, lemmas.List.{Elements.{All-head, All-map, All-tail, filter-append}, length-map}}
 use Rattle.run_law.specs.declared.judgement.Reason.TheVariants as reasons
 use Rattle.run_law.specs.declared.steps.Arrival.TheVariants as arrivals
 
@@ -41,10 +41,7 @@ module _ (network : Network) (device : DeviceId) (intake : Intake) (taken : List
   pub is_whole : IsInRange network → HasTaken network device intake taken → IsWhole intake
   is_whole range has link id =
       let entrance = made link id in
-      subst (λ (o : Option EnteringRow). IfSome o (IsFine (length intake.taken.items))) (sym (has.rows entrance))
-      (subst (λ n. IfSome (option_map (entering_by network)
-      (first_entering network (Into device) network.row entrance)) (IsFine n)) (sym has.count)
-      (found_fine (find (enters network (Into device) entrance) network.row) range
+      rw (has.rows entrance) (rw has.count (found_fine (find (enters network (Into device) entrance) network.row) range
       (λ row e. find_of (IsRowInRange network) (enters network (Into device) entrance) network.row row range.rows e)))
 
   -- ---- how a frame is judged
@@ -66,11 +63,11 @@ none_there network device link heading at taken none =
 -- the cycle of the device's local value, and its place in it
 pub cycle_same : (network : Network) (at : Standpoint) (local length : Units) → length ≡ network.cycle → local.0 ≡ clock_of at
     → cycle_of local.0 length.0 ≡ cycle_at network (clock_of at)
-cycle_same network at local length l c = ap (λ (u : Units). cycle_of local.0 u.0) l ∙ ap (λ z. cycle_of z network.cycle.0) c
+cycle_same network at local length l c = rw l ((rw c))
 
 pub place_same : (network : Network) (at : Standpoint) (local length : Units) → length ≡ network.cycle → local.0 ≡ clock_of at
     → int_rem_euclid local.0 length.0 ≡ offset_in_cycle network (clock_of at)
-place_same network at local length l c = ap (λ (u : Units). int_rem_euclid local.0 u.0) l ∙ ap (λ (z : ℤ). int_rem_euclid z network.cycle.0) c
+place_same network at local length l c = rw l ((rw c))
 
 -- what becomes of a frame of the virtual link in the cycle with this fault, or with none
 abbrev pub arrival_by : Network → DeviceId → VlId → ℕ → Option Reason → Arrival
@@ -91,15 +88,16 @@ pub judged : (network : Network) (device : DeviceId) (link : LinkId) (heading : 
 judged network device link heading at taken row cycle place last fault found cycle_is place_is last_is is =
     let m = some_mapped network (entry_entering network device link heading.id) row found in
     let entry = m.0 in
-    let same : fault ≡ row_fault network at entry heading.length (last_by taken entry.row.vl) = is ∙ ap (fault_of row heading.length cycle place) last_is
+    let same = is ∙ ap (fault_of row heading.length cycle place) last_is
     ∙ ap (λ n. fault_of row heading.length n place (last_by taken row.vl)) cycle_is
     ∙ ap (λ z. fault_of row heading.length (cycle_at network (clock_of at)) z (last_by taken row.vl)) place_is
-    ∙ ap (λ (r : EnteringRow). fault_of r heading.length (cycle_at network (clock_of at)) (offset_in_cycle network (clock_of at)) (last_by taken r.vl)) m.2 in
+    ∙ ap (λ r. fault_of r heading.length (cycle_at network (clock_of at)) (offset_in_cycle network (clock_of at))
+    (last_by taken r.vl)) m.2 in
     ap (entry_arrival network device at heading.length (last_by taken)) m.1
     ∙ ap (taken_or_fault network device at entry) (sym same)
     ∙ by_fault network device at entry fault
-    ∙ ap (λ (r : EnteringRow). arrival_by network device r.vl (cycle_at network (clock_of at)) fault) (sym m.2)
-    ∙ ap (λ n. arrival_by network device row.vl n fault) (sym cycle_is)
+    ∙ ap (λ r. arrival_by network device r.vl (cycle_at network (clock_of at)) fault) (sym m.2)
+    ∙ (rw (sym cycle_is))
 
 -- ---- octets by their heading
 
@@ -111,7 +109,7 @@ module _ (network : Network) (device : DeviceId) (link : LinkId) (at : Standpoin
   heard_by is none =
       by_entry network device link at octets heading (entry_entering network device link heading.id) (last_by taken)
       (sym is) none refl
-      ∙ ap (λ (h : Heading). entry_arrival network device at h.length (last_by taken)
+      ∙ ap (λ h. entry_arrival network device at h.length (last_by taken)
       (entry_entering network device link heading.id)) (sym is)
 
   -- and others are dropped
@@ -128,14 +126,14 @@ module _ (network : Network) (device : DeviceId) (link : LinkId) (at : Standpoin
 by_pushed : (taken : List TakenFrame) (t : TakenFrame) (vl : VlId) (b : Bool) → (t.vl.0 == vl.0) ≡ b → last_by (taken ++ t ∷ []) vl ≡ cond b (Some t.cycle)
     (last_by taken vl)
 by_pushed taken t vl true e =
-    ap (λ (ts : List TakenFrame). option_map (λ (x : TakenFrame). x.cycle) (last_or None ts)) (filter-append (λ x. x.vl.0 == vl.0) taken (t ∷ []))
-    ∙ rw e (ap (option_map (λ (x : TakenFrame). x.cycle)) (last_pushed None (filter (λ x. x.vl.0 == vl.0) taken) t))
+    rw (filter-append (λ x. x.vl.0 == vl.0) taken (t ∷ []))
+    (rw e (ap (option_map (λ x. x.cycle)) (last_pushed None (filter (λ x. x.vl.0 == vl.0) taken) t)))
 by_pushed taken t vl false e =
-    ap (λ (ts : List TakenFrame). option_map (λ (x : TakenFrame). x.cycle) (last_or None ts)) (filter-append (λ x. x.vl.0 == vl.0) taken (t ∷ []))
-    ∙ rw e (ap (option_map (λ (x : TakenFrame). x.cycle)) (last_kept None (filter (λ x. x.vl.0 == vl.0) taken)))
+    rw (filter-append (λ x. x.vl.0 == vl.0) taken (t ∷ []))
+    (rw e (ap (option_map (λ x. x.cycle)) (last_kept None (filter (λ x. x.vl.0 == vl.0) taken))))
 
 not_same : (a b : ℕ) → (a == b) ≡ false → b ≡ a → ⊥
-not_same a b e h = grind (arith, e, h)
+not_same a b e h = grind arith
 
 -- one frame more
 pub has_taken : {network : Network} {device : DeviceId} {old new : Intake} {taken : List TakenFrame} {vl : VlId}
@@ -144,12 +142,12 @@ pub has_taken : {network : Network} {device : DeviceId} {old new : Intake} {take
 has_taken {old} {new} {taken} t has takes vl_is cycle_is =
     let kept : Takes old t.vl t.cycle new = rw (vl_is, cycle_is) takes in
     record {
-      rows = λ entrance. ap (λ rows. get entrance_cmp rows entrance) kept.rows ∙ has.rows entrance;
+      rows = λ entrance. rw kept.rows (has.rows entrance);
       count = kept.count ∙ has.count;
       last = λ v. ⊎_elim
-          (λ (y : (t.vl.0 == v.0) ≡ true). subst (λ x. last_in new.taken.items x ≡ Some t.cycle) (same_vl t.vl v (eqb-true t.vl.0 v.0 y)) kept.taken
+          (λ y. (rw (same_vl t.vl v (eqb-true t.vl.0 v.0 y)) at kept.taken)
           ∙ sym (by_pushed taken t v true y))
-          (λ (n : (t.vl.0 == v.0) ≡ false). kept.others v (not_same t.vl.0 v.0 n) ∙ has.last v ∙ sym (by_pushed taken t v false n))
+          (λ n. kept.others v (not_same t.vl.0 v.0 n) ∙ has.last v ∙ sym (by_pushed taken t v false n))
           (cases_Bool (t.vl.0 == v.0));
     }
 
@@ -158,16 +156,16 @@ get_nil zero = refl
 get_nil (suc n) = refl
 
 none_at : (xs : List (Option ℕ)) (n : ℕ) → All (λ o. o ≡ None) xs → unwrap_or (slice_get xs n) None ≡ None
-none_at [] n all = ap (λ (o : Option (Option ℕ)). unwrap_or o None) (get_nil n)
+none_at [] n all = ap (λ o. unwrap_or o None) (get_nil n)
 none_at (x ∷ xs) zero all = All-head (λ o. o ≡ None) x xs all
 none_at (x ∷ xs) (suc n) all = none_at xs n (All-tail (λ o. o ≡ None) x xs all)
 
 -- none was taken at first
 pub none_last : (xs : List (Option ℕ)) (vls : List VirtualLink) → xs ≡ map (λ vl. None) vls → (vl : VlId) → last_in xs vl ≡ None
 none_last xs vls none vl =
-    ap (λ ys. last_in ys vl) none
-    ∙ none_at (map (λ vl. None) vls) vl.0 (All-map (λ (o : Option ℕ). o ≡ None) (λ (x : VirtualLink). None) vls (λ i d lt. refl))
+    rw none
+    (none_at (map (λ vl. None) vls) vl.0 (All-map (λ o. o ≡ None) (λ x. None) vls (λ i d lt. refl)))
 
 -- there is one for each virtual link
 pub none_count : (xs : List (Option ℕ)) (vls : List VirtualLink) → xs ≡ map (λ vl. None) vls → length xs ≡ length vls
-none_count xs vls none = ap (λ ys. length ys) none ∙ length-map vls _
+none_count xs vls none = rw none (length-map vls _)

@@ -18,7 +18,7 @@ if_some true x y e = refl
 if_some false x y e = absurd cc
 
 not_least : (t n : ℕ) → nat_le t n ≡ false → t ≤ n → ⊥
-not_least t n e h = grind (arith, e, h)
+not_least t n e h = grind arith
 
 none_shown : (s : Standing) (best : Option HeardFrame) → shown_by s best ≡ None → Qualifies s.plan.threshold best → ⊥
 none_shown s None e q = q
@@ -53,14 +53,14 @@ none_qualifies s heard e q =
 pub some_qualifies : (s : Standing) (heard : Summary) (by : Units)
     → correction_of (deviation_on s heard A) (deviation_on s heard B) ≡ Some by → SomeQualifies s heard
 some_qualifies s heard by e = ⊎_elim
-    (λ (a : (x : Units) × (deviation_on s heard A ≡ Some x)). inl (some_shown s heard.best_a a.0 a.1))
-    (λ (b : (x : Units) × (deviation_on s heard B ≡ Some x)). inr (some_shown s heard.best_b b.0 b.1))
+    (λ a. inl (some_shown s heard.best_a a.0 a.1))
+    (λ b. inr (some_shown s heard.best_b b.0 b.1))
     (one_some (deviation_on s heard A) (deviation_on s heard B) by e)
 
 -- the correction by whole numbers is that by the deviations of the channels
 pub corrects : (s : Standing) (heard : Summary) (by a b : Option ℤ) → in_units by ≡ correction_of (in_units a) (in_units b)
     → in_units a ≡ deviation_on s heard A → in_units b ≡ deviation_on s heard B → in_units by ≡ correction_of (deviation_on s heard A) (deviation_on s heard B)
-corrects s heard by a b e ea eb = e ∙ ap (λ o. correction_of o (in_units b)) ea ∙ ap (correction_of (deviation_on s heard A)) eb
+corrects s heard by a b e ea eb = e ∙ (rw ea (ap (correction_of (deviation_on s heard A)) eb))
 
 -- what a best frame shows that qualifies
 pub shown : (s : Standing) (heard : Summary) (channel : Channel) (frame : HeardFrame) → best_on channel heard ≡ Some frame

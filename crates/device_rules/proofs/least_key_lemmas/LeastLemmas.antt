@@ -11,17 +11,15 @@ module _ (nodes : List ℕ) (places : ℕ) where
       → node_at nodes 1 ≤ node_at nodes i
   below_root t zero i few some inside = absurd (omega arith)
   below_root t (suc fuel) i few some inside = elim (cases_eq i 1) [
-    | inl e ↦ subst (λ n. node_at nodes 1 ≤ node_at nodes n) (sym e) (omega arith)
+    | inl e ↦ rw e (omega arith)
     | inr more ↦
-        let up = below_root t fuel (i / 2) (omega arith) (omega (arith, more)) (omega arith) in
-        let here = t.lesser (i / 2) (omega (arith, more)) (omega arith) in
+        let up = below_root t fuel (i / 2) (omega arith) (omega arith) (omega arith) in
+        let here = t.lesser (i / 2) (omega arith) (omega arith) in
         elim (cases_eq i (2 * (i / 2))) [
-          | inl even ↦ subst (λ n. node_at nodes 1 ≤ node_at nodes n) (sym even)
-              (let left = here.0 in omega (arith, up, left))
+          | inl even ↦ rw even (let left = here.0 in omega arith)
           | inr odd ↦
               let at : i ≡ 2 * (i / 2) + 1 = omega (arith, odd) in
-              subst (λ n. node_at nodes 1 ≤ node_at nodes n) (sym at)
-              (let right = here.1 in omega (arith, up, right))
+              rw at (let right = here.1 in omega arith)
         ]
   ]
 
@@ -33,30 +31,30 @@ module _ (nodes : List ℕ) (places : ℕ) where
     | inr leaf ↦ (i - places, omega (arith, leaf), ap (λ n. node_at nodes n) (omega (arith, leaf)))
     | inl inner ↦ elim (t.lesser i some inner).2 [
       | inl left ↦
-          let below = is_key t fuel (2 * i) (omega arith) (omega arith) (omega (arith, inner)) in
+          let below = is_key t fuel (2 * i) (omega arith) (omega arith) (omega arith) in
           (below.0, below.1, left ∙ below.2)
       | inr right ↦
-          let below = is_key t fuel (2 * i + 1) (omega arith) (omega arith) (omega (arith, inner)) in
+          let below = is_key t fuel (2 * i + 1) (omega arith) (omega arith) (omega arith) in
           (below.0, below.1, right ∙ below.2)
     ]
   ]
 
   pub length_keys : IsTree nodes places → length (drop places nodes) ≡ places
-  length_keys t = let whole = t.whole in omega (arith, length-drop places nodes, whole)
+  length_keys t = let whole = t.whole in omega (arith, length-drop places nodes)
 
   pub root_is_least : (k d : ℕ) → IsTree nodes places → k < length (drop places nodes)
       → node_at nodes 1 ≤ get_or (drop places nodes) k d
   root_is_least k d t lt =
-      let few : k < places = omega (arith, lt, length_keys t) in
+      let few : k < places = omega (arith, length_keys t) in
       let whole = t.whole in
-      let least = below_root t (places + k) (places + k) (omega arith) (omega (arith, few)) (omega (arith, few)) in
-      omega (arith, least, get_or-drop places nodes k d, get_or_default nodes (places + k) 0 d (omega (arith, whole, few)))
+      let least = below_root t (places + k) (places + k) (omega arith) (omega arith) (omega arith) in
+      omega (arith, get_or-drop places nodes k d, get_or_default nodes (places + k) 0 d (omega (arith, whole, few)))
 
   pub root_is_key : IsTree nodes places → 1 ≤ places → Contains (drop places nodes) (node_at nodes 1)
   root_is_key t some =
-      let at = is_key t (2 * places) 1 (omega arith) (omega arith) (omega (arith, some)) in
+      let at = is_key t (2 * places) 1 (omega arith) (omega arith) (omega arith) in
       subst (Contains (drop places nodes)) (get_or-drop places nodes at.0 0 ∙ sym at.2)
-      (Contains-get_or (drop places nodes) at.0 0 (let few = at.1 in omega (arith, few, length_keys t)))
+      (Contains-get_or (drop places nodes) at.0 0 (let few = at.1 in omega (arith, length_keys t)))
 
 -- ---- a key is set
 

@@ -10,4 +10,4 @@ returns c =
     let dm = c.dmax.ensures.high in
     let p = c.precision.ensures.value in
     let pm = c.precision.ensures.high in
-    omega (arith, ints, shown, far, most, d, dm, p, pm)
+    omega (arith, ints)

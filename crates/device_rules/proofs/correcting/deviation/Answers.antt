@@ -5,4 +5,4 @@ pub overflow_sub-result : goal.overflow_sub-result
 overflow_sub-result c =
     let low = c.requires.low in
     let high = c.requires.high in
-    fits_far (record { least = omega (arith, ints, low); most = omega (arith, ints, high) })
+    fits_far (record { least = omega (arith, ints); most = omega (arith, ints) })

@@ -15,7 +15,6 @@ loop-place-preserved c =
 pub returns : goal.returns
 returns c =
     let network = c.args.network.now in
-    subst (λ rows. AreRows network c.args.which rows c.loop-place.rows)
-    (take_all network.row c.loop-place.place
-    (let h = c.loop-place-test.false in let e = ap (λ rows. length rows) c.as_slice-place-end.ensures in omega (arith, h, e)))
-    c.loop-place.invariant
+    rw (take_all network.row c.loop-place.place
+    (let h = c.loop-place-test.false in let e = ap (λ rows. length rows) c.as_slice-place-end.ensures in
+    omega (arith, h, e))) at c.loop-place.invariant

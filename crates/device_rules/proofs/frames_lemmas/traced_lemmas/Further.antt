@@ -3,7 +3,7 @@ use Rattle.device_rules.{proofs.frames_lemmas.traced_lemmas.{Growing.views_grow,
 use Rattle.device_rules.specs.frames.traced.Keeping.{Grows, IsHeld, Keeps, TraceView, Traced, at_number, kept_shown, traced, traced_by, view_of, views_of}
 use Rattle.{device_rules.specs.frames.traced.RecordOctets.octets_of, net_plan.specs.declared.network.Network.Network, run_law.proofs.runs.NetworkRuns.one_more}
 use Rattle.{run_law.specs.declared.note.Note.Note, std.specs.List.All}
-use Rattle.{run_law.specs.records.Happenings.{Happening, happening, happenings}, std.proofs.lemmas.List.{Elements.{All-append, All-cons, All-nil}, map-append}}
+use Rattle.{run_law.specs.records.Happenings.{Happening, happenings}, std.proofs.lemmas.List.{Elements.{All-append, All-cons, All-nil}, map-append}}
 use Rattle.std.{proofs.Common.{◌++◌, ◌∙◌, ◌∷◌, ◌≡◌, List, [], ap, arith, subst, sym, ℕ}, specs.Prelude.{Err, Ok, Result, cond, is_ok, map, option_and_then}}
 
 -- all are held where one more is
@@ -29,8 +29,8 @@ trace_grows network old pool new ks is all (more, e) = grind (arith, views_grow)
 own_records : {network : Network} (own : Network) {old : TraceView} (ts : List Traced) {notes : List Note}
     → the_trace own ts ≡ old → Keeps network notes old → ts ≡ map traced (happenings own notes)
 own_records {network} own ts {notes} is keeps =
-    let same : own ≡ network = ap (λ (t : TraceView). t.network) is ∙ keeps.network_is in
-    ap (λ (t : TraceView). t.records) is ∙ keeps.records_are ∙ ap (λ n. map traced (happenings n notes)) (sym same)
+    let same : own ≡ network = ap (λ t. t.network) is ∙ keeps.network_is in
+    ap (λ t. t.records) is ∙ keeps.records_are ∙ ap (λ n. map traced (happenings n notes)) (sym same)
 
 -- a trace with one more record keeps it too
 pub trace_more : {network : Network} (own : Network) {old : TraceView} (pool new : List ℕ) (ks : List KeptFrame)
@@ -45,7 +45,7 @@ pub trace_shows : {network : Network} (own : Network) {old : TraceView} (pool : 
     {notes : List Note} (number : ℕ) → the_trace own (views_of own pool ks) ≡ old → Keeps network notes old
     → option_and_then (kept_shown own pool) (at_number ks number) ≡ octets_of network notes number
 trace_shows {network} own pool ks {notes} number is keeps =
-    shown_at own pool ks (happenings network notes) number (ap (λ (t : TraceView). t.records) is ∙ keeps.records_are)
+    shown_at own pool ks (happenings network notes) number (ap (λ t. t.records) is ∙ keeps.records_are)
 
 -- a failed push leaves the list
 pub not_pushed : {T E : Type 0} (r : Result T E) (e : E) (ks new : List KeptFrame) (k : KeptFrame) → r ≡ Err e → new ≡ cond (is_ok r) (ks ++ k ∷ []) ks → new ≡ ks

@@ -6,4 +6,4 @@ returns-clause-value c =
     let e = expected_is c.args.device c.args.cycle c.requires in
     let a = c.begun.ensures.value in
     let b = c.expected_by.ensures.value in
-    omega (arith, ints, e, a, b)
+    omega (arith, ints)

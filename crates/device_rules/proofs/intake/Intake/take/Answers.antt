@@ -1,5 +1,5 @@
-use Rattle.std.{proofs.{Common.{◌∙◌, None, Some, ap, rules, sym}, lemmas.Int.to_z-of_z}, specs.Int.{w128, w64}}
-use Rattle.device_rules.{proofs.Takings.{cycle_same, found_at, has_taken, judged, none_there, place_same}, specs.Entering.fault_of}
+use Rattle.std.{proofs.{Common.{◌∙◌, None, Some, rules, sym}, lemmas.Int.to_z-of_z}, specs.Int.{w128, w64}}
+use Rattle.device_rules.{proofs.Takings.{cycle_same, found_at, has_taken, judged, none_there, place_same}}
 use Rattle.device_rules.proofs.intake.Intake.take.Goals as goal
 
 pub returns-in_default-clause-is : goal.returns-in_default-clause-is
@@ -17,9 +17,9 @@ returns-in-Some-fault-clause-is c network device at taken has link length clock 
       (c.cycle_of-cycle.ensures.is ∙ cycle_same network at c.args.local c.args.cycle_length length clock)
       (c.place_of.ensures ∙ place_same network at c.args.local c.args.cycle_length length clock) (c.last_of.ensures ∙ has.last c.in-Some.row.vl)
       (sym c.in-Some-fault.is ∙ c.fault.ensures
-      ∙ ap (λ z. fault_of c.in-Some.row c.args.heading.now.length c.from.result z c.last_of.result)
-      (to_z-of_z w128 c.from-place.result (search rules) ∙ c.from-place.ensures ∙ to_z-of_z w64 c.place_of.result.0 (search rules))
-      ∙ ap (λ n. fault_of c.in-Some.row c.args.heading.now.length n c.place_of.result.0 c.last_of.result) c.from.ensures),
+      ∙ (rw (to_z-of_z w128 c.from-place.result (search rules) ∙ c.from-place.ensures ∙ to_z-of_z w64
+      c.place_of.result.0 (search rules))
+      ((rw c.from.ensures)))),
   has,
 )
 
@@ -30,8 +30,8 @@ returns-in-None-clause-is c network device at taken has link length clock = (
       (c.cycle_of-cycle.ensures.is ∙ cycle_same network at c.args.local c.args.cycle_length length clock)
       (c.place_of.ensures ∙ place_same network at c.args.local c.args.cycle_length length clock) (c.last_of.ensures ∙ has.last c.in-Some.row.vl)
       (sym c.in-None.is ∙ c.fault.ensures
-      ∙ ap (λ z. fault_of c.in-Some.row c.args.heading.now.length c.from.result z c.last_of.result)
-      (to_z-of_z w128 c.from-place.result (search rules) ∙ c.from-place.ensures ∙ to_z-of_z w64 c.place_of.result.0 (search rules))
-      ∙ ap (λ n. fault_of c.in-Some.row c.args.heading.now.length n c.place_of.result.0 c.last_of.result) c.from.ensures),
+      ∙ (rw (to_z-of_z w128 c.from-place.result (search rules) ∙ c.from-place.ensures ∙ to_z-of_z w64
+      c.place_of.result.0 (search rules))
+      ((rw c.from.ensures)))),
   λ t vl cycle. has_taken t has c.keep.ensures vl cycle,
 )

@@ -16,6 +16,6 @@ returns-else-self-eq0-clause-is c =
     let b = c.self.inside in
     let whole = c.self.invariant.whole in
     let some = c.if-self-eq0.false in
-    let root : c.index.result.now ≡ node_at b.nodes.items 1 = get_or_read b.nodes.items 1 c.index.result.now (omega (arith, whole, some)) c.index.ensures _ in
-    inr (subst (λ (keys : List ℕ). Contains keys c.index.result.now) c.self.view_is
-    (subst (Contains _) (sym root) (root_is_key b.nodes.items b.places c.self.invariant (omega (arith, some)))))
+    let root = get_or_read b.nodes.items 1 c.index.result.now (omega arith) c.index.ensures _ in
+    inr (rw c.self.view_is at (subst (Contains _) (sym root)
+    (root_is_key b.nodes.items b.places c.self.invariant (omega arith))))

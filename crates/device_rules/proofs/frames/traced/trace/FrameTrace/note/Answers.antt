@@ -1,7 +1,7 @@
 use Rattle.device_rules.proofs.{frames.traced.trace.FrameTrace.note.Goals.{in-Err-push, in-Ok-push}, frames_lemmas.traced_lemmas.Growing.all_grow}
-use Rattle.device_rules.proofs.frames_lemmas.traced_lemmas.Further.{after_push, not_pushed, one_more_held, the_trace, trace_grows, trace_more}
-use Rattle.device_rules.specs.frames.traced.Keeping.{IsHeld, Keeps, traced, traced_by, view_of, views_of}
-use Rattle.std.proofs.{Common.{◌++◌, ◌∷◌, ◌≡◌, List, [], refl, subst, sym}, lemmas.Slice.pushed}
+use Rattle.device_rules.proofs.frames_lemmas.traced_lemmas.Further.{after_push, not_pushed, one_more_held, trace_grows, trace_more}
+use Rattle.device_rules.specs.frames.traced.Keeping.{IsHeld, traced, traced_by, view_of, views_of}
+use Rattle.std.proofs.{Common.{◌∷◌, ◌≡◌, List, [], refl}, lemmas.Slice.pushed}
 use Rattle.{run_law.specs.records.Happenings.Happening, std.specs.{List.All, Prelude.map}}
 use Rattle.device_rules.proofs.frames.traced.trace.FrameTrace.note.Goals as goal
 
@@ -27,16 +27,11 @@ returns-clause-keeps c network notes keeps =
     let kept = c.in-Ok.kept in
     let body = c.args.note.now.body in
     let one : (hs : List Happening) → views_of own pool ks ≡ map traced hs → view_of own new kept ≡ traced_by own hs body =
-    subst (λ n. (hs : List Happening) → views_of n pool ks ≡ map traced hs → view_of n new kept ≡ traced_by n hs body)
-    c.network-network.ensures.value
-    (subst (λ xs. (hs : List Happening) → views_of c.network-network.result.now pool xs ≡ map traced hs
-    → view_of c.network-network.result.now new kept ≡ traced_by c.network-network.result.now hs body)
-    c.deref.ensures.value c.in-Ok.ensures.view) in
+    rw c.network-network.ensures.value at (rw c.deref.ensures.value at c.in-Ok.ensures.view) in
     let more = trace_more own pool new ks kept c.args.note.now c.self.view_is c.self.invariant
     c.in-Ok.ensures.grows one keeps in
     elim c.match-push.branch [
-      | in-Ok-push w ↦ rw w.result-is (subst (λ xs. Keeps network (notes ++ c.args.note.now ∷ [])
-          (the_trace own (views_of own new xs))) (sym (pushed (kept ∷ []) refl w.in-Ok-push.is c.push.ensures.items)) more)
+      | in-Ok-push w ↦ rw w.result-is (rw (pushed (kept ∷ []) refl w.in-Ok-push.is c.push.ensures.items) more)
       | in-Err-push w ↦ rw w.result-is tt
     ]
 
@@ -48,6 +43,6 @@ returns-clause-as_it_was c =
     let same = trace_grows own c.args.self.now c.self.inside.pool.items new ks c.self.view_is c.self.invariant c.in-Ok.ensures.grows in
     elim c.match-push.branch [
       | in-Ok-push w ↦ rw w.result-is tt
-      | in-Err-push w ↦ rw w.result-is (subst (λ xs. the_trace own (views_of own new xs) ≡ c.args.self.now)
-          (sym (not_pushed c.push.result _ ks c.push.new.self.items c.in-Ok.kept w.in-Err-push.is c.push.ensures.items)) same)
+      | in-Err-push w ↦ rw w.result-is (rw
+          (not_pushed c.push.result _ ks c.push.new.self.items c.in-Ok.kept w.in-Err-push.is c.push.ensures.items) same)
     ]

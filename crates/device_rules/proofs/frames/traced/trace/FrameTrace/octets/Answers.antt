@@ -1,5 +1,5 @@
 use Rattle.device_rules.{proofs.frames_lemmas.traced_lemmas.Further.trace_shows, specs.frames.traced.Keeping.{at_number, kept_shown}}
-use Rattle.std.proofs.Common.{◌∙◌, ◌≡◌, None, Some, ap, subst}
+use Rattle.std.proofs.Common.{◌∙◌, ◌≡◌, None, Some, ap}
 use Rattle.std.specs.Prelude.{option_and_then}
 use Rattle.device_rules.proofs.frames.traced.trace.FrameTrace.octets.Goals as goal
 
@@ -10,9 +10,9 @@ returns-in-Some c network notes keeps =
     let ks = c.self.inside.records.items in
     let kept = c.in-Some.kept in
     let at : Some kept ≡ at_number ks c.args.number =
-    subst (λ xs. Some kept ≡ at_number xs c.args.number) c.deref.ensures.value c.in-Some.ensures in
-    let shown : c.shown.result ≡ kept_shown own pool kept = subst (λ n. c.shown.result ≡ kept_shown n pool kept) c.network.ensures.value
-    (subst (λ xs. c.shown.result ≡ kept_shown c.network.result.now xs kept) c.deref-in-Some.ensures.value c.shown.ensures) in
+    rw c.deref.ensures.value at c.in-Some.ensures in
+    let shown : c.shown.result ≡ kept_shown own pool kept =
+    rw c.network.ensures.value at (rw c.deref-in-Some.ensures.value at c.shown.ensures) in
     shown ∙ ap (option_and_then (kept_shown own pool)) at ∙ trace_shows own pool ks c.args.number c.self.view_is keeps
 
 pub returns-in-None : goal.returns-in-None
@@ -20,5 +20,5 @@ returns-in-None c network notes keeps =
     let own = c.self.inside.accepted.now in
     let pool = c.self.inside.pool.items in
     let ks = c.self.inside.records.items in
-    let at : None ≡ at_number ks c.args.number = subst (λ xs. None ≡ at_number xs c.args.number) c.deref.ensures.value c.in-None.ensures in
+    let at : None ≡ at_number ks c.args.number = rw c.deref.ensures.value at c.in-None.ensures in
     ap (option_and_then (kept_shown own pool)) at ∙ trace_shows own pool ks c.args.number c.self.view_is keeps
