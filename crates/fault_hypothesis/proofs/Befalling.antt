@@ -1,10 +1,11 @@
 -- One more event behind those of a list.
-use Rattle.std.proofs.{Common.{◌++◌, ◌∙◌, ◌∷◌, ◌≡◌, ◌⊎◌, List, [], ap, arith, inl, inr, length-append, refl, sym}, Math.ListN.get_or-append}
+use Rattle.std.proofs.{Common.{◌++◌, ◌∙◌, ◌∷◌, ◌≡◌, ◌⊎◌, List, [], arith, inl, inr, length-append, refl, sym}, Math.ListN.get_or-append}
 use Rattle.std.{proofs.lemmas.List.Quantifiers.Any-push, specs.List.Any}
 
 -- what holds of some element of a list holds of some element of the longer one
 pub any_left : {X : Type 0} (P : X → Type 0) (xs : List X) (y : X) → Any P xs → Any P (xs ++ y ∷ [])
-any_left P xs y (k, x, within, at, holds) = (k, x, omega (arith, length-append xs (y ∷ []), within), get_or-append xs (y ∷ []) x k within ∙ at, holds)
+any_left P xs y (k, x, within, at, holds) =
+    (k, x, omega (arith, length-append xs (y ∷ [])), get_or-append xs (y ∷ []) x k within ∙ at, holds)
 
 -- what holds of the last element holds of some
 pub any_last : {X : Type 0} (P : X → Type 0) (xs : List X) (y : X) → P y → Any P (xs ++ y ∷ [])
@@ -27,9 +28,8 @@ stands_where [] y (b ∷ []) x behind e = absurd cc
 stands_where [] y (b ∷ c ∷ before) x behind e = absurd cc
 stands_where (z ∷ xs) y [] x behind e = inl (record { rest = xs; behind_is = cc; whole = cc })
 stands_where {X} (z ∷ xs) y (b ∷ before) x behind e =
-    let tails : xs ++ y ∷ [] ≡ before ++ x ∷ behind = cc in
     let heads : z ≡ b = cc in
-    elim (stands_where xs y before x behind tails) [
-      | inl s ↦ inl (record { rest = s.rest; behind_is = s.behind_is; whole = ap (λ (t : X). t ∷ xs) heads ∙ ap (λ (t : List X). b ∷ t) s.whole })
-      | inr s ↦ inr (record { before_is = ap (λ (t : X). t ∷ before) (sym heads) ∙ ap (λ (t : List X). z ∷ t) s.before_is; same = s.same })
+    elim (stands_where xs y before x behind cc) [
+      | inl s ↦ inl (record { rest = s.rest; behind_is = s.behind_is; whole = rw heads ((rw s.whole)) })
+      | inr s ↦ inr (record { before_is = rw (sym heads) ((rw s.before_is)); same = s.same })
     ]

@@ -1,6 +1,6 @@
 -- Which channel is the faulty one, behind one more event.
 use Rattle.{fault_hypothesis.proofs.Befalling.stands_where, net_plan.specs.{Belonging.{HasLink, IsOfNetwork}, declared.network.Network.Network}}
-use Rattle.{fault_hypothesis.proofs.Standing.some_both, net_plan.specs.declared.{event.Event.Event, ids.LinkId.LinkId, tables.{Device.Device, Link.Link}}}
+use Rattle.{fault_hypothesis.proofs.Standing.some_both, net_plan.specs.declared.{event.Event.Event, ids.LinkId.LinkId}}
 use Rattle.{fault_hypothesis.specs.Watching.AreOfNetwork, tte_units.proofs.general_lemmas.Lists.{any_behind, any_first, any_none, any_of, none_stands, some_at}}
 use Rattle.{net_plan.{proofs.TableFacts.cuts_or_not, specs.{Rules.HasOffSwitch, declared.tables.Way.Way}}, std.specs.{List.Any, Prelude.{MatchOption, is_some}}}
 use Rattle.{net_plan.specs.Places.{IsSwitchOf, device_at, link_at}, schedule_tables.specs.{Rules.KeepsRules, declared.rule.Rule.TheVariants.{Joints, Masters}}}
@@ -19,9 +19,10 @@ channel_there network link rules has =
 -- a link is of one channel
 one_channel : (network : Network) (link : LinkId) (c d : Channel) → IsLinkOf network c link → IsLinkOf network d link → c ≡ d
 one_channel network link c d on_c on_d =
-    let l = some_both (link_at network link) (λ (l : Link). IsSwitchOf network c l.parent) (λ (l : Link). IsSwitchOf network d l.parent) on_c on_d in
-    let p = some_both (device_at network l.0.parent) (λ (x : Device). x.channel ≡ Some c) (λ (x : Device). x.channel ≡ Some d) l.1 l.2 in
-    let is_c = p.1 in let is_d = p.2 in cc
+    let l = some_both (link_at network link) (λ l. IsSwitchOf network c l.parent) (λ l. IsSwitchOf network d l.parent)
+    on_c on_d in
+    let p = some_both (device_at network l.0.parent) (λ x. x.channel ≡ Some c) (λ x. x.channel ≡ Some d) l.1 l.2 in
+    cc
 
 -- where some event cuts a link, one is the first that does
 first_cut : (network : Network) (events : List Event) (link : LinkId) → KeepsRules network → AreOfNetwork network events → Any (Cuts link) events
@@ -35,13 +36,13 @@ first_cut network (x ∷ xs) link rules of_network any =
           (on.0, record { before = []; cut = x; behind = xs; order = refl; none_before = λ l a. any_none (Cuts l) a; cuts = (cut.0, (cut.1, cut.2), on.1) })
       | inr none ↦
           let behind : Any (Cuts link) xs = elim (any_of (Cuts link) x xs any) [ inl c ↦ absurd (none link c.0 c.1) | inr a ↦ a ] in
-          let rest = first_cut network xs link rules (λ k d within. of_network (suc k) d (omega (arith, within))) behind in (
+          let rest = first_cut network xs link rules (λ k d within. of_network (suc k) d (omega arith)) behind in (
             rest.0,
             record {
               before = x ∷ rest.1.before;
               cut = rest.1.cut;
               behind = rest.1.behind;
-              order = ap (λ (t : List Event). x ∷ t) rest.1.order;
+              order = ap (λ t. x ∷ t) rest.1.order;
               none_before = λ l a. elim (any_of (Cuts l) x rest.1.before a) [ inl c ↦ none l c.0 c.1 | inr b ↦ rest.1.none_before l b ];
               cuts = rest.1.cuts;
             },
@@ -93,8 +94,8 @@ module _ (network : Network) (admitted : List Event) (event : Event) (c : Channe
           before = f.before;
           cut = f.cut;
           behind = f.behind ++ event ∷ [];
-          order = ap (λ (t : List Event). t ++ event ∷ []) f.order ∙ append_assoc f.before (f.cut ∷ f.behind)
-              (event ∷ []);
+          order = rw f.order (append_assoc f.before (f.cut ∷ f.behind)
+              (event ∷ []));
           none_before = f.none_before;
           cuts = f.cuts;
         },
@@ -122,7 +123,7 @@ module _ (network : Network) (admitted : List Event) (event : Event) where
   faulty_stays (Some f) rules some known = λ c.
       let now = stays_faulty network admitted event f ((known f).0 refl) in (
         λ e. let same : f ≡ c = cc in subst (IsFaulty network (admitted ++ event ∷ [])) same now,
-        λ h. ap (λ (t : Channel). Some t) (one_faulty (admitted ++ event ∷ []) rules now h),
+        λ h. rw (one_faulty (admitted ++ event ∷ []) rules now h),
       )
 
   -- where the event cuts nothing, the faulty channel is as it was
@@ -175,5 +176,5 @@ faulty_begins network None rules none = λ c. (
 )
 faulty_begins network (Some f) rules off = λ c. (
   λ e. let same : f ≡ c = cc in inl (subst (HasOffSwitch network) same off),
-  λ h. ap (λ (t : Channel). Some t) (one_faulty [] {c = f} rules (inl off) h),
+  λ h. rw (one_faulty [] rules (inl off) h),
 )

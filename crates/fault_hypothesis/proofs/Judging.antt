@@ -57,8 +57,7 @@ sends_by network admitted event link octets found what at true tells = (
   λ t. absurd cc,
   λ v.
       let same : v.link ≡ link = cc in
-      let there : link_at network v.link ≡ Some found = ap (link_at network) same ∙ at in
-      absurd (v.unbroken (rw there (tells.0 refl))),
+      absurd (v.unbroken (rw (ap (link_at network) same ∙ at) (tells.0 refl))),
 )
 sends_by network admitted event link octets found what at false tells = (
   λ t. record { link = link; octets = octets; what = what; unbroken = λ h. let e = tells.1 (rw at at h) in absurd cc },

@@ -1,6 +1,6 @@
 -- A network that keeps the rules has devices and links.
 use Rattle.{fault_hypothesis.proofs.storm_lemmas.Masters.{master_uplink, master_within}, tte_units.specs.declared.frames.channel.Channel.TheVariants.A}
-use Rattle.{fault_hypothesis.specs.storm.Striking.IsMaster, net_plan.{proofs.TableFacts.link_within, specs.{Places.is_master, declared.tables.Device.Device}}}
+use Rattle.{fault_hypothesis.specs.storm.Striking.IsMaster, net_plan.{proofs.TableFacts.link_within, specs.{Places.is_master}}}
 use Rattle.{net_plan.specs.Paths.IsUplink, std.specs.{List.count_by, Prelude.slice_get}}
 use Rattle.{net_plan.specs.declared.{ids.{DeviceId.DeviceId, LinkId.LinkId}, network.Network.Network}, std.proofs.lemmas.List.Sums.{length-filter, sum_by-cons}}
 use Rattle.{schedule_tables.specs.{Rules.KeepsRules, declared.rule.Rule.TheVariants.Masters}, tte_units.specs.declared.frames.channel.Channel.Channel}
@@ -8,14 +8,14 @@ use Rattle.std.proofs.{Common.{◌+◌, ◌<◌, ◌∷◌, ◌≡◌, Bool, Lis
 
 -- where some elements of a list pass a test, one stands at a place of it
 pub one_counted : {X : Type 0} (p : X → Bool) (xs : List X) → 0 < count_by p xs → (k : ℕ) × (x : X) × (slice_get xs k ≡ Some x) × (p x ≡ true)
-one_counted p [] some = absurd (omega (arith, some))
+one_counted p [] some = absurd (omega arith)
 one_counted {X} p (x ∷ xs) some =
     let parts = sum_by-cons (λ x. cond (p x) 1 0) x xs in
     elim (cases_Bool (p x)) [
       | inl here ↦ (zero, x, refl, here)
       | inr other ↦
-          let less = ap (λ (b : Bool). cond b 1 0 + count_by p xs) other in
-          let rest = one_counted p xs (omega (arith, some, parts, less)) in
+          let less = ap (λ b. cond b 1 0 + count_by p xs) other in
+          let rest = one_counted p xs (omega arith) in
           (suc rest.0, rest.1, rest.2, rest.3)
     ]
 
@@ -23,8 +23,8 @@ one_counted {X} p (x ∷ xs) some =
 pub some_master : (network : Network) → KeepsRules network → (device : DeviceId) × IsMaster network device
 some_master network rules =
     let least = (rules Masters 0).least refl in
-    let count = length-filter (λ (d : Device). is_master d.role) network.device in
-    let one = one_counted (λ (d : Device). is_master d.role) network.device (omega (arith, least, count)) in
+    let count = length-filter (λ d. is_master d.role) network.device in
+    let one = one_counted (λ d. is_master d.role) network.device (omega arith) in
     (record { 0 = one.0 }, rw one.2 one.3)
 
 -- it has devices

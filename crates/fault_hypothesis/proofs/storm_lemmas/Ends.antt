@@ -1,7 +1,7 @@
 -- Only the last event of a storm is the end.
 use Rattle.fault_hypothesis.specs.declared.storm.draw.{Choice.{Choice, TheVariants.{Cut, Heal, Hold, On, Rate, Strike, Wire}}, StormDraw.StormDraw}
 use Rattle.{fault_hypothesis.specs.storm.Choosing.{choice_of, link_of}, net_plan.specs.declared.{event.What.{TheVariants.End, What}, network.Network.Network}}
-use Rattle.{fault_hypothesis.specs.storm.Events.{IsChosen, IsEventOf, IsStormEvent}, std.proofs.Common.{◌*◌, ◌∙◌, ◌≡◌, List, None, Some, ap, inl, inr, sym, ℕ}}
+use Rattle.{fault_hypothesis.specs.storm.Events.{IsChosen, IsEventOf, IsStormEvent}, std.proofs.Common.{◌*◌, ◌∙◌, ◌≡◌, List, None, Some, inl, inr, sym, ℕ}}
 use Rattle.{net_plan.specs.{Places.link_at, declared.event.Event.Event}, std.specs.Prelude.{IsSomeAnd, Option}, tte_units.specs.declared.units.Units.Units}
 
 some_and : {X : Type 0} (o : Option X) (P : X → Type 0) → IsSomeAnd o P → ((x : X) → P x → ⊥) → ⊥
@@ -25,8 +25,8 @@ module _ (network : Network) (before : List Event) (time : Units) (draw : StormD
   step_goes_on step end =
       elim step.becomes [
         | inl is ↦
-            chosen_goes_on (choice_of draw.kind) step.drawn step.is_drawn (sym (ap (λ (e : Event). e.what) is.1) ∙ end)
-        | inr is ↦ let what = sym (ap (λ (e : Event). e.what) is.1) ∙ end in cc
+            chosen_goes_on (choice_of draw.kind) step.drawn step.is_drawn (sym (rw is.1) ∙ end)
+        | inr is ↦ cc
       ]
 
 -- only behind all steps an event of a storm is the end

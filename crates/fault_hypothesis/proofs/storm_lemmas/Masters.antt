@@ -3,7 +3,7 @@ use Rattle.{fault_hypothesis.specs.storm.Striking.{IsLastMaster, IsMaster}, sche
 use Rattle.{net_plan.specs.Paths.IsUplink, schedule_tables.{proofs.Margins.master_ends, specs.Rules.KeepsRules}, std.proofs.lemmas.Bool.cases_order}
 use Rattle.{net_plan.specs.{Places.{IsEndSystem, device_at, is_master}, declared.tables.Device.Device}, tte_units.specs.declared.frames.channel.Channel.Channel}
 use Rattle.{net_plan.specs.declared.{ids.{DeviceId.DeviceId, LinkId.LinkId}, network.Network.Network}, std.specs.Prelude.{IsSomeAnd, MatchOption, slice_get}}
-use Rattle.std.proofs.{Common.{◌+◌, ◌<◌, ◌∙◌, ◌≡◌, None, Option, Some, ap, arith, inl, inr, length, refl, subst, true, ℕ}, lemmas.Option.slice_get_within}
+use Rattle.std.proofs.{Common.{◌+◌, ◌<◌, ◌∙◌, ◌≡◌, None, Option, Some, ap, arith, inl, inr, length, refl, true, ℕ}, lemmas.Option.slice_get_within}
 
 -- the device is the last master below a place, or there is none below it
 abbrev pub IsLastBelow : Network → Option DeviceId → ℕ → Type 0
@@ -16,14 +16,14 @@ module _ (network : Network) (place : ℕ) (found : Device) where
   -- a master at the place is the last one below the next
   pub next_master : slice_get network.device place ≡ Some found → is_master found.role ≡ true
       → IsLastBelow network (Some (record { 0 = place })) (place + 1)
-  next_master at master = (omega arith, rw at master, λ later above below is. omega (arith, above, below))
+  next_master at master = (omega arith, rw at master, λ later above below is. omega arith)
 
   -- a master at the place has a master's role
   not_here : (device : DeviceId) → slice_get network.device place ≡ Some found → device.0 ≡ place
       → IsMaster network device → is_master found.role ≡ true
   not_here device at same is =
       let there : device_at network device ≡ Some found = ap (slice_get network.device) same ∙ at in
-      subst (λ (o : Option Device). IsSomeAnd o (λ d. is_master d.role ≡ true)) there is
+      rw there at is
 
   -- where no master stands at the place, the last one below it is that below the next
   pub next_other : (last : Option DeviceId) → slice_get network.device place ≡ Some found
@@ -32,7 +32,7 @@ module _ (network : Network) (place : ℕ) (found : Device) where
       elim (cases_order device.0 place) [
         | inl same ↦ other (not_here device at same is)
         | inr (inl less) ↦ below device less is
-        | inr (inr more) ↦ omega (arith, more, within)
+        | inr (inr more) ↦ omega arith
       ]
   next_other (Some master) at other below = (
     omega (arith, below.0),
@@ -40,7 +40,7 @@ module _ (network : Network) (place : ℕ) (found : Device) where
     λ later above within is. elim (cases_order later.0 place) [
       | inl same ↦ other (not_here later at same is)
       | inr (inl less) ↦ below.2 later above less is
-      | inr (inr more) ↦ omega (arith, more, within)
+      | inr (inr more) ↦ omega arith
     ],
   )
 

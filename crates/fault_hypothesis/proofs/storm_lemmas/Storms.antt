@@ -1,7 +1,7 @@
 -- The events of a storm, one after another: their times, and that they are within the hypothesis.
 use Rattle.{fault_hypothesis.{proofs.Befalling.stands_where, specs.storm.Laws.StormsAreWithin}, run_law.specs.scenario.Hypothesis.IsWithinHypothesis}
 use Rattle.fault_hypothesis.{proofs.storm_lemmas.Within.{end_within, step_within}, specs.storm.Events.{AreNoLater, AreStormEvents, IsStormEvent, time_of}}
-use Rattle.{net_plan.specs.declared.network.Network.Network, tte_units.specs.declared.units.Units.Units}
+use Rattle.{net_plan.specs.declared.network.Network.Network}
 use Rattle.{net_plan.specs.declared.event.Event.Event, std.proofs.{Common.{subst, sym, ℕ}, Math.Nat.mul-le-mul_right}, tte_units.specs.Amount.amount}
 use Rattle.std.proofs.Common.{◌*◌, ◌++◌, ◌+◌, ◌/◌, ◌^◌, ◌∙◌, ◌∷◌, ◌≡◌, ◌≤ℤ◌, ◌≤◌, List, [], ap, append_assoc, arith, inl, inr, length, length-append, pos, refl}
 use Rattle.std.proofs.lemmas.Int.{ints}
@@ -11,10 +11,10 @@ module _ (network : Network) (seed cycles : ℕ) (before : List Event) (n : ℕ)
   pub storm_time : IsStormEvent network seed cycles before n event → event.time ≡ time_of network n
   storm_time (inl step) =
       elim step.1.becomes [
-        | inl is ↦ ap (λ (e : Event). e.time) is.1
-        | inr is ↦ ap (λ (e : Event). e.time) is.1
+        | inl is ↦ rw is.1
+        | inr is ↦ rw is.1
       ]
-  storm_time (inr end) = ap (λ (e : Event). e.time) end.1
+  storm_time (inr end) = rw end.1
 
   -- a storm has no event behind its end
   pub storm_number : IsStormEvent network seed cycles before n event → n ≤ 8 * cycles
@@ -32,7 +32,7 @@ time_in_run network n few =
 pub time_grows : (network : Network) (n : ℕ) → (time_of network n).0 ≤ℤ (time_of network (n + 1)).0
 time_grows network n =
     let product : (n + 1) * (amount network.cycle / 8) ≤ (n + 1 + 1) * (amount network.cycle / 8) = mul-le-mul_right (amount network.cycle / 8) (omega arith) in
-    omega (arith, ints, product)
+    omega (arith, ints)
 
 module _ (network : Network) (seed cycles : ℕ) where
   -- the events of a storm are no later than the next one
@@ -41,26 +41,24 @@ module _ (network : Network) (seed cycles : ℕ) where
   no_later events each front last order =
       let time = storm_time network seed cycles front (length front) last (each front [] last order) in
       let size : length events ≡ length front + 1 = ap length order ∙ length-append front (last ∷ []) in
-      subst (λ n. last.time.0 ≤ℤ (time_of network n).0) (sym size)
-      (subst (λ (t : Units). t.0 ≤ℤ (time_of network (length front + 1)).0) (sym time)
-      (time_grows network (length front)))
+      rw size (rw time (time_grows network (length front)))
 
   -- what is in front of some events of a storm are events of it
   pub front_of_storm : (front rest : List Event) → AreStormEvents network seed cycles (front ++ rest)
       → AreStormEvents network seed cycles front
   front_of_storm front rest each before behind event order =
-      each before (behind ++ rest) event (ap (λ (l : List Event). l ++ rest) order ∙ append_assoc before
-      (event ∷ behind) rest)
+      each before (behind ++ rest) event (rw order (append_assoc before
+      (event ∷ behind) rest))
 
   -- an event of a storm is within the hypothesis
   pub event_within : {before : List Event} (n : ℕ) {event : Event} → cycles ≤ 100000
       → IsStormEvent network seed cycles before n event → AreNoLater before (time_of network n)
       → IsWithinHypothesis network before event
   event_within n few (inl step) later =
-      step_within step.1 later (time_in_run network n (omega (arith, few, step.0)))
+      step_within step.1 later (time_in_run network n (omega (arith, step.0)))
   event_within {before} n few (inr end) later =
       subst (IsWithinHypothesis network before) (sym end.1)
-      (end_within network before _ refl later (time_in_run network n (omega (arith, few, end.0))))
+      (end_within network before _ refl later (time_in_run network n (omega (arith, end.0))))
 
 pub storms_within : StormsAreWithin
 storms_within network seed cycles events few each before behind event order =
@@ -82,8 +80,7 @@ module _ (network : Network) (seed cycles : ℕ) (events : List Event) where
       elim (stands_where events event before other behind order) [
         | inl s ↦ each before s.rest other s.whole
         | inr s ↦
-            subst (λ e. IsStormEvent network seed cycles before (length before) e) (sym s.same)
-            (subst (λ l. IsStormEvent network seed cycles l (length l) event) (sym s.before_is) next)
+            rw s.same (rw s.before_is next)
       ]
 
   -- ---- for who gives the events of a storm to a watch, one after another
@@ -92,13 +89,13 @@ module _ (network : Network) (seed cycles : ℕ) (events : List Event) where
   pub none_later : (given : ℕ) → AreStormEvents network seed cycles events → length events ≡ given
       → AreNoLater events (time_of network given)
   none_later given each count =
-      subst (λ n. AreNoLater events (time_of network n)) count (no_later network seed cycles events each)
+      rw count at (no_later network seed cycles events each)
 
   -- with the one that comes they are one more
   pub one_more : (given : ℕ) {event : Event} → AreStormEvents network seed cycles events → length events ≡ given
       → IsStormEvent network seed cycles events given event
       → AreStormEvents network seed cycles (events ++ event ∷ []) × (length (events ++ event ∷ []) ≡ given + 1)
   one_more given {event} each count next = (
-    more_events each (subst (λ n. IsStormEvent network seed cycles events n event) (sym count) next),
-    length-append events (event ∷ []) ∙ ap (λ n. n + 1) count,
+    more_events each (rw count next),
+    length-append events (event ∷ []) ∙ (rw count),
   )

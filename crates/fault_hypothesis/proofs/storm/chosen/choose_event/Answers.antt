@@ -25,7 +25,7 @@ returns-clause-value c = λ before w.
           | then-draw_in+in-Err b ↦ λ within.
               let outside = b.in-Err.ensures c.args.network.now before w (c.draw_in.ensures.of_network drawn.0) in
               within b.in-Err.field-0 outside.violates
-          | else-draw_in b ↦ let other = b.if-draw_in.false in absurd cc
+          | else-draw_in b ↦ absurd cc
         ],
         refl,
       );

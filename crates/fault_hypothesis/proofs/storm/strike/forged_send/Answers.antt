@@ -1,6 +1,5 @@
-use Rattle.{fault_hypothesis.proofs.storm_lemmas.{Belongings.uplink_within, Masters.master_uplink}, std.proofs.Common.{◌∙◌, List, ap, refl, rules, subst, sym}}
-use Rattle.net_plan.specs.{Paths.IsUplink, declared.tables.Device.Device}
-use Rattle.{pcf_codec.specs.Spelling.Spells, std.{proofs.lemmas.Option.slice_get_read, specs.Prelude.slice_get}}
+use Rattle.{fault_hypothesis.proofs.storm_lemmas.{Belongings.uplink_within, Masters.master_uplink}, std.proofs.Common.{refl, rules, sym}}
+use Rattle.{std.{proofs.lemmas.Option.slice_get_read}}
 use Rattle.fault_hypothesis.proofs.storm.strike.forged_send.Goals as goal
 
 pub returns-in_err-link-clause-value : goal.returns-in_err-link-clause-value
@@ -14,12 +13,13 @@ returns-clause-value c = λ keeps is. record {
   member = c.in_ok-member.member;
   link = c.in_ok-link.link;
   octets = c.spelled.result;
-  at = ap (λ (xs : List Device). slice_get xs c.args.device.0) (sym c.as_slice.ensures)
-      ∙ slice_get_read c.as_slice.result.now _ c.args.device.0 c.in_ok-master.master.now refl c.in_ok-master.ensures.lookup.3.0
-      c.in_ok-master.ensures.lookup.1;
+  at = rw (sym c.as_slice.ensures)
+      (slice_get_read c.as_slice.result.now _ c.args.device.0 c.in_ok-master.master.now refl
+      c.in_ok-master.ensures.lookup.3.0
+      c.in_ok-master.ensures.lookup.1);
   numbered = search rules;
-  uplink = subst (λ n. IsUplink c.args.network.now n c.args.device c.in_ok-link.link) c.channel.ensures c.in_ok-link.ensures.first.leads;
-  spells = subst (λ p. Spells c.spelled.result p) c.forged_frame-frame.ensures c.spelled.ensures.spells;
+  uplink = rw c.channel.ensures at c.in_ok-link.ensures.first.leads;
+  spells = rw c.forged_frame-frame.ensures at c.spelled.ensures.spells;
   padding = c.spelled.ensures.padding;
   sends = refl;
   bytes = c.spelled.ensures.bytes;

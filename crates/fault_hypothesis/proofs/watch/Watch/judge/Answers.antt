@@ -1,16 +1,16 @@
-use Rattle.std.{proofs.{Common.{◌<◌, ◌∙◌, arith, inl, inr, subst, sym}, lemmas.Bool.false≢true}, specs.List.slice_index_or}
-use Rattle.run_law.specs.{declared.outside.Outside.{Outside, TheVariants.Order}, scenario.Hypothesis.{Violates, condition_number}}
-use Rattle.fault_hypothesis.proofs.Ordering.{conditions, first_two, none_before, none_behind, number_of_place, up_to_place}
+use Rattle.std.{proofs.{Common.{◌<◌, ◌∙◌, arith, inl, inr, subst, sym}, lemmas.Bool.false≢true}}
+use Rattle.run_law.specs.{declared.outside.Outside.{TheVariants.Order}, scenario.Hypothesis.{Violates, condition_number}}
+use Rattle.fault_hypothesis.proofs.Ordering.{first_two, none_before, none_behind, number_of_place, up_to_place}
 use Rattle.fault_hypothesis.proofs.watch.Watch.judge.Goals as goal
 
 pub returns-then-violates-2 : goal.returns-then-violates-2
 returns-then-violates-2 c = λ network admitted w of_network. record {
   violates = (c.violates-2.ensures network admitted w of_network).0 c.if-violates-2.true;
   first = λ earlier below v.
-      first_two (λ (e : Outside). condition_number e < 2 → Violates network admitted c.args.event.now e → ⊥)
+      first_two (λ e. condition_number e < 2 → Violates network admitted c.args.event.now e → ⊥)
       (λ low early. false≢true (sym c.if-violates.false ∙ (c.violates.ensures network admitted w of_network).1 early))
-      (λ low late. absurd (omega (arith, low)))
-      earlier (omega (arith, below)) below v;
+      (λ low late. absurd (omega arith))
+      earlier (omega arith) below v;
 }
 
 pub conditions-init : goal.conditions-init
@@ -22,16 +22,17 @@ conditions-init c = record {
       none_before network admitted c.args.event.now
       (λ early. false≢true (sym c.if-violates.false ∙ (c.violates.ensures network admitted w of_network).1 early))
       (λ late. false≢true (sym c.if-violates-2.false ∙ (c.violates-2.ensures network admitted w of_network).1 late))
-      earlier (omega (arith, low, c.own_of-first.ensures.first)) v;
+      earlier (omega (arith, c.own_of-first.ensures.first)) v;
 }
 
 pub returns-then-violates-3 : goal.returns-then-violates-3
 returns-then-violates-3 c = λ network admitted w of_network. record {
   violates = (c.violates-in-conditions.ensures network admitted w of_network).0 c.if-violates-3.true;
   first = λ earlier below v.
-      let lower : condition_number earlier < condition_number (slice_index_or conditions c.conditions.place Order) = below in
+      let lower = below in
       let within : c.conditions.place < 11 = omega (arith, c.conditions-test.true, c.conditions.invariant.most) in
-      c.conditions.invariant.none network admitted w of_network earlier (omega (arith, lower, number_of_place c.conditions.place Order within)) v;
+      c.conditions.invariant.none network admitted w of_network earlier
+      (omega (arith, number_of_place c.conditions.place Order within)) v;
 }
 
 pub conditions-preserved : goal.conditions-preserved

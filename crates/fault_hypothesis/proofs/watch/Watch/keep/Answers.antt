@@ -1,8 +1,8 @@
 use Rattle.fault_hypothesis.proofs.{Cuts.{faulty_cut, faulty_stays, faulty_uncut}, Keeping.{all_of_network, broken_breaks, broken_stays, on_stays, on_turns}}
-use Rattle.{net_plan.specs.Belonging.IsOfNetwork, run_law.specs.scenario.Faults.IsLinkOf}
+use Rattle.{net_plan.specs.Belonging.IsOfNetwork}
 use Rattle.{net_plan.specs.declared.{event.What.What, ids.{DeviceId.DeviceId, LinkId.LinkId}, tables.Way.Way}, run_law.proofs.scenario.Devices.all_within}
-use Rattle.std.proofs.Common.{◌↔◌, ◌∙◌, ◌≡◌, Some, ap, arith, length, length-set, refl, subst, sym, true}
-use Rattle.{schedule_tables.specs.{Rules.KeepsRules, declared.rule.Rule.TheVariants.Limits}, tte_units.specs.declared.frames.channel.Channel.Channel}
+use Rattle.std.proofs.Common.{◌∙◌, ◌≡◌, ap, arith, length, length-set, refl, subst, sym, true}
+use Rattle.{schedule_tables.specs.{Rules.KeepsRules, declared.rule.Rule.TheVariants.Limits}}
 use Rattle.net_plan.specs.declared.event.What.TheVariants as kinds
 use Rattle.fault_hypothesis.proofs.watch.Watch.keep.Goals as goal
 
@@ -20,8 +20,7 @@ on_breaks_not w on d is also = cc
 pub returns-then-is_none : goal.returns-then-is_none
 returns-then-is_none c = λ network admitted w of_network within.
     let rules = subst KeepsRules w.over c.network-network.ensures.rules in
-    let on = subst (λ n. (channel : Channel) → (c.channel_of-self.result ≡ Some channel) ↔ IsLinkOf n channel c.in-Cut.link)
-    (c.network-network.ensures.value ∙ w.over) c.channel_of-self.ensures in
+    let on = rw (c.network-network.ensures.value ∙ w.over) at c.channel_of-self.ensures in
     record {
       over = w.over;
       of_network = all_of_network network admitted c.args.event.now w.of_network of_network;
@@ -50,8 +49,7 @@ returns-else-is_none c = λ network admitted w of_network within.
 
 pub returns-in-On : goal.returns-in-On
 returns-in-On c = λ network admitted w of_network within.
-    let rules = subst KeepsRules w.over c.network-network.ensures.rules in
-    let few = (rules Limits 0).devices refl in
+    let few = ((subst KeepsRules w.over c.network-network.ensures.rules) Limits 0).devices refl in
     let room : length c.args.self.now.turned_on ≡ 64 = sym (length-set c.args.self.now.turned_on c.in-On.device.0 true) ∙ ap length (sym c.turn_on.ensures)
     ∙ c.turn_on.array_long in
     record {

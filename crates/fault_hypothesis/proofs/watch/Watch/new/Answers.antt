@@ -5,7 +5,7 @@ use Rattle.fault_hypothesis.proofs.watch.Watch.new.Goals as goal
 pub returns : goal.returns
 returns c = record {
   over = refl;
-  of_network = λ k d within. absurd (omega (arith, within));
+  of_network = λ k d within. absurd (omega arith);
   within = λ before behind event order. absurd (none_stands before event behind order);
   last = refl;
   broken = λ d. (λ e. absurd cc, λ h. absurd (any_none (Breaks d) h));

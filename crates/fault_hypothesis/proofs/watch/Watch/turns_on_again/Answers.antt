@@ -18,7 +18,7 @@ returns-then-is_turned_on c = λ network admitted w of_network.
         device = c.in-On.device;
         what = c.in-On.is;
         known = elim c.if-begins_on.branch [
-          | then-begins_on x ↦ inl (subst (λ n. BeginsOn n c.in-On.device) same (c.begins_on.ensures.0 x.if-begins_on.true))
+          | then-begins_on x ↦ inl (rw same at (c.begins_on.ensures.0 x.if-begins_on.true))
           | else-begins_on x ↦ inr (inl ((x.is_turned_on.ensures network admitted w has).0 (sym x.value-is ∙ c.if-is_turned_on.true)))
         ];
       },
@@ -36,7 +36,7 @@ returns-else-is_turned_on c = λ network admitted w of_network.
             | then-begins_on x ↦ absurd (contrary _ (x.value-is ∙ x.if-begins_on.true) c.if-is_turned_on.false)
             | else-begins_on x ↦ elim v.known [
               | inl begins ↦
-                  let yes = c.begins_on.ensures.1 (subst (λ n. BeginsOn n c.in-On.device) (sym same) (subst (BeginsOn network) one begins)) in
+                  let yes = c.begins_on.ensures.1 (rw same (subst (BeginsOn network) one begins)) in
                   absurd (contrary _ yes x.if-begins_on.false)
               | inr (inl on) ↦
                   let yes = (x.is_turned_on.ensures network admitted w has).1 (subst (IsTurnedOn admitted) one on) in

@@ -1,4 +1,4 @@
-use Rattle.{net_plan.specs.declared.{event.Event.Event, network.Network.Network}, std.{proofs.Common.{◌∙◌, ◌≡◌, Bool, List, subst, sym}, specs.Bool.Decides}}
+use Rattle.{net_plan.specs.declared.{event.Event.Event, network.Network.Network}, std.{proofs.Common.{◌∙◌, ◌≡◌, Bool, List}, specs.Bool.Decides}}
 use Rattle.run_law.specs.{declared.outside.Outside.Outside, scenario.Hypothesis.Violates}
 use Rattle.fault_hypothesis.proofs.watch.Watch.violates.Goals as goal
 
@@ -6,7 +6,7 @@ use Rattle.fault_hypothesis.proofs.watch.Watch.violates.Goals as goal
 judged : (m n : Network) (es : List Event) (e : Event) (k c : Outside) (r : Bool) → c ≡ k → m ≡ n
     → Decides r (Violates m es e k) → Decides r (Violates n es e c)
 judged m n es e k c r is same decides =
-    subst (λ x. Decides r (Violates n es e x)) (sym is) (subst (λ x. Decides r (Violates x es e k)) same decides)
+    rw is (rw same at decides)
 
 pub returns-in-Late : goal.returns-in-Late
 returns-in-Late c = λ n es w of. judged _ n es _ _ _ _ c.in-Late.is (c.network-network.ensures.value ∙ w.over) c.comes_too_late.ensures
