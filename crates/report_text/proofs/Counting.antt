@@ -18,11 +18,11 @@ behind n small = elim (cases_lt n 10) [
   }
   | inr ge ↦ record {
     front = decimal (n / 10);
-    this = decimal_step n ge (omega (arith, small));
+    this = decimal_step n ge (omega arith);
     next = λ less.
-        let tens : (n + 1) / 10 ≡ n / 10 = omega (arith, less) in
-        let last : 48 + (n + 1) % 10 ≡ 48 + n % 10 + 1 = omega (arith, less) in
-        decimal_step (n + 1) (omega (arith, ge)) small
+        let tens : (n + 1) / 10 ≡ n / 10 = omega arith in
+        let last : 48 + (n + 1) % 10 ≡ 48 + n % 10 + 1 = omega arith in
+        decimal_step (n + 1) (omega arith) small
         ∙ ap (λ k. decimal k ++ (48 + (n + 1) % 10) ∷ []) tens
         ∙ ap (λ k. decimal (n / 10) ++ k ∷ []) last;
   }
@@ -45,9 +45,9 @@ module _ (text : List ℕ) (len n d : ℕ) (bound : len ≤ length text) (is : t
   here : slice_index_or text (len - 1) d ≡ 48 + n % 10
   here =
       sym (get_or-take len text (len - 1) d (omega (arith, size)))
-      ∙ ap (λ (l : List ℕ). slice_index_or l (len - 1) d) (is ∙ b.this)
-      ∙ ap (λ k. slice_index_or (b.front ++ (48 + n % 10) ∷ []) k d) place
-      ∙ get_or-append_seam b.front (48 + n % 10) [] d
+      ∙ (rw (is ∙ b.this)
+      ((rw place
+      (get_or-append_seam b.front (48 + n % 10) [] d))))
 
   pub digit_most : slice_index_or text (len - 1) d ≤ 57
   digit_most = omega (arith, here)
@@ -59,11 +59,11 @@ module _ (text : List ℕ) (len n d : ℕ) (bound : len ≤ length text) (is : t
       let v = slice_index_or text (len - 1) d + 1 in
       let less : n % 10 < 9 = elim (cases_lt (n % 10) 9) [
         | inl lt ↦ lt
-        | inr ge ↦ absurd (no_nine (here ∙ omega (arith, ge)))
+        | inr ge ↦ absurd (no_nine (here ∙ omega arith))
       ] in
       take-set-lt len text (len - 1) v (omega (arith, size))
-      ∙ ap (λ (l : List ℕ). slice_set l (len - 1) v) (is ∙ b.this)
-      ∙ ap (λ k. slice_set (b.front ++ (48 + n % 10) ∷ []) k v) place
+      ∙ (rw (is ∙ b.this)
+      (ap (λ k. slice_set (b.front ++ (48 + n % 10) ∷ []) k v) place
       ∙ set-append_seam b.front (48 + n % 10) [] v
-      ∙ ap (λ k. b.front ++ (k + 1) ∷ []) here
-      ∙ sym (b.next less)
+      ∙ (rw here
+      (sym (b.next less)))))

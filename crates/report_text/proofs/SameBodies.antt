@@ -52,7 +52,8 @@ same_words : (network : Network) (body other : NoteBody) → IsNamedApart networ
     → body_words network body ≡ body_words network other → body ≡ other
 same_words network (bodies.Event line what) (bodies.Event line' what') apart h g same =
     let lines = same_count line line' h.in_range.0 g.in_range.0 (ap (word_at 1) same) in
-    let events = same_what network what what' apart h.of_network h.in_range.1 g.of_network g.in_range.1 (ap (λ (ws : Words). drop 2 ws) same) in
+    let events = same_what network what what' apart h.of_network h.in_range.1 g.of_network g.in_range.1
+    (ap (λ ws. drop 2 ws) same) in
     cc
 same_words network (bodies.Arrived d l cause clock) (bodies.Arrived d' l' cause' clock') apart h g same =
     let passages = same_passage network d d' l l' cause cause' apart h.of_network g.of_network h.in_range.0 g.in_range.0 (ap passage_of same) in

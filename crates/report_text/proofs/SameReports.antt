@@ -47,7 +47,7 @@ made number time body = record { number = number; time = time; body = body }
 
 same_parts : (number number' : ℕ) (time time' : Units) (body body' : NoteBody) → number ≡ number' → time ≡ time' → body ≡ body'
     → made number time body ≡ made number' time' body'
-same_parts number number' time time' body body' e f g = ap (λ n. made n time body) e ∙ ap (λ t. made number' t body) f ∙ ap (λ b. made number' time' b) g
+same_parts number number' time time' body body' e f g = rw e ((rw f ((rw g))))
 
 pub same_note : (network : Network) (note other : Note) → IsNamedApart network → IsWritable network note → IsWritable network other
     → note_text network note ≡ note_text network other → note ≡ other
@@ -102,9 +102,8 @@ same_report network (note ∷ notes) (other ∷ others) apart h g same =
     let lines = sym (append_assoc text (codes "\n") rest) ∙ same ∙ append_assoc text' (codes "\n") rest' in
     let split = split_once is_lf lf text rest text' rest' refl (note_unbroken network note apart.in_range here)
     (note_unbroken network other apart.in_range there) lines in
-    let heads = same_note network note other apart here there split.fronts in
     let tails = same_report network notes others apart (tail_of network note notes h) (tail_of network other others g) split.backs in
-    ap (λ n. n ∷ notes) heads ∙ ap (λ ns. other ∷ ns) tails
+    rw (same_note network note other apart here there split.fronts) ((rw tails))
 
 pub one_report : OneReport
 one_report network notes others in_range devices links vls h g same =

@@ -1,15 +1,15 @@
 -- Words of one spelling are one.
-use Rattle.{hex.specs.Hex.encode_lower, std.specs.{Fmt.signed_decimal, List.join_with_byte, Option.option_map_or}}
+use Rattle.{hex.specs.Hex.encode_lower, std.specs.{Fmt.signed_decimal, Option.option_map_or}}
 use Rattle.net_plan.specs.{Belonging.{HasDevice, HasLink, HasVl, IsOfNetwork, device_name, link_name, vl_name}, declared.network.Network.Network}
 use Rattle.{net_plan.specs.Ranges.IsInRange, report_text.proofs.Visible.units_mag, trace_text.specs.Ranges.IsWhatInRange, tte_units.specs.Amount.units_of}
-use Rattle.{net_plan.specs.{Rules.{DeviceIsNew, LinkIsNew}, declared.{ids.VlId.VlId, tables.Device.Device}}, std.specs.Int.{from_be_bytes, to_be_bytes, w32}}
+use Rattle.{net_plan.specs.{Rules.{DeviceIsNew, LinkIsNew}, declared.{ids.VlId.VlId}}, std.specs.Int.{from_be_bytes, to_be_bytes, w32}}
 use Rattle.{net_plan.specs.declared.event.{Event.Event, What.What}, schedule_tables.specs.Schedule.VlNameIsNew, sync_state.specs.declared.state.State.State}
 use Rattle.{net_plan.specs.declared.ids.DeviceId.DeviceId, report_text.specs.NoteWords.{judgement_text, members_text, reason_words, state_text, why_text}}
-use Rattle.{net_plan.specs.declared.ids.LinkId.LinkId, trace_text.{proofs.EventsBack.reads_back, specs.{EventReading.event_read, Steps.{Read, Words, space}}}}
+use Rattle.{net_plan.specs.declared.ids.LinkId.LinkId, trace_text.{proofs.EventsBack.reads_back, specs.{EventReading.event_read, Steps.{Read, Words}}}}
 use Rattle.report_text.{proofs.Characters.{octet_is_byte, same_octets, word_is_bytes}, specs.Ranges.{IsCount, IsReasonInRange, IsShortCount, IsSignedUnits}}
 use Rattle.{run_law.specs.declared.judgement.{Judgement.Judgement, Reason.Reason, Why.Why}, tte_units.proofs.general_lemmas.Lists.{differ, some_at}}
 use Rattle.std.proofs.{Common.{◌++◌, ◌<◌, ◌^◌, ◌∙◌, ◌∷◌, ◌≡◌, ◌≢◌, Err, List, Ok, Some, [], ap, arith, refl, sym, ℕ}, lemmas.Nat.from_be_bytes-to_be_bytes_4}
-use Rattle.std.{proofs.lemmas.{Fmt.{decimal_injective, signed_decimal_injective}, Int.ints}, specs.Prelude.{Result, codes, decimal, get_or, length, slice_get}}
+use Rattle.std.{proofs.lemmas.{Fmt.{decimal_injective, signed_decimal_injective}, Int.ints}, specs.Prelude.{Result, decimal, get_or, length, slice_get}}
 use Rattle.{trace_text.specs.EventLine.{event_text, what_text, what_words}, tte_units.specs.declared.{frames.members.Members.Members, units.Units.Units}}
 use Rattle.run_law.specs.declared.judgement.Judgement.TheVariants as judgements
 use Rattle.run_law.specs.declared.judgement.Reason.TheVariants as reasons
@@ -36,16 +36,18 @@ pub same_short : (n m : ℕ) → IsShortCount n → IsShortCount m → decimal n
 same_short n m h g same = decimal_injective n m (omega arith) (omega arith) same
 
 pub same_units : (a b : Units) → IsSignedUnits a → IsSignedUnits b → signed_decimal a.0 ≡ signed_decimal b.0 → a ≡ b
-same_units a b h g same = ap (λ z. record { 0 = z }) (signed_decimal_injective a.0 b.0 (units_mag a h) (units_mag b g) same)
+same_units a b h g same = rw (signed_decimal_injective a.0 b.0 (units_mag a h) (units_mag b g) same)
 
 pub same_members : (members others : Members) → IsShortCount members.0 → IsShortCount others.0 → members_text members ≡ members_text others → members ≡ others
 same_members members others h g same =
     let octets = same_octets (to_be_bytes w32 members.0) (to_be_bytes w32 others.0) (word_is_bytes members.0) (word_is_bytes others.0) same in
-    ap (λ n. record { 0 = n }) (sym (from_be_bytes-to_be_bytes_4 members.0 h) ∙ ap (from_be_bytes w32) octets ∙ from_be_bytes-to_be_bytes_4 others.0 g)
+    rw (sym (from_be_bytes-to_be_bytes_4 members.0 h) ∙ ap (from_be_bytes w32) octets ∙ from_be_bytes-to_be_bytes_4
+    others.0 g)
 
 pub same_octet : (octet other : ℕ) → octet < 2 ^ 8 → other < 2 ^ 8 → encode_lower (octet ∷ []) ≡ encode_lower (other ∷ []) → octet ≡ other
 same_octet octet other h g same =
-    ap (λ (octets : List ℕ). get_or octets 0 0) (same_octets (octet ∷ []) (other ∷ []) (octet_is_byte octet h) (octet_is_byte other g) same)
+    ap (λ octets. get_or octets 0 0) (same_octets (octet ∷ []) (other ∷ []) (octet_is_byte octet h)
+    (octet_is_byte other g) same)
 
 -- ---- names
 
@@ -54,7 +56,7 @@ abbrev AreNew : {X : Type 0} → (X → List ℕ) → List X → Type 0
 AreNew {X} name xs = (i k : ℕ) (earlier thing : X) → k < i → slice_get xs k ≡ Some earlier → slice_get xs i ≡ Some thing → name thing ≢ name earlier
 
 name_at : {X : Type 0} (name : X → List ℕ) (xs : List X) (i : ℕ) (x : X) → slice_get xs i ≡ Some x → option_map_or name (slice_get xs i) [] ≡ name x
-name_at name xs i x h = ap (λ o. option_map_or name o []) h
+name_at name xs i x h = rw h
 
 -- then one name is of one place
 same_place : {X : Type 0} (name : X → List ℕ) (xs : List X) (i j : ℕ) → AreNew name xs → i < length xs → j < length xs
@@ -62,23 +64,24 @@ same_place : {X : Type 0} (name : X → List ℕ) (xs : List X) (i j : ℕ) → 
 same_place name xs i j new h g same =
     let at = some_at xs i h in
     let other = some_at xs j g in
-    let names : name at.0 ≡ name other.0 = sym (name_at name xs i at.0 at.1) ∙ same ∙ name_at name xs j other.0 other.1 in
+    let names = sym (name_at name xs i at.0 at.1) ∙ same ∙ name_at name xs j other.0 other.1 in
     let not_before : i < j → ⊥ = λ before. new j i at.0 other.0 before at.1 other.1 (sym names) in
     let not_behind : j < i → ⊥ = λ behind. new i j other.0 at.0 behind other.1 at.1 names in
-    omega (arith, not_before, not_behind)
+    omega arith
 
 pub same_device : (network : Network) (d e : DeviceId) → IsNamedApart network → HasDevice network d → HasDevice network e
     → device_name network d ≡ device_name network e → d ≡ e
 same_device network d e apart h g same =
-    let new : AreNew (λ (x : Device). x.name) network.device = λ i k earlier thing before there here. (apart.devices i k earlier thing before there here).0 in
-    ap (λ i. record { 0 = i }) (same_place (λ x. x.name) network.device d.0 e.0 new h g same)
+    let new : AreNew (λ x. x.name) network.device = λ i k earlier thing before there here.
+    (apart.devices i k earlier thing before there here).0 in
+    rw (same_place (λ x. x.name) network.device d.0 e.0 new h g same)
 
 pub same_link : (network : Network) (l m : LinkId) → IsNamedApart network → HasLink network l → HasLink network m → link_name network l ≡ link_name network m
     → l ≡ m
-same_link network l m apart h g same = ap (λ i. record { 0 = i }) (same_place (λ x. x.name) network.link l.0 m.0 apart.links h g same)
+same_link network l m apart h g same = rw (same_place (λ x. x.name) network.link l.0 m.0 apart.links h g same)
 
 pub same_vl : (network : Network) (v w : VlId) → IsNamedApart network → HasVl network v → HasVl network w → vl_name network v ≡ vl_name network w → v ≡ w
-same_vl network v w apart h g same = ap (λ i. record { 0 = i }) (same_place (λ x. x.name) network.vl v.0 w.0 apart.vls h g same)
+same_vl network v w apart h g same = rw (same_place (λ x. x.name) network.vl v.0 w.0 apart.vls h g same)
 
 -- ---- the words of enums
 
@@ -126,12 +129,12 @@ same_reason reasons.Early reasons.Early h g same = refl
 same_reason reasons.Late reasons.Late h g same = refl
 same_reason reasons.Repeat reasons.Repeat h g same = refl
 same_reason (reasons.RefusedLength length) (reasons.RefusedLength length') h g same =
-    ap (λ n. reasons.RefusedLength n) (same_short length length' h g (ap (word_at 2) same))
+    rw (same_short length length' h g (ap (word_at 2) same))
 same_reason reasons.RefusedEtherType reasons.RefusedEtherType h g same = refl
 same_reason (reasons.RefusedReserved offset) (reasons.RefusedReserved offset') h g same =
-    ap (λ n. reasons.RefusedReserved n) (decimal_injective offset offset' (omega arith) (omega arith) (ap (word_at 2) same))
+    rw (decimal_injective offset offset' (omega arith) (omega arith) (ap (word_at 2) same))
 same_reason (reasons.RefusedKind octet) (reasons.RefusedKind octet') h g same =
-    ap (λ n. reasons.RefusedKind n) (same_octet octet octet' h g (ap (word_at 2) same))
+    rw (same_octet octet octet' h g (ap (word_at 2) same))
 same_reason reason other h g same = absurd (differ (reason_front (reason_words reason)) (reason_front (reason_words other)) refl (ap reason_front same))
 
 -- ---- events
@@ -157,7 +160,7 @@ same_what network what other apart of_network in_range other_of_network other_in
     (record { time = record { least = omega (arith, ints); most = omega (arith, ints) }; what = in_range }) in
     let there = reads_back network (at_begin other) apart.in_range apart.devices apart.links other_of_network
     (record { time = record { least = omega (arith, ints); most = omega (arith, ints) }; what = other_in_range }) in
-    let texts : event_text network (at_begin what) ≡ event_text network (at_begin other) = ap (λ (ws : Words). signed_decimal (units_of 0).0 ++ codes " "
-    ++ join_with_byte space ws) same in
-    ap (λ (e : Event). e.what) (same_value (at_begin what) (at_begin other) (event_read network (event_text network (at_begin what))) here
+    let texts : event_text network (at_begin what) ≡ event_text network (at_begin other) = rw same in
+    ap (λ e. e.what) (same_value (at_begin what) (at_begin other)
+    (event_read network (event_text network (at_begin what))) here
     (ap (event_read network) texts ∙ there))

@@ -27,5 +27,5 @@ split_once test mark front back front' back' passes none none' same =
     let at = slice_split_at test front mark back none passes in
     let at' = slice_split_at test front' mark back' none' passes in
     let fronts : front ≡ front' = ap first_of_list (sym at ∙ ap (slice_split test) same ∙ at') in
-    let moved : front ++ mark ∷ back ≡ front ++ mark ∷ back' = same ∙ ap (λ (t : List ℕ). t ++ mark ∷ back') (sym fronts) in
+    let moved = same ∙ (rw (sym fronts)) in
     record { fronts = fronts; backs = ap behind_first (append_cancel_left front (mark ∷ back) (mark ∷ back') moved) }

@@ -1,7 +1,7 @@
 -- Texts that no LF breaks, and lines of visible words.
 use Rattle.{report_text.proofs.{Characters.{IsVisible, is_visible}, Splits.NonePasses}, trace_text.specs.Steps.{Words, is_space, space, words}}
-use Rattle.std.proofs.{Common.{◌++◌, ◌||◌, ◌∷◌, ◌≡◌, Bool, List, [], arith, false, not, refl, true, ℕ}, lemmas.List.Elements.{All-append, All-cons, All-weaker}}
-use Rattle.{std.{proofs.lemmas.Bool.{Decides.nat_tests, and_parts}, specs.Prelude.{◌==◌, nat_lt, ⊤}}, trace_text.proofs.Joining.{AreWords, words_joined}}
+use Rattle.std.proofs.{Common.{◌++◌, ◌∷◌, ◌≡◌, Bool, List, [], arith, false, refl, true, ℕ}, lemmas.List.Elements.{All-append, All-cons, All-weaker}}
+use Rattle.{std.{proofs.lemmas.Bool.{Decides.nat_tests}, specs.Prelude.{◌==◌, ⊤}}, trace_text.proofs.Joining.{AreWords, words_joined}}
 use Rattle.{std.specs.List.join_with_byte, tte_io.specs.Line.lf}
 
 -- the octet is LF
@@ -13,13 +13,13 @@ abbrev pub IsUnbroken : List ℕ → Type 0
 IsUnbroken text = NonePasses is_lf text
 
 visible_no_lf : (c : ℕ) → is_visible c ≡ true → is_lf c ≡ false
-visible_no_lf c h = let high = (and_parts (nat_lt 32 c) (not (c == 60 || c == 38)) h).0 in grind (arith, nat_tests)
+visible_no_lf c h = grind (arith, nat_tests)
 
 pub visible_unbroken : (text : List ℕ) → IsVisible text → IsUnbroken text
 visible_unbroken text h = All-weaker (λ c. is_visible c ≡ true) (λ c. is_lf c ≡ false) visible_no_lf text h
 
 visible_no_space : (c : ℕ) → is_visible c ≡ true → is_space c ≡ false
-visible_no_space c h = let high = (and_parts (nat_lt 32 c) (not (c == 60 || c == 38)) h).0 in grind (arith, nat_tests)
+visible_no_space c h = grind (arith, nat_tests)
 
 pub visible_word : (text : List ℕ) → IsVisible text → NonePasses is_space text
 visible_word text h = All-weaker (λ c. is_visible c ≡ true) (λ c. is_space c ≡ false) visible_no_space text h

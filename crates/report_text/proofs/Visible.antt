@@ -41,8 +41,8 @@ way_visible Down = visible_from_test (way_text Down) refl
 
 -- a signed number of a trace
 number_visible : (z : ℤ) → neg_ℤ (pos (2 ^ 60)) ≤ℤ z → z ≤ℤ pos (2 ^ 60) → IsVisible (signed_decimal z)
-number_visible (pos n) least most = signed_visible (pos n) (omega (arith, ints, most))
-number_visible (negsuc n) least most = signed_visible (negsuc n) (omega (arith, ints, least))
+number_visible (pos n) least most = signed_visible (pos n) (omega (arith, ints))
+number_visible (negsuc n) least most = signed_visible (negsuc n) (omega (arith, ints))
 
 pub time_visible : (time : Units) → IsTime time → IsVisible (signed_decimal time.0)
 time_visible time h = number_visible time.0 (omega (arith, ints, h.least)) (omega (arith, ints, h.most))
@@ -55,7 +55,7 @@ short_visible n h = decimal_visible n (omega arith)
 
 -- a signed number of units
 pub units_mag : (units : Units) → IsSignedUnits units → mag units.0 < 2 ^ 63
-units_mag units h = omega (arith, ints, h)
+units_mag units h = omega (arith, ints)
 
 pub units_visible : (units : Units) → IsSignedUnits units → IsVisible (signed_decimal units.0)
 units_visible units h = signed_visible units.0 (units_mag units h)
