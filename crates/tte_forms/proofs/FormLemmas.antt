@@ -9,7 +9,7 @@ use Rattle.tte_forms.specs.declared.form.Form.{Form, TheVariants.{Audit, Capture
 pub no_words : (words : List (List ℕ)) → length words ≤ 0 → None ≡ form_of words
 unfolding form_of
 no_words [] e = refl
-no_words (a ∷ words) e = absurd (omega (arith, e))
+no_words (a ∷ words) e = absurd (omega arith)
 
 -- how many words a form has, with its command
 abbrev pub IsCount : ℕ → Type 0
@@ -88,7 +88,7 @@ some_by n true some few = tt
 some_by n false some few = (some refl, few)
 
 some_cycles : (n : ℕ) → n ≤ most_cycles → IfSome (if_some n) AreCycles
-some_cycles n few = some_by n (n == 0) (λ e. grind (arith, nat_tests, e)) few
+some_cycles n few = some_by n (n == 0) (λ e. grind (arith, nat_tests)) few
 
 cycles_by : (o : Option ℕ) → IfSome o (λ n. n ≤ most_cycles) → IfSome (option_and_then if_some o) AreCycles
 cycles_by None few = tt
@@ -102,12 +102,12 @@ storm_by (Some s) (Some c) range = range
 some_units : (n : ℕ) (b : Bool) → (b ≡ false → 1 ≤ n) → n ≤ greatest_granule
     → IfSome (option_map (λ g. Stamp g) (option_map units_of (if b then None else Some n))) IsFormInRange
 some_units n true some few = tt
-some_units n false some few = record { least = omega (arith, ints, some refl); most = omega (arith, ints, few) }
+some_units n false some few = record { least = omega (arith, ints, some refl); most = omega (arith, ints) }
 
 stamp_by : (o : Option ℕ) → IfSome o (λ n. n ≤ greatest_granule)
     → IfSome (option_map (λ g. Stamp g) (option_map units_of (option_and_then if_some o))) IsFormInRange
 stamp_by None few = tt
-stamp_by (Some n) few = some_units n (n == 0) (λ e. grind (arith, nat_tests, e)) few
+stamp_by (Some n) few = some_units n (n == 0) (λ e. grind (arith, nat_tests)) few
 
 four_words_by : (b d : Bool) (storm stamp : Option Form) → IfSome storm IsFormInRange → IfSome stamp IsFormInRange
     → IfSome (if b then storm else if d then stamp else None) IsFormInRange

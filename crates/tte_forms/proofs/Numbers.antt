@@ -1,5 +1,5 @@
 -- The decimals of numbers of 64 bits.
-use Rattle.std.proofs.Common.{◌<◌, ◌^◌, ◌∙◌, ◌≡◌, ◌≤◌, Bool, Err, List, None, Ok, Some, ap, arith, cond, false, refl, subst, sym, true, ℕ}
+use Rattle.std.proofs.Common.{◌<◌, ◌^◌, ◌∙◌, ◌≡◌, ◌≤◌, Bool, Err, List, None, Ok, Some, ap, arith, cond, false, refl, sym, true, ℕ}
 use Rattle.std.{proofs.lemmas.{Bool.{and_parts, Decides.nat_tests}, Fmt.{decimal_is_IsNumeral, parse-decimal}}, specs.Cmp.Lexicographic.bytes_decides}
 use Rattle.std.specs.{Prelude.{◌&&◌, Result, bytes_eq, decimal, nat_le}, Str.Parse.{ParsesUnsigned, digits_value}}
 use Rattle.trace_text.specs.Numbers.{number_up_to}
@@ -7,10 +7,10 @@ use Rattle.trace_text.specs.Numbers.{number_up_to}
 -- the decimal of a number is read as that number
 pub number_spelled : (most n : ℕ) (text : List ℕ) → n < 2 ^ 64 → n ≤ most → decimal n ≡ text → Some n ≡ number_up_to most text
 number_spelled most n text fits within spelled =
-    let value : digits_value 10 text ≡ n = subst (λ (t : List ℕ). digits_value 10 t ≡ n) spelled (decimal_is_IsNumeral n fits).1 in
+    let value : digits_value 10 text ≡ n = rw spelled at (decimal_is_IsNumeral n fits).1 in
     let same : bytes_eq text (decimal (digits_value 10 text)) ≡ true =
     (bytes_decides text (decimal (digits_value 10 text))).1 (sym spelled ∙ ap decimal (sym value)) in
-    let few : nat_le (digits_value 10 text) most ≡ true = grind (arith, nat_tests, within, value) in
+    let few : nat_le (digits_value 10 text) most ≡ true = grind (arith, nat_tests) in
     rw (same, few, value) refl
 
 none_by : (most : ℕ) (text : List ℕ) (b : Bool) → (bytes_eq text (decimal (digits_value 10 text)) && nat_le (digits_value 10 text) most) ≡ b

@@ -1,5 +1,5 @@
 -- Answers that are one of those with a property.
-use Rattle.{std.proofs.Common.{◌∙◌, ◌≡◌, ◌⊎◌, List, [], inl, inr, refl, subst, sym, ℕ}, tte_units.proofs.general_lemmas.Lists.{no_front, none_stands}}
+use Rattle.{std.proofs.Common.{◌∙◌, ◌≡◌, ◌⊎◌, List, [], inl, inr, refl, sym, ℕ}, tte_units.proofs.general_lemmas.Lists.{no_front, none_stands}}
 use Rattle.tte_forms.{proofs.Puts.PutsSome-all, specs.declared.status.Status.{Status, TheVariants.{Done, OutOfMemory, ReadFault, WriteFault}}}
 use Rattle.tte_forms.specs.{Answering.{Answer, Gives, GivesAnswer, GivesOne, IsDone}, Putting.{PutsLines, PutsNone, PutsSome, Shown, WriteFails}}
 
@@ -7,8 +7,8 @@ use Rattle.tte_forms.specs.{Answering.{Answer, Gives, GivesAnswer, GivesOne, IsD
 pub one_given : (Is : Answer → Type 0) (a : Answer) (status : Status) (old new : Shown) → Is a → ((b : Answer) → Is b → b ≡ a) → Gives a status old new
     → GivesOne Is status old new
 one_given Is a status old new is one (inl g) = inl (a, is, g.0, g.1, g.2)
-one_given Is a status old new is one (inr (inl g)) = inr (inl (g.0, λ b h. subst (λ (x : Answer). WriteFails x.lines old new) (sym (one b h)) g.1))
-one_given Is a status old new is one (inr (inr g)) = inr (inr (g.0, λ b h. subst (λ (x : Answer). PutsSome x.lines old new) (sym (one b h)) g.1))
+one_given Is a status old new is one (inr (inl g)) = inr (inl (g.0, λ b h. rw (one b h) g.1))
+one_given Is a status old new is one (inr (inr g)) = inr (inr (g.0, λ b h. rw (one b h) g.1))
 
 -- nothing put is a front of any lines
 pub none_put : (lines : List (List ℕ)) (old new : Shown) → PutsLines [] old new → PutsSome lines old new
@@ -17,11 +17,11 @@ none_put lines old new p = record { done = []; left = lines; order = refl; puts 
 -- the first ones of no lines
 some_nothing : (lines : List (List ℕ)) (old new : Shown) → lines ≡ [] → PutsSome lines old new → PutsLines [] old new
 some_nothing lines old new e s =
-    let none = no_front s.done s.left (sym e ∙ s.order) in subst (λ ls. PutsLines ls old new) none s.puts
+    let none = no_front s.done s.left (sym e ∙ s.order) in rw none at s.puts
 
 -- an answer without lines puts nothing
 pub puts_nothing : (a : Answer) (status : Status) (old new : Shown) → a.lines ≡ [] → Gives a status old new → PutsLines [] old new
-puts_nothing a status old new e (inl g) = subst (λ ls. PutsLines ls old new) e g.1
+puts_nothing a status old new e (inl g) = rw e at g.1
 puts_nothing a status old new e (inr (inl (is, inl g))) = absurd (none_stands g.done g.line g.left (sym e ∙ g.order))
 puts_nothing a status old new e (inr (inl (is, inr g))) = some_nothing a.lines old new e g
 puts_nothing a status old new e (inr (inr g)) = some_nothing a.lines old new e g.1

@@ -1,6 +1,6 @@
 -- Lines put one after another.
-use Rattle.std.proofs.Common.{◌++◌, ◌+◌, ◌<◌, ◌∙◌, ◌∷◌, ◌≡◌, List, Option, [], ap, append_assoc, drop, get_or, inl, inr, length, map, refl}
-use Rattle.std.proofs.{Common.{subst, sym, take, ℕ}, lemmas.List.{Folds.concat-append, at_drop_more, map-append, take-append-drop, take_more}}
+use Rattle.std.proofs.Common.{◌++◌, ◌+◌, ◌<◌, ◌∙◌, ◌∷◌, ◌≡◌, List, [], ap, append_assoc, drop, get_or, inl, inr, length, map, refl}
+use Rattle.std.proofs.{Common.{sym, take, ℕ}, lemmas.List.{Folds.concat-append, at_drop_more, map-append, take-append-drop, take_more}}
 use Rattle.{std.proofs.{KnownBytes.{Appends-nil, Appends-trans}, lemmas.List.append-nil}, tte_forms.specs.Answering.{Ends, Gives}}
 use Rattle.{std.specs.{Io.KnownBytes.Appends, List.concat}, tte_io.specs.{Faults.next_count, Told.AppendsFront, declared.ends.SinkFailed.SinkFailed}}
 use Rattle.std.specs.{Prelude.{Err, Ok, OnErr, OnOk}, declared.result.Result.Result}
@@ -19,8 +19,8 @@ pub PutsLines-more : {lines : List (List ℕ)} (line : List ℕ) {a b : Shown} (
     → Appends b.written c.written line → c.puts ≡ next_count b.puts → PutsLines (lines ++ line ∷ []) a c
 PutsLines-more {lines} line {a} {b} c p w n = record {
   written =
-      let joined : concat (lines ++ line ∷ []) ≡ concat lines ++ line =
-      concat-append lines (line ∷ []) ∙ ap (λ (t : List ℕ). concat lines ++ t) (append-nil line) in
+      let joined =
+      concat-append lines (line ∷ []) ∙ (rw (append-nil line)) in
       rw joined (Appends-trans a.written b.written c.written (concat lines) line p.written w);
   counted = n ∙ ap next_count p.counted ∙ sym (puts_after-more lines line a.puts);
 }
@@ -49,7 +49,7 @@ module _ {xs : List (List ℕ)} (ys : List (List ℕ)) {a b : Shown} (c : Shown)
   PutsSome-behind q = record {
     done = xs ++ q.done;
     left = q.left;
-    order = ap (λ (ls : List (List ℕ)). xs ++ ls) q.order ∙ sym (append_assoc xs q.done q.left);
+    order = rw q.order (sym (append_assoc xs q.done q.left));
     puts = PutsLines-append p q.puts;
   }
 
@@ -58,7 +58,7 @@ module _ {xs : List (List ℕ)} (ys : List (List ℕ)) {a b : Shown} (c : Shown)
     done = xs ++ q.done;
     line = q.line;
     left = q.left;
-    order = ap (λ (ls : List (List ℕ)). xs ++ ls) q.order ∙ sym (append_assoc xs q.done (q.line ∷ q.left));
+    order = rw q.order (sym (append_assoc xs q.done (q.line ∷ q.left)));
     before = q.before;
     puts = PutsLines-append p q.puts;
     front = q.front;
@@ -73,7 +73,7 @@ module _ {xs : List (List ℕ)} (ys : List (List ℕ)) {a b : Shown} (c : Shown)
 pub PutsLines-still : {lines : List (List ℕ)} {a b : Shown} (c : Shown) → PutsLines lines a b → PutsNone b c
     → PutsLines lines a c
 PutsLines-still {lines} {a} c p none = record {
-  written = subst (λ (w : Option (List ℕ)). Appends a.written w (concat lines)) (sym none.0) p.written;
+  written = rw none.0 p.written;
   counted = none.1 ∙ p.counted;
 }
 
@@ -95,7 +95,7 @@ PutFails-more more p = record {
   done = p.done;
   line = p.line;
   left = p.left ++ more;
-  order = ap (λ (ls : List (List ℕ)). ls ++ more) p.order ∙ append_assoc p.done (p.line ∷ p.left) more;
+  order = rw p.order (append_assoc p.done (p.line ∷ p.left) more);
   before = p.before;
   puts = p.puts;
   front = p.front;
@@ -117,16 +117,17 @@ module _ {X : Type 0} (f : X → List ℕ) (all : List X) (n : ℕ) (d : X) (lin
   lines_more a b c p more counted =
       let one = get_or all n d in
       let lines : map f (take n all) ++ line ∷ [] ≡ map f (take (n + 1) all) =
-      ap (λ (l : List ℕ). map f (take n all) ++ l ∷ []) same ∙ sym (map-append f (take n all) (one ∷ []))
-      ∙ sym (ap (map f) (take_more all n d within)) in
-      subst (λ ls. PutsLines ls a c) lines (PutsLines-more line c p more counted)
+      rw same (sym (map-append f (take n all) (one ∷ []))
+      ∙ sym (ap (map f) (take_more all n d within))) in
+      rw lines at (PutsLines-more line c p more counted)
 
   pub lines_fail : (a b c : Shown) → PutsLines (map f (take n all)) a b → AppendsFront b.written c.written line → c.puts ≡ next_count b.puts
       → PutFails (map f all) a c
   lines_fail a b c p front counted =
       let one = get_or all n d in
       let rest = drop (n + 1) all in
-      let split : take n all ++ one ∷ rest ≡ all = sym (ap (λ (xs : List X). take n all ++ xs) (at_drop_more (λ (xs : List X). xs) all n d within)) ∙ take-append-drop n all in
+      let split : take n all ++ one ∷ rest ≡ all = sym
+      (ap (λ xs. take n all ++ xs) (at_drop_more (λ (xs : List X). xs) all n d within)) ∙ take-append-drop n all in
       let lines : map f (take n all) ++ line ∷ map f rest ≡ map f all =
-      ap (λ (l : List ℕ). map f (take n all) ++ l ∷ map f rest) same ∙ sym (map-append f (take n all) (one ∷ rest)) ∙ ap (map f) split in
-      subst (λ ls. PutFails ls a c) lines (PutsLines-fails line (map f rest) c p front counted)
+      rw same (sym (map-append f (take n all) (one ∷ rest)) ∙ ap (map f) split) in
+      rw lines at (PutsLines-fails line (map f rest) c p front counted)

@@ -1,5 +1,5 @@
 -- What was put of an answer that is safe is safe, whatever the status.
-use Rattle.std.proofs.Common.{◌≡◌, ◌⊎◌, List, [], inl, inr, refl, subst, sym, ℕ}
+use Rattle.std.proofs.Common.{◌≡◌, ◌⊎◌, List, [], inl, inr, refl, subst, ℕ}
 use Rattle.tte_forms.{proofs.OneAnswers.{fails_given, none_put, puts_nothing, some_given}, specs.networks.NetworkLine.{file_reason, rule_reason}}
 use Rattle.tte_forms.{proofs.Puts.{PutsLines-none, PutsLines-still}, specs.{Answering.{Answer, Gives, GivesAnswer}, declared.accepting.NoNetwork.NoNetwork}}
 use Rattle.tte_forms.specs.{Putting.{PutsLines, PutsNone, PutsSo, PutsSome, Shown, WriteFails}, declared.status.Status.TheVariants.{VoteRefused, WriteFault}}
@@ -33,7 +33,7 @@ module _ (Whole : Status → Shown → Shown → Type 0) (IsSafe : List (List �
     IsOfAnswer other = Unit {0}
 
     all : (status : Status) → IsOfAnswer status → GivesAnswer IsSafeAnswer status old new → Whole status old new
-    all status of (inl (a, s, inl (same, puts, passed))) = subst (λ (x : Status). Whole x old new) (sym same) (s.whole old new puts)
+    all status of (inl (a, s, inl (same, puts, passed))) = rw same (s.whole old new puts)
     all status of (inl (a, s, inr (inl failed))) = absurd (subst IsOfAnswer failed.0 of)
     all status of (inl (a, s, inr (inr (inl read, some)))) = absurd (subst IsOfAnswer read of)
     all status of (inl (a, s, inr (inr (inr memory, some)))) = absurd (subst IsOfAnswer memory of)

@@ -1,6 +1,6 @@
 -- The answer of `show` for a source, and for a file that spells a sequence of frames.
 use Rattle.{pcf_codec.{proofs.Outcomes.spelt_read, specs.{Decoding.decoded, Spelling.pcf_length}}, tte_units.specs.declared.frames.pcf.Pcf.Pcf}
-use Rattle.{pcf_codec.{proofs.Sequences.length-spelling, specs.Sequence.{IsLongestFront, SpellsAll}}, std.proofs.Common.{refl, subst, suc, sym, take, ℕ}}
+use Rattle.{pcf_codec.{proofs.Sequences.length-spelling, specs.Sequence.{IsLongestFront, SpellsAll}}, std.proofs.Common.{refl, suc, sym, take, ℕ}}
 use Rattle.{pcf_codec.specs.declared.refusal.PcfRefusal.PcfRefusal, std.proofs.lemmas.{Bool.{le-ltb, lt-ltb}, List.{append-nil, drop-drop, nil_from_length}}}
 use Rattle.std.proofs.Common.{◌*◌, ◌++◌, ◌+◌, ◌-◌, ◌<◌, ◌∙◌, ◌∷◌, ◌≡◌, ◌≢◌, ◌≤◌, Err, List, [], ap, append_assoc, arith, drop, length, length-append}
 use Rattle.{std.{proofs.Math.Seq.{drop-append_seam, take-append_seam}, specs.Prelude.{IfSome, Option}}, tte_forms.specs.frames.Law.{ShowsFrames, frame_lines}}
@@ -20,14 +20,13 @@ pub answers-read : (left : Option (List ℕ)) (octets : List ℕ) (status : Stat
     → length octets ≤ file_limit → Gives (frames_answer 0 (frame_count octets) octets) status old new → Answers show_answer left status old new
 answers-read left octets status old new all short g =
     for_read left octets (λ xs. Gives (show_answer xs) status old new) all
-    (subst (λ a. Gives a status old new) (sym (show_answer-fits octets short)) g)
+    (rw (show_answer-fits octets short) g)
 
 pub answers-long : (left : Option (List ℕ)) (status : Status) (old new : Shown) → IfSome left (λ all. file_limit < length all) → Ends TooLong status old new
     → Answers show_answer left status old new
 answers-long left status old new long ends =
     for_too_many file_limit left (λ xs. Gives (show_answer xs) status old new) long
-    (λ xs many. subst (λ a. Gives a status old new) (sym (show_answer-long xs many))
-    (Ends-gives TooLong status new (PutsLines-none old) ends))
+    (λ xs many. rw (show_answer-long xs many) (Ends-gives TooLong status new (PutsLines-none old) ends))
 
 frames_answer-next : (k n : ℕ) (octets : List ℕ) → frames_answer k (suc n) octets ≡ judgement_of (k + 1) (decoded (frame_at k octets))
     (frames_answer (k + 1) n octets)
@@ -36,10 +35,10 @@ frames_answer-next k n octets = refl
 
 -- a frame at the front
 take-front : (first others : List ℕ) → length first ≡ pcf_length → take pcf_length (first ++ others) ≡ first
-take-front first others size = subst (λ (n : ℕ). take n (first ++ others) ≡ first) size (take-append_seam first others)
+take-front first others size = rw size at (take-append_seam first others)
 
 drop-front : (n : ℕ) (first others : List ℕ) → length first ≡ n → drop n (first ++ others) ≡ others
-drop-front n first others size = subst (λ (m : ℕ). drop m (first ++ others) ≡ others) size (drop-append_seam first others)
+drop-front n first others size = rw size at (drop-append_seam first others)
 
 -- frames that are spelt one after another have their lines
 frames-spelt : (ps : List Pcf) (k m : ℕ) (octets front rest : List ℕ) → drop (k * pcf_length) octets ≡ front ++ rest → SpellsAll front ps
@@ -49,18 +48,19 @@ frames-spelt [] k m octets front rest cut s =
     let here : k + 0 ≡ k = omega arith in
     rw (same, here) refl
 frames-spelt (p ∷ ps) k m octets front rest cut (first, others, join, one, all) =
-    let there : drop (k * pcf_length) octets ≡ first ++ (others ++ rest) = cut ∙ ap (λ (xs : List ℕ). xs ++ rest) join ∙ append_assoc first others rest in
+    let there = cut ∙ (rw join (append_assoc first others rest)) in
     let frame : frame_at k octets ≡ first = ap (take pcf_length) there ∙ take-front first (others ++ rest) one.size in
     let next : drop ((k + 1) * pcf_length) octets ≡ others ++ rest =
-    ap (λ (n : ℕ). drop n octets) (omega arith) ∙ sym (drop-drop pcf_length (k * pcf_length) octets) ∙ ap (drop pcf_length) there ∙ drop-front pcf_length first
+    ap (λ n. drop n octets) (omega arith) ∙ sym (drop-drop pcf_length (k * pcf_length) octets) ∙ ap (drop pcf_length)
+    there ∙ drop-front pcf_length first
     (others ++ rest) one.size in
     let more = frames-spelt ps (k + 1) m octets others rest next all in
     let count : length (p ∷ ps) + m ≡ suc (length ps + m) = omega arith in
     let behind_it : k + 1 + length ps ≡ k + length (p ∷ ps) = omega arith in
     ap (λ n. frames_answer k n octets) count
     ∙ frames_answer-next k (length ps + m) octets
-    ∙ ap (λ r. judgement_of (k + 1) r (frames_answer (k + 1) (length ps + m) octets)) (ap decoded frame ∙ spelt_read first p one)
-    ∙ ap (with_line (frame_line (k + 1) p)) (more ∙ ap (λ n. behind (frame_lines (k + 1 + 1) ps) (frames_answer n m octets)) behind_it)
+    ∙ (rw (ap decoded frame ∙ spelt_read first p one)
+    (ap (with_line (frame_line (k + 1) p)) (more ∙ (rw behind_it))))
 
 whole : (octets : List ℕ) (ps : List Pcf) → length octets ≤ file_limit → SpellsAll octets ps
     → show_answer octets ≡ record { status = Done; lines = frame_lines 1 ps }
@@ -71,7 +71,7 @@ whole octets ps short s =
     ∙ ap (λ n. frames_answer 0 n octets) count
     ∙ frames-spelt ps 0 0 octets octets [] (sym (append-nil octets)) s
     ∙ ap (behind (frame_lines 1 ps)) (no_frame (0 + length ps) octets 0 refl)
-    ∙ ap (λ (ls : List (List ℕ)). record { status = Done; lines = ls }) (append-nil (frame_lines 1 ps))
+    ∙ (rw (append-nil (frame_lines 1 ps)))
 
 refused : (octets rest : List ℕ) (ps : List Pcf) (e : PcfRefusal) → length octets ≤ file_limit → IsLongestFront octets ps rest
     → decoded (take pcf_length rest) ≡ Err e → (rest ≡ [] → ⊥)
@@ -83,7 +83,8 @@ refused octets rest ps e short l bad some =
     let count : frame_count octets ≡ length ps + suc (frame_count octets - length ps - 1) = omega arith in
     let there : drop ((0 + length ps) * pcf_length) octets ≡ rest =
     ap (drop ((0 + length ps) * pcf_length)) l.cut ∙ drop-front ((0 + length ps) * pcf_length) l.front rest (omega arith) in
-    let read : decoded (frame_at (0 + length ps) octets) ≡ Err e = ap (λ (xs : List ℕ). decoded (take pcf_length xs)) there ∙ bad in
+    let read : decoded (frame_at (0 + length ps) octets) ≡ Err e =
+    ap (λ xs. decoded (take pcf_length xs)) there ∙ bad in
     let others = frames_answer (0 + length ps + 1) (frame_count octets - length ps - 1) octets in
     let number : 0 + length ps + 1 ≡ length ps + 1 = omega arith in
     show_answer-fits octets short
@@ -91,7 +92,7 @@ refused octets rest ps e short l bad some =
     ∙ frames-spelt ps 0 (suc (frame_count octets - length ps - 1)) octets l.front rest l.cut l.spells
     ∙ ap (behind (frame_lines 1 ps)) (frames_answer-next (0 + length ps) (frame_count octets - length ps - 1) octets
     ∙ ap (λ r. judgement_of (0 + length ps + 1) r others) read)
-    ∙ ap (λ (n : ℕ). record { status = FrameRefused; lines = frame_lines 1 ps ++ refusal_line n e ∷ [] }) number
+    ∙ ap (λ n. record { status = FrameRefused; lines = frame_lines 1 ps ++ refusal_line n e ∷ [] }) number
 
 pub shows_frames : ShowsFrames
 shows_frames = record { whole = whole; refused = refused }

@@ -1,10 +1,10 @@
 -- The answer for the frames of a file, frame by frame.
 use Rattle.{pcf_codec.specs.Decoding.decoded, std.{proofs.lemmas.List.append-nil, specs.Io.KnownBytes.Appends}, tte_io.specs.Faults.next_count}
 use Rattle.{pcf_codec.specs.declared.refusal.PcfRefusal.PcfRefusal, tte_forms.specs.Putting.{PutsLines, Shown}, tte_units.specs.declared.frames.pcf.Pcf.Pcf}
-use Rattle.std.proofs.Common.{◌++◌, ◌+◌, ◌-◌, ◌<◌, ◌∙◌, ◌∷◌, ◌≡◌, ◌≤◌, Err, List, Ok, [], ap, append_assoc, arith, inl, inr, refl, subst, suc, sym}
+use Rattle.std.proofs.Common.{◌++◌, ◌+◌, ◌-◌, ◌<◌, ◌∙◌, ◌∷◌, ◌≡◌, ◌≤◌, Err, List, Ok, [], ap, append_assoc, arith, inl, inr, refl, suc, sym}
 use Rattle.{std.proofs.Common.{zero, ℕ}, tte_io.specs.Told.AppendsFront}
 use Rattle.tte_forms.proofs.Puts.{Ends-gives, PutsLines-append, PutsLines-fails, PutsLines-more, PutsSome-behind, WriteFails-behind}
-use Rattle.tte_forms.specs.{Answering.{Answer, Ends, Gives, with_line}, declared.status.Status.Status, frames.FrameLine.{frame_line, refusal_line}}
+use Rattle.tte_forms.specs.{Answering.{Answer, Ends, Gives}, declared.status.Status.Status, frames.FrameLine.{frame_line, refusal_line}}
 use Rattle.tte_forms.specs.{declared.status.Status.TheVariants.{Done, FrameRefused, WriteFault}, frames.Answer.{frame_at, frames_answer, judgement_of}}
 
 -- an answer behind some lines
@@ -37,18 +37,16 @@ IsShown-more {n} {k} {octets} p new s lt d w c = record {
       s.rest
       ∙ ap (behind s.done) (next_frame k n octets lt ∙ ap (λ r. judgement_of (k + 1) r (frames_answer (k + 1) (n - (k + 1)) octets))
       d)
-      ∙ sym (ap (λ (ls : List (List ℕ)). record { status = (frames_answer (k + 1) (n - (k + 1)) octets).status; lines = ls })
-      (append_assoc s.done (frame_line (k + 1) p ∷ []) (frames_answer (k + 1) (n - (k + 1)) octets).lines));
+      ∙ sym (rw (append_assoc s.done (frame_line (k + 1) p ∷ []) (frames_answer (k + 1) (n - (k + 1)) octets).lines));
 }
 
 -- all frames were shown
 pub IsShown-all : {n k : ℕ} {octets : List ℕ} (status : Status) {old now : Shown} (new : Shown)
     → IsShown n k octets old now → n ≤ k → Ends Done status now new → Gives (frames_answer 0 n octets) status old new
 IsShown-all {n} {k} {octets} status {old} new s le ends =
-    let whole : frames_answer 0 n octets ≡ record { status = Done; lines = s.done } =
-    s.rest ∙ ap (behind s.done) (no_frame k octets (n - k) (omega arith)) ∙ ap (λ (ls : List (List ℕ)). record { status = Done; lines = ls })
-    (append-nil s.done) in
-    subst (λ a. Gives a status old new) (sym whole) (Ends-gives Done status new s.puts ends)
+    let whole =
+    s.rest ∙ ap (behind s.done) (no_frame k octets (n - k) (omega arith)) ∙ (rw (append-nil s.done)) in
+    rw whole (Ends-gives Done status new s.puts ends)
 
 -- the put of a frame's line failed
 pub IsShown-fails : {n k : ℕ} {octets : List ℕ} (p : Pcf) {old now : Shown} (new : Shown)
@@ -57,10 +55,9 @@ pub IsShown-fails : {n k : ℕ} {octets : List ℕ} (p : Pcf) {old now : Shown} 
     → Gives (frames_answer 0 n octets) WriteFault old new
 IsShown-fails {n} {k} {octets} p {old} new s lt d w c =
     let rest = frames_answer (k + 1) (n - (k + 1)) octets in
-    let whole : frames_answer 0 n octets ≡ behind s.done (with_line (frame_line (k + 1) p) rest) =
+    let whole =
     s.rest ∙ ap (behind s.done) (next_frame k n octets lt ∙ ap (λ r. judgement_of (k + 1) r rest) d) in
-    subst (λ a. Gives a WriteFault old new) (sym whole)
-    (inr (inl (refl, inl (PutsLines-fails (frame_line (k + 1) p) rest.lines new s.puts w c))))
+    rw whole (inr (inl (refl, inl (PutsLines-fails (frame_line (k + 1) p) rest.lines new s.puts w c))))
 
 -- an answer's lines behind those that were put
 pub Gives-behind : {lines : List (List ℕ)} (a : Answer) (status : Status) {old now new : Shown}
@@ -76,6 +73,6 @@ pub IsShown-refused : {n k : ℕ} {octets : List ℕ} (e : PcfRefusal) (status :
     → Gives (frames_answer 0 n octets) status old new
 IsShown-refused {n} {k} {octets} e status {old} {new} s lt d g =
     let rest = frames_answer (k + 1) (n - (k + 1)) octets in
-    let whole : frames_answer 0 n octets ≡ behind s.done (record { status = FrameRefused; lines = refusal_line (k + 1) e ∷ [] }) =
-    s.rest ∙ ap (behind s.done) (next_frame k n octets lt ∙ ap (λ r. judgement_of (k + 1) r rest) d) in
-    subst (λ a. Gives a status old new) (sym whole) (Gives-behind _ status s.puts g)
+    let whole =
+    s.rest ∙ ap (behind s.done) (next_frame k n octets lt ∙ (rw d)) in
+    rw whole (Gives-behind _ status s.puts g)

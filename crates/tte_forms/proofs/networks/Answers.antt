@@ -1,8 +1,8 @@
 -- The answer for the octets of a network file.
-use Rattle.{net_file.specs.Schema.network_read, schedule_checker.specs.{Refusals.{RefusalIsOne, TellsFirstBroken}, declared.refusal.RuleBroken.RuleBroken}}
+use Rattle.{net_file.specs.Schema.network_read, schedule_checker.specs.{Refusals.{RefusalIsOne}, declared.refusal.RuleBroken.RuleBroken}}
 use Rattle.{net_file.specs.declared.refusal.FileRefusal.FileRefusal, tte_forms.proofs.{Octets.{for_all, for_more}, OneAnswers.{answer_widened, unput_answer}}}
 use Rattle.{net_plan.specs.{Bounds.{BetaIsUnique, IsBeta, gamma_of}, declared.network.Network.Network}, tte_forms.specs.declared.accepting.NoNetwork.NoNetwork}
-use Rattle.std.proofs.{Common.{◌∙◌, ◌∷◌, ◌≡◌, ◌⊎◌, Err, List, Ok, Option, [], ap, arith, inl, inr, pos, refl, subst, sym, ℕ}, lemmas.Int.ints}
+use Rattle.std.proofs.{Common.{◌∙◌, ◌∷◌, ◌≡◌, ◌⊎◌, Err, List, Ok, Option, [], arith, inl, inr, pos, refl, sym, ℕ}, lemmas.Int.ints}
 use Rattle.tte_forms.specs.{Answering.{Answer, AnswersOne, ForOctets, Gives, GivesAnswer}, declared.status.Status.{Status, TheVariants.{Done, WriteFault}}}
 use Rattle.tte_forms.specs.{Putting.{PutsNone, Shown}, networks.{Accepting.too_long_answer, Checking.IsAcceptance}}
 use Rattle.tte_forms.specs.networks.Accepting.{IsAnswerBy, IsNetworkAnswer, IsTooLong, MeansAccepted, MeansNoNetwork, MeansUnfit, refusal_lines, refused_by}
@@ -21,7 +21,7 @@ same_refusal octets d e p q = cc
 -- a network that is accepted breaks no rule
 no_unfit : (octets : List ℕ) (n : Network) (told : RuleBroken) → MeansAccepted octets n → MeansUnfit octets told → ⊥
 no_unfit octets n told m u =
-    let first = subst (λ x. TellsFirstBroken x told) (same_network octets u.network n u.read m.read) u.first in
+    let first = rw (same_network octets u.network n u.read m.read) at u.first in
     first.first.broken (m.rules first.rule told.index)
 
 -- ---- where the lines about a network that is refused are given
@@ -30,14 +30,14 @@ module _ (lines : List ℕ → List (List ℕ)) (Then : Network → Answer → T
   -- a file that is too long has that answer alone
   too_long_one : IsTooLong octets → (b : Answer) → IsAnswerBy lines Then octets b → b ≡ too_long_answer
   too_long_one long b (inl h) = h.1
-  too_long_one long b (inr (inl h)) = absurd (omega (arith, long, h.1.fits))
-  too_long_one long b (inr (inr (inl h))) = absurd (omega (arith, long, h.1.fits))
-  too_long_one long b (inr (inr (inr h))) = absurd (omega (arith, long, h.1.fits))
+  too_long_one long b (inr (inl h)) = absurd (omega (arith, h.1.fits))
+  too_long_one long b (inr (inr (inl h))) = absurd (omega (arith, h.1.fits))
+  too_long_one long b (inr (inr (inr h))) = absurd (omega (arith, h.1.fits))
 
   -- a text that is no network has the answer for its fault alone
   file_one : (e : FileRefusal) → MeansNoNetwork octets e → (b : Answer) → IsAnswerBy lines Then octets b → b ≡ refused_by lines (file_reason e)
   file_one e m b (inl h) = absurd (omega (arith, h.0, m.fits))
-  file_one e m b (inr (inl h)) = h.2 ∙ ap (λ x. refused_by lines (file_reason x)) (same_refusal octets h.0 e h.1.read m.read)
+  file_one e m b (inr (inl h)) = h.2 ∙ (rw (same_refusal octets h.0 e h.1.read m.read))
   file_one e m b (inr (inr (inl h))) = absurd (no_both octets h.1.network e h.1.read m.read)
   file_one e m b (inr (inr (inr h))) = absurd (no_both octets h.0 e h.1.read m.read)
 
@@ -48,8 +48,7 @@ module _ (lines : List ℕ → List (List ℕ)) (Then : Network → Answer → T
   rule_one one told m b (inr (inl h)) = absurd (no_both octets m.network h.0 m.read h.1.read)
   rule_one one told m b (inr (inr (inl h))) =
       let same = same_network octets h.1.network m.network h.1.read m.read in
-      h.2 ∙ ap (λ x. refused_by lines (rule_reason x))
-      (one m.network h.0 told (subst (λ n. TellsFirstBroken n h.0) same h.1.first) m.first)
+      h.2 ∙ (rw (one m.network h.0 told (rw same at h.1.first) m.first))
   rule_one one told m b (inr (inr (inr h))) = absurd (no_unfit octets h.0 told h.1 m)
 
   -- an accepted network has the answers for it alone
@@ -57,7 +56,7 @@ module _ (lines : List ℕ → List (List ℕ)) (Then : Network → Answer → T
   alone_by n m b (inl h) = absurd (omega (arith, h.0, m.fits))
   alone_by n m b (inr (inl h)) = absurd (no_both octets n h.0 m.read h.1.read)
   alone_by n m b (inr (inr (inl h))) = absurd (no_unfit octets n h.0 m h.1)
-  alone_by n m b (inr (inr (inr h))) = subst (λ (x : Network). Then x b) (same_network octets h.0 n h.1.read m.read) h.2
+  alone_by n m b (inr (inr (inr h))) = rw (same_network octets h.0 n h.1.read m.read) at h.2
 
   -- the octets have one answer, where an accepted network has
   pub one_by : RefusalIsOne → ((n : Network) → MeansAccepted octets n → (a b : Answer) → Then n a → Then n b → a ≡ b) → (a b : Answer)
@@ -107,7 +106,7 @@ acceptance n beta status old new is g =
 pub acceptance_one : BetaIsUnique → (n : Network) (a b : Answer) → IsAcceptance n a → IsAcceptance n b → a ≡ b
 acceptance_one unique n a b p q =
     let same : p.beta ≡ q.beta = omega (arith, ints, unique n (pos p.beta) (pos q.beta) p.is q.is) in
-    p.answer ∙ ap (λ (x : ℕ). record { status = Done; lines = acceptance_line x (gamma_of n) ∷ [] }) same ∙ sym q.answer
+    p.answer ∙ (rw same (sym q.answer))
 
 -- ---- the answer for a source
 

@@ -6,9 +6,8 @@ pub returns-in-Ok-clause-gives : goal.returns-in-Ok-clause-gives
 returns-in-Ok-clause-gives g c =
     let old = shown_by g.K.Sink c.args.out.now in
     let now = shown_by g.K.Sink c.put.new.self in
-    let new = shown_by g.K.Sink c.end_with.new.out in
     let puts = PutsLines-more c.args.line.now now (PutsLines-none old) c.in-Ok.ensures.all c.put.ensures.counted in
-    Ends-gives c.args.status c.end_with.result new puts c.end_with.ensures.ends
+    Ends-gives c.args.status c.end_with.result (shown_by g.K.Sink c.end_with.new.out) puts c.end_with.ensures.ends
 
 pub returns-in-Err-clause-gives : goal.returns-in-Err-clause-gives
 returns-in-Err-clause-gives g c =

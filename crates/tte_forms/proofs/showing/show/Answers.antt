@@ -1,12 +1,11 @@
-use Rattle.std.proofs.Common.{◌∙◌, Err, ap, subst}
-use Rattle.tte_forms.{proofs.frames.Answers.{answers-long, answers-read}, specs.{Answering.Gives, Putting.shown_by, frames.Answer.{frame_count, frames_answer}}}
+use Rattle.std.proofs.Common.{◌∙◌, Err, ap}
+use Rattle.tte_forms.{proofs.frames.Answers.{answers-long, answers-read}, specs.{Putting.shown_by}}
 use Rattle.tte_forms.proofs.showing.show.Goals as goal
 
 pub returns-in-Ok-clause-general : goal.returns-in-Ok-clause-general
 returns-in-Ok-clause-general g c =
     let shown = shown_by g.K.Sink in
-    let gives = subst (λ xs. Gives (frames_answer 0 (frame_count xs) xs) c.show_frames.result (shown c.args.out.now) (shown c.show_frames.new.out))
-    c.as_slice.ensures c.show_frames.ensures.gives in
+    let gives = rw c.as_slice.ensures at c.show_frames.ensures.gives in
     answers-read (g.A.Source.left c.args.source.now) c.in-Ok.octets c.show_frames.result (shown c.args.out.now) (shown c.show_frames.new.out)
     c.in-Ok.ensures.whole c.in-Ok.ensures.within gives
 

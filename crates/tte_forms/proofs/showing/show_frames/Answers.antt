@@ -1,18 +1,16 @@
-use Rattle.{pcf_codec.specs.Decoding.decoded, tte_forms.specs.{Answering.{Answer, Gives}, Putting.shown_by, frames.Answer.frame_at}}
-use Rattle.{std.proofs.Common.{◌+◌, ◌∙◌, ◌∷◌, ◌≡◌, Err, List, Ok, [], ap, arith, subst, sym, ℕ}, tte_forms.specs.frames.FrameLine.{frame_line, refusal_line}}
-use Rattle.{std.specs.Io.KnownBytes.Appends, tte_io.specs.Told.AppendsFront}
-use Rattle.tte_forms.{proofs.frames.Frames.{IsShown-all, IsShown-fails, IsShown-more, IsShown-refused}, specs.declared.status.Status.TheVariants.FrameRefused}
+use Rattle.{pcf_codec.specs.Decoding.decoded, tte_forms.specs.{Putting.shown_by, frames.Answer.frame_at}}
+use Rattle.{std.proofs.Common.{◌∙◌, ◌≡◌, Err, Ok, ap, arith, sym}}
+use Rattle.tte_forms.{proofs.frames.Frames.{IsShown-all, IsShown-fails, IsShown-more, IsShown-refused}}
 use Rattle.tte_forms.proofs.showing.show_frames.Goals as goal
 
 pub returns-in-Err-put-clause-gives : goal.returns-in-Err-put-clause-gives
 returns-in-Err-put-clause-gives g c =
     let octets = c.args.octets.now in
-    let shown = shown_by g.K.Sink in
     let read : decoded (frame_at c.frames.k octets) ≡ Ok c.in-Ok.frame = ap decoded (sym c.frame_at.ensures.frame) ∙ sym c.decode.ensures ∙ c.in-Ok.is in
-    let line : c.as_slice.result.now ≡ frame_line (c.frames.k + 1) c.in-Ok.frame = c.as_slice.ensures ∙ c.make_frame_line.ensures in
+    let line = c.as_slice.ensures ∙ c.make_frame_line.ensures in
     let front =
-    subst (λ bytes. AppendsFront (g.K.Sink.written c.frames.out) (g.K.Sink.written c.put.new.self) bytes) line c.in-Err-put.ensures.front in
-    IsShown-fails c.in-Ok.frame (shown c.put.new.self)
+    rw line at c.in-Err-put.ensures.front in
+    IsShown-fails c.in-Ok.frame ((shown_by g.K.Sink) c.put.new.self)
     c.frames.invariant.shown (omega arith) read front c.put.ensures.counted
 
 pub returns-in-Err-clause-gives : goal.returns-in-Err-clause-gives
@@ -20,10 +18,9 @@ returns-in-Err-clause-gives g c =
     let octets = c.args.octets.now in
     let shown = shown_by g.K.Sink in
     let read : decoded (frame_at c.frames.k octets) ≡ Err c.in-Err.refusal = ap decoded (sym c.frame_at.ensures.frame) ∙ sym c.decode.ensures ∙ c.in-Err.is in
-    let line : c.as_slice-in-Err.result.now ≡ refusal_line (c.frames.k + 1) c.in-Err.refusal = c.as_slice-in-Err.ensures ∙ c.make_refusal_line.ensures in
+    let line = c.as_slice-in-Err.ensures ∙ c.make_refusal_line.ensures in
     let gives =
-    subst (λ (bytes : List ℕ). let a : Answer = record { status = FrameRefused; lines = bytes ∷ [] } in Gives a c.put_last.result (shown c.frames.out)
-    (shown c.put_last.new.out)) line c.put_last.ensures.gives in
+    rw line at c.put_last.ensures.gives in
     IsShown-refused c.in-Err.refusal c.put_last.result c.frames.invariant.shown (omega arith) read gives
 
 pub frames-preserved : goal.frames-preserved
@@ -31,8 +28,8 @@ frames-preserved g c =
     let octets = c.args.octets.now in
     let shown = shown_by g.K.Sink in
     let read : decoded (frame_at c.frames.k octets) ≡ Ok c.in-Ok.frame = ap decoded (sym c.frame_at.ensures.frame) ∙ sym c.decode.ensures ∙ c.in-Ok.is in
-    let line : c.as_slice.result.now ≡ frame_line (c.frames.k + 1) c.in-Ok.frame = c.as_slice.ensures ∙ c.make_frame_line.ensures in
-    let whole = subst (λ (bytes : List ℕ). Appends (g.K.Sink.written c.frames.out) (g.K.Sink.written c.put.new.self) bytes) line c.in-Ok-put.ensures.all in
+    let line = c.as_slice.ensures ∙ c.make_frame_line.ensures in
+    let whole = rw line at c.in-Ok-put.ensures.all in
     record {
       shown = IsShown-more c.in-Ok.frame (shown c.put.new.self)
           c.frames.invariant.shown (omega arith) read whole c.put.ensures.counted;
@@ -41,6 +38,5 @@ frames-preserved g c =
 
 pub returns-clause-gives : goal.returns-clause-gives
 returns-clause-gives g c =
-    let shown = shown_by g.K.Sink in
     IsShown-all c.end_with.result
-    (shown c.end_with.new.out) c.frames.invariant.shown (omega arith) c.end_with.ensures.ends
+    ((shown_by g.K.Sink) c.end_with.new.out) c.frames.invariant.shown (omega arith) c.end_with.ensures.ends
