@@ -21,6 +21,7 @@ pub fn least_point(waiting: &Frames, device: u32) -> Option<Units>
 }
 
 /// The first time from now on at which the clock reads so much, or never.
+#[inline(always)]
 pub fn time_for<C: Clock>(clock: &C, now: u64, value: Option<Units>) -> u64
     requires stepped { C.last_step clock.now ≤ now }
     requires limit { now ≤ 2 ^ 60 }
