@@ -147,7 +147,7 @@ impl<'a> Sweep<'a> {
     {
         self.known.push(self.alloc, self.network, note)?;
         self.payments.push(&note.body)?;
-        self.places.push(place)?;
+        self.places.push(note.time.amount(), place)?;
         Ok(())
     }
 

@@ -10,10 +10,14 @@ use std::marker::Model;
 /// How many records behind another are looked at first.
 const NEAR: usize = 16;
 
-/// The places of records that are in order.
+/// Of so many records the time of the first is marked.
+const BLOCK: usize = 16;
+
+/// The places of records that are in order, and marks of their times, by which a place is sought near its own.
 #[derive(Drop)]
 pub struct Places {
     places: Vec<Place>,
+    marks: Vec<u64>,
 }
 
 impl Model for Places {
@@ -31,6 +35,7 @@ impl Places {
     {
         Places {
             places: Vec::new(alloc),
+            marks: Vec::new(alloc),
         }
     }
 
@@ -45,18 +50,60 @@ impl Places {
         }
     }
 
-    /// Adds that of a record that stands behind all of them. Where memory runs out nothing changes.
-    pub fn push(&mut self, place: Place) -> Result<(), AllocError>
+    /// Adds that of a record of the time that stands behind all of them. Where memory runs out no place is added.
+    pub fn push(&mut self, time: u64, place: Place) -> Result<(), AllocError>
         ensures added { OnOk result ((hs : List Happening) (h : Happening) → ArePlacesOf hs self.old
             → place_of h ≡ place → AllBefore place_of hs place → ArePlacesOf (hs ++ h ∷ []) self.new) }
         ensures unchanged { OnErr result (self.new ≡ self.old) }
     {
+        mark(&mut self.marks, self.places.len(), time)?;
         self.places.push(place)?;
         Ok(())
     }
 
-    /// Does a record stand at the place?
-    pub fn has(&self, place: &Place) -> bool
+    /// Does a record stand at the place, which is of this time? It is sought first among those of its time.
+    pub fn has(&self, time: u64, place: &Place) -> bool
+        ensures { (hs : List Happening) → ArePlacesOf hs self.now → IsTrue result ↔ HasRecordAt hs place.now }
+    {
+        let (from, to) = self.marked(time);
+        if is_among(self.between(from, to), place) {
+            return true;
+        }
+        self.is_there(place)
+    }
+
+    /// The same, where it is sought first among the records just behind that of this number.
+    pub fn has_behind(&self, number: u64, time: u64, place: &Place) -> bool
+        ensures { (hs : List Happening) → ArePlacesOf hs self.now → IsTrue result ↔ HasRecordAt hs place.now }
+    {
+        let from = number as usize;
+        if is_among(self.between(from, from.saturating_add(NEAR)), place) {
+            return true;
+        }
+        self.has(time, place)
+    }
+
+    // Between which numbers of places those of the time stand, by the marks.
+    fn marked(&self, time: u64) -> (usize, usize) {
+        let from = self.marks.partition_point(|mark| *mark < time);
+        let to = self.marks.partition_point(|mark| *mark <= time);
+        (
+            from.saturating_sub(1).saturating_mul(BLOCK),
+            to.saturating_mul(BLOCK),
+        )
+    }
+
+    // The places from this number on, and before the other.
+    fn between(&self, from: usize, to: usize) -> &[Place]
+        ensures { (place : List ℕ) → IsIn place result.now → IsIn place self.now }
+    {
+        let (before, _) = self.places.split_at(self.places.len().min(to));
+        let (_, between) = before.split_at(before.len().min(from));
+        between
+    }
+
+    // Does a record stand at the place? It is sought among all.
+    fn is_there(&self, place: &Place) -> bool
         ensures { (hs : List Happening) → ArePlacesOf hs self.now → IsTrue result ↔ HasRecordAt hs place.now }
     {
         let count = self.count_before(place);
@@ -64,25 +111,6 @@ impl Places {
             Some(found) => found.is_same(place),
             None => false,
         }
-    }
-
-    /// Does a record stand at the place? It is sought first among the records just behind that of this number.
-    pub fn has_behind(&self, number: u64, place: &Place) -> bool
-        ensures { (hs : List Happening) → ArePlacesOf hs self.now → IsTrue result ↔ HasRecordAt hs place.now }
-    {
-        if is_among(self.next_places(number), place) {
-            return true;
-        }
-        self.has(place)
-    }
-
-    // The places of the records just behind that of this number.
-    fn next_places(&self, number: u64) -> &[Place]
-        ensures { (place : List ℕ) → IsIn place result.now → IsIn place self.now }
-    {
-        let (_, behind) = self.places.split_at(self.places.len().min(number as usize));
-        let (near, _) = behind.split_at(behind.len().min(NEAR));
-        near
     }
 
     // How many of them are before the place.
@@ -94,6 +122,14 @@ impl Places {
     {
         self.places.partition_point(|found| found.is_before(place))
     }
+}
+
+// Marks the time of the first record of a block, where so many records stand before it.
+fn mark(marks: &mut Vec<u64>, count: usize, time: u64) -> Result<(), AllocError> {
+    if count % BLOCK == 0 {
+        marks.push(time)?;
+    }
+    Ok(())
 }
 
 // Is the place one of these? It may be missed where they are in no order.

@@ -56,6 +56,6 @@ impl Debtor<'_> {
             adjustment: Units(0),
             state: State::Off,
         };
-        self.places.has(&Place::of(time, 0, &clock))
+        self.places.has(time, &Place::of(time, 0, &clock))
     }
 }

@@ -88,7 +88,8 @@ impl Debtor<'_> {
                     cause,
                     clock,
                 };
-                self.places.has_behind(number, &Place::of(time, 0, &left))
+                self.places
+                    .has_behind(number, time, &Place::of(time, 0, &left))
             }
             Departed::OnCutWay => {
                 let lost = NoteBody::Lost {
@@ -96,7 +97,8 @@ impl Debtor<'_> {
                     link,
                     cause,
                 };
-                self.places.has_behind(number, &Place::of(time, 0, &lost))
+                self.places
+                    .has_behind(number, time, &Place::of(time, 0, &lost))
             }
             Departed::TooOld => {
                 let reason = Reason::Old;
@@ -107,7 +109,7 @@ impl Debtor<'_> {
                     reason,
                 };
                 self.places
-                    .has_behind(number, &Place::of(time, 0, &dropped))
+                    .has_behind(number, time, &Place::of(time, 0, &dropped))
             }
         }
     }

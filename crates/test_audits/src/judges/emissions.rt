@@ -39,7 +39,7 @@ fn a_frame_is_owed_for_a_cluster(rt: HostRuntime) -> Result<(), Fail> {
         cycle: 0,
     };
     stretches.push(&network, 5_000_000_000, &body, carried)?;
-    places.push(Place::of(5_000_000_000, 1, &body))?;
+    places.push(5_000_000_000, Place::of(5_000_000_000, 1, &body))?;
     let owed = [
         first_unemitted(&network, &events, &stretches, &places, 7_162_687_999),
         first_unemitted(&network, &events, &stretches, &places, 1 << 40),

@@ -112,8 +112,13 @@ impl RowDebtor<'_> {
         let RowFrame { cause, cycle } = frame;
         let at = At { device, time };
         if is_cut(self.network, self.events, at, link) {
-            return self.places.has(&Place::of_loss(time, device, link, cause));
+            return self
+                .places
+                .has(time, &Place::of_loss(time, device, link, cause));
         }
-        self.places.has(&Place::of_dispatch(time, device, link, cause, row.vl, cycle))
+        self.places.has(
+            time,
+            &Place::of_dispatch(time, device, link, cause, row.vl, cycle),
+        )
     }
 }

@@ -58,7 +58,7 @@ fn is_told(places: &Places, device: DeviceId, emitted: &Emitted, time: u64) -> b
         → IsReach (s.reading device) (pos 0) emitted.now.at (pos time)
         → IsTrue result ↔ IsTold s hs device (sent_of emitted.now) }
 {
-    places.has(&place_of(device, emitted, time))
+    places.has(time, &place_of(device, emitted, time))
 }
 
 /// Does the compression master send this at the time at which its clock first reaches the reading?

@@ -195,5 +195,6 @@ fn is_told(places: &Places, device: DeviceId, time: u64) -> bool
     ensures { (s : Scenario) (hs : List Happening) (cycle : ℕ) → ArePlacesOf hs places.now
         → IsFounded place_of (IsDue s) hs → IsTrue result ↔ IsTold s hs device time cycle }
 {
-    places.has(&Place::of_correction(time, device)) || places.has(&Place::of_clique(time, device))
+    places.has(time, &Place::of_correction(time, device))
+        || places.has(time, &Place::of_clique(time, device))
 }

@@ -151,5 +151,5 @@ fn is_sent(places: &Places, device: DeviceId, time: u64, cycle: u64) -> bool
     ensures { (s : Scenario) (hs : List Happening) → ArePlacesOf hs places.now
         → IsTrue result ↔ IsSent s hs device time cycle }
 {
-    places.has(&Place::of_sending(time, device, cycle))
+    places.has(time, &Place::of_sending(time, device, cycle))
 }
