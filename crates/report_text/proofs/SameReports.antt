@@ -18,7 +18,7 @@ body_of network note h = record { of_network = h.of_network; in_range = h.in_ran
 
 -- the text of a record: two words, and what it says
 
-note_parts : (number time body : List ℕ) → number ++ codes " " ++ time ++ codes " " ++ body ≡ number ++ space ∷ (time ++ space ∷ body)
+pub note_parts : (number time body : List ℕ) → number ++ codes " " ++ time ++ codes " " ++ body ≡ number ++ space ∷ (time ++ space ∷ body)
 note_parts number time body = simp append_assoc refl
 
 -- it has no LF

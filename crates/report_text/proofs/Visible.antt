@@ -20,7 +20,7 @@ use Rattle.sync_state.specs.declared.state.State.TheVariants as states
 
 -- ---- names and numbers
 
-device_visible : (network : Network) (d : DeviceId) → IsInRange network → HasDevice network d → IsVisible (device_name network d)
+pub device_visible : (network : Network) (d : DeviceId) → IsInRange network → HasDevice network d → IsVisible (device_name network d)
 device_visible network d h of_network =
     let at = some_at network.device d.0 of_network in
     rw at.1 (name_visible at.0.name (in_list IsDeviceInRange network.device d.0 at.0 at.1 h.devices).name)

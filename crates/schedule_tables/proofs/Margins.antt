@@ -5,7 +5,7 @@ use Rattle.net_plan.specs.{Places.{IsDeviceOf, IsSwitchOf, device_at, is_end_sys
 use Rattle.{net_plan.specs.declared.tables.Link.Link, std.{proofs.lemmas.Bool.false≢true, specs.{List.{All, filter}}}}
 use Rattle.{net_plan.specs.declared.tables.Role.{Role, TheVariants.{Client, Cm, Master, Relay}}, tte_units.specs.declared.frames.channel.Channel.TheVariants.A}
 use Rattle.schedule_tables.specs.Delays.{CorrectionFits, ErrorsSettle, PrecisionFits, ScheduleFits, delay_by, delay_of, pcf_port_time}
-use Rattle.schedule_tables.specs.{Margins.{CycleHasRoom, DriftHasRoom, ErrorsAreSmall, PrecisionHasRoom, RulesGiveMargins, SettledHasRoom}, Rules.KeepsRules}
+use Rattle.schedule_tables.specs.{Margins.{CycleHasRoom, DriftHasRoom, ErrorsAreSmall, PrecisionHasRoom, RulesGiveMargins, SettledHasRoom}, Rules.{KeepsBelow, KeepsRules}}
 use Rattle.schedule_tables.specs.declared.rule.Rule.TheVariants.{CompressionMasters, Connections, Correction, Delays, DevicesDiffer, Joints, Limits}
 use Rattle.schedule_tables.specs.declared.rule.Rule.TheVariants.{LinksDiffer, Masters, Precision, ScheduleStart, Settling}
 use Rattle.std.proofs.Common.{◌*◌, ◌+◌, ◌/◌, ◌^◌, ◌∙◌, ◌∷◌, ◌≡◌, ◌≤◌, ◌⊎◌, List, Some, [], ap, arith, get_or, inl, inr, pos, refl, suc, ℕ, ⊎_elim}
@@ -91,13 +91,13 @@ master_ends Cm e = absurd (false≢true e)
 master_ends Relay e = absurd (false≢true e)
 
 -- some device is a master, so there is a link
-pub some_link : (n : Network) → KeepsRules n → (place : ℕ) × (link : Link) × (slice_get n.link place ≡ Some link)
-some_link n keeps =
-    let four = (keeps Masters 0).least refl in
+pub some_link : (n : Network) → KeepsBelow 8 n → (place : ℕ) × (link : Link) × (slice_get n.link place ≡ Some link)
+some_link n shape =
+    let four = (shape Masters (omega arith) 0).least refl in
     let m = kept (λ d. is_master d.role) n.device (omega arith) in
     let end = closed (λ d. is_end_system d.role ≡ true) (slice_get n.device m.0) m.1 m.2
     (master_ends m.1.role m.3) in
-    let up = (keeps Connections m.0).ends end A in
+    let up = (shape Connections (omega arith) m.0).ends end A in
     let l = opened (λ l. (l.child ≡ record { 0 = m.0 }) × IsSwitchOf n A l.parent) (link_at n up.0) up.1 in
     (up.0.0, l.0, l.1)
 
@@ -145,7 +145,7 @@ margins trees n beta range keeps is =
     let tree = trees n (shape_rules n keeps) in
     let drift = drift_room range in
     let precision = precision_room beta range drift (keeps Precision 0) is in
-    let one = some_link n keeps in
+    let one = some_link n (λ rule below. keeps rule) in
     let begins = in_all (λ link. amount n.correction + amount n.dmax + 4 * amount n.precision + pcf_port_time link ≤ amount n.tt_start) n.link one.0 one.1
     (keeps ScheduleStart 0).begins one.2 in
     record {

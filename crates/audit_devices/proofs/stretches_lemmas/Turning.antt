@@ -78,7 +78,7 @@ no_end : (d : DeviceId) (h : Happening) → ends_stretch d h.note.body ≡ false
 no_end d h e y (inl s) = ap (λ (x : Happening). ends_stretch d x.note.body) s ∙ e
 no_end d h e y (inr i) = absurd i
 
-went_on : (hs : List Happening) (h : Happening) (d : DeviceId) → ends_stretch d h.note.body ≡ false
+pub went_on : (hs : List Happening) (h : Happening) (d : DeviceId) → ends_stretch d h.note.body ≡ false
     → points_of (hs ++ h ∷ []) d ≡ points_of hs d ++ cons_option (point_by d h h.note.body) []
 went_on hs h d on = grind (arith, after_more, no_end, one_more)
 

@@ -7,11 +7,11 @@ from_some : {X Y : Type 0} (f : X → Y) (o : Option X) (y : Y) → option_map f
 from_some f None y e = absurd cc
 from_some f (Some x) y e = (x, refl, sym (same_Some _ _ e))
 
-from_none : {X Y : Type 0} (f : X → Y) (o : Option X) → option_map f o ≡ None → o ≡ None
+pub from_none : {X Y : Type 0} (f : X → Y) (o : Option X) → option_map f o ≡ None → o ≡ None
 from_none f None e = refl
 from_none f (Some x) e = absurd cc
 
-number_of : (number : ℕ) → (number ≡ 0 → ⊥) → number ≡ suc (number - 1)
+pub number_of : (number : ℕ) → (number ≡ 0 → ⊥) → number ≡ suc (number - 1)
 number_of number n = grind (arith, n)
 
 at_number : (hs : List Happening) (number : ℕ) → (number ≡ 0 → ⊥) → numbered hs number ≡ slice_get hs (number - 1)

@@ -1,5 +1,6 @@
 -- A frame that arrives came over a link: who gives and who receives on its ways, and the leg before a record.
 use Rattle.{precision_law.proofs.Plain.{device_of, higher_before}, tte_units.proofs.general_lemmas.Options.mapped}
+use Rattle.schedule_tables.specs.Rules.{KeepsRules}
 use Rattle.precision_law.proofs.{trips.Paths.{clocked, frame_is, numbered_all}, words.Std.{inl, inr, option_and_then, option_map_or, refl, subst, sym, true, ℕ}}
 use Rattle.{precision_law.proofs.words.Laws.{IsLeg, IsTrip, IsView, Leg, View}, run_law.proofs.scenario.Devices.{parent_shown, shown_parent}}
 use Rattle.precision_law.proofs.words.Plans.{Channel, Device, DeviceId, Down, IsChildOf, IsPath, IsSwitchOf, IsTree, IsUplink, Joints, Link, LinkId, Master}
@@ -27,12 +28,10 @@ no_loop_on {n} channel device link l tree at up parent (first ∷ links) path =
     (rw (ap (λ (k : Link). k.parent) same ∙ parent) at m.2.2)
 
 -- so no link's child is its parent
-no_loop : {v : View} (link : LinkId) (l : Link) → IsView v → link_at v.scenario.network link ≡ Some l
-    → l.child ≡ l.parent → ⊥
-no_loop {v} link l is at same =
-    let n = v.scenario.network in
-    let tree = rules_give_trees n (shape_rules n is.lawful.rules) in
-    let joint = is.lawful.rules Joints link.0 l at in
+pub no_loop : (n : Network) → KeepsRules n → (link : LinkId) (l : Link) → link_at n link ≡ Some l → l.child ≡ l.parent → ⊥
+no_loop n rules link l at same =
+    let tree = rules_give_trees n (shape_rules n rules) in
+    let joint = rules Joints link.0 l at in
     let p = opened (λ d. d.channel ≡ Some joint.0) (device_at n l.parent) joint.1 in
     let member = closed (λ d. (is_end_system d.role ≡ true) ⊎ (d.channel ≡ Some joint.0)) (device_at n l.parent) p.0 p.1
     (inr p.2) in
@@ -49,7 +48,7 @@ child_not_parent {v} device link is child shown =
     let n = v.scenario.network in
     let l = opened (λ k. k.child ≡ device) (link_at n link) child in
     let p = opened (λ k. k.parent ≡ device) (link_at n link) (parent_shown n device link shown) in
-    no_loop link l.0 is l.1 (l.2 ∙ sym (rw (same_some _ _ _ l.1 p.1) p.2))
+    no_loop n is.lawful.rules link l.0 l.1 (l.2 ∙ sym (rw (same_some _ _ _ l.1 p.1) p.2))
 
 -- the parent of a link receives on its way up, and gives on its way down
 pub parent_ways : (n : Network) (device : DeviceId) (link : LinkId) → IsParentOf n device link → (way_to n device link ≡ Up) × (way_from n device link ≡ Down)

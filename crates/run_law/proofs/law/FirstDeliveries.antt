@@ -114,7 +114,7 @@ last_in o [] h e = inl e
 last_in o (g ∷ hs) h e = grind (arith, same_some, (last_in (Some g) hs h e))
 
 -- where nothing was given, the last of a list is in it
-last_there : (hs : List Happening) (h : Happening) → last_or None hs ≡ Some h → IsIn h hs
+pub last_there : (hs : List Happening) (h : Happening) → last_or None hs ≡ Some h → IsIn h hs
 last_there hs h e = elim (last_in None hs h e) [ inl none ↦ absurd cc | inr i ↦ i ]
 
 -- what a switch took last is among the records

@@ -147,7 +147,7 @@ module _ (s : Scenario) (hs : List Happening) (t : ℕ) (device : DeviceId) (lin
   arrives_or_ripens x y = grind (arith, same_some, numbered, no_launch, time_of)
 
 -- a relay is no compression master
-roles_differ : (role : Role) → is_cm_role role ≡ true → is_relay_role role ≡ true → ⊥
+pub roles_differ : (role : Role) → is_cm_role role ≡ true → is_relay_role role ≡ true → ⊥
 roles_differ Master a b = cc
 roles_differ other a b = cc
 

@@ -77,7 +77,7 @@ pub numbered_parts : (hs zs : List Happening) (g : Happening) (cause : ℕ) → 
 numbered_parts hs zs g zero e = absurd cc
 numbered_parts hs zs g (suc before) e = get_parts hs zs before e
 
-none_earlier : (t : ℕ) (zs : List Happening) → ((z : Happening) → IsIn z zs → t ≤ time_of z) → earlier t zs ≡ []
+pub none_earlier : (t : ℕ) (zs : List Happening) → ((z : Happening) → IsIn z zs → t ≤ time_of z) → earlier t zs ≡ []
 none_earlier t [] of = refl
 none_earlier t (z ∷ zs) of = earlier_no t z zs (of z (inl refl)) ∙ none_earlier t zs (λ y i. of y (inr i))
 

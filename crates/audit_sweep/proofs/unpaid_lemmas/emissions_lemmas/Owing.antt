@@ -27,7 +27,7 @@ last_there : {X : Type 0} (x : X) (xs : List X) (last : X) → last_or (Some x) 
 last_there x [] last e = inl cc
 last_there x (y ∷ ys) last e = inr (last_there y ys last e)
 
-last_in : {X : Type 0} (xs : List X) (last : X) → last_or None xs ≡ Some last → IsIn last xs
+pub last_in : {X : Type 0} (xs : List X) (last : X) → last_or None xs ≡ Some last → IsIn last xs
 last_in [] last e = absurd cc
 last_in (x ∷ xs) last e = last_there x xs last e
 

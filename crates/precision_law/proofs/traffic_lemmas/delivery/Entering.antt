@@ -13,7 +13,7 @@ use Rattle.{run_law.specs.scenario.Ways.{is_way, is_way_of}, std.proofs.lemmas.B
 -- ---- the row that is found
 
 -- where an element passes the test, one is found
-found_some : {X : Type 0} (p : X → Bool) (xs : List X) (i : ℕ) (x : X) → slice_get xs i ≡ Some x → p x ≡ true → (y : X) × (find p xs ≡ Some y)
+pub found_some : {X : Type 0} (p : X → Bool) (xs : List X) (i : ℕ) (x : X) → slice_get xs i ≡ Some x → p x ≡ true → (y : X) × (find p xs ≡ Some y)
 found_some p [] i x e hit = absurd cc
 found_some {X} p (y ∷ xs) zero x e hit = (let same : y ≡ x = cc in (y, rw (ap p same ∙ hit)))
 found_some {X} p (y ∷ xs) (suc k) x e hit =
