@@ -1,14 +1,8 @@
 pub mod Tells
 pub mod Steps
-pub mod Points
-pub mod Hearings
 pub mod Follows
-pub mod Partitions
 pub mod Kept
 pub mod KeptAll
-pub mod Reading
-pub mod Takes
-pub mod Lasting
 pub mod Words
 pub mod stretches_lemmas
 pub mod clocks_lemmas

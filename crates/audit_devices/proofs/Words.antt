@@ -5,7 +5,7 @@ pub use Rattle.std.proofs.Common.{ℤ}
 pub use Rattle.std.proofs.lemmas.{Bool.{cases_lt, ne_eqb}, Fn.always_returns_same}
 pub use Rattle.std.specs.{List.{cons_option, filter_map, last_or}, Option.option_map_or, Prelude.{◌&&◌, ◌+ℤ◌, ◌==◌, ◌||◌, nat_lt, option_map, slice_set}}
 pub use Rattle.std.specs.List.Sorted.{IsPartitionPoint, IsPartitionedBy}
-pub use Rattle.compression.proofs.Ascents.{slice_get-last}
+pub use Rattle.compression.proofs.Middles.{slice_get-last}
 pub use Rattle.sync_state.specs.membership.{Hearing.Hearing, Summary.{Summarizes, Summary, silence}}
 pub use Rattle.net_plan.specs.Ranges.{IsInRange}
 pub use Rattle.net_plan.specs.declared.{ids.{DeviceId.DeviceId, VlId.VlId}, network.Network.Network}

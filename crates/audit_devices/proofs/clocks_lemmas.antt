@@ -2,4 +2,3 @@ pub mod Reached
 pub mod Pointing
 pub mod Bringing
 pub mod Seeking
-pub mod Dispatches

@@ -1,4 +1,1 @@
-pub mod Turning
-pub mod Keeping
-pub mod Rising
-pub mod Clustering
+pub mod Stretches

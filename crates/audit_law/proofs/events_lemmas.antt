@@ -1,10 +1,3 @@
-pub mod Valuing
-pub mod Clocking
-pub mod Befalling
+pub mod Clocks
 pub mod Keeping
-pub mod Adding
-pub mod Looking
-pub mod Beginning
-pub mod Reading
-pub mod Reaching
-pub mod OneRate
+pub mod Histories

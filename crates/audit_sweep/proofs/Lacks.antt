@@ -1,17 +1,36 @@
--- The first that the records of a report lack.
-use Rattle.audit_law.proofs.law_lemmas.{Earliest.{EitherOf, first_debt_law, first_of_either, first_of_more}, Owing.of_amount}
-use Rattle.audit_law.specs.events.Readings.{HaveBegun}
-use Rattle.audit_law.specs.law.{Debts.IsPaid, FirstDebts.{TellsFirst, earlier_of}, Owed.{Debt, IsOwed, Pays}}
-use Rattle.audit_sweep.specs.{declared.sweep.Sweep.Sweep, unpaid.{Clocks.IsOnlyEnd, Debtors.device_named, points.Told.AreOfDevices}}
-use Rattle.audit_sweep.specs.unpaid.Sorts.{IsClockDebt, IsDispatchDebt, IsEmissionDebt, IsPointDebt, IsRecordDebt, IsSendingDebt}
-use Rattle.audit_sweep.proofs.Words.{◌+◌, ◌∷◌, ◌≡◌, DeviceId, Happening, IsDue, IsFounded, IsSwept, List, Network, NoteBody, Option, Some, Units, [], amount}
-use Rattle.audit_sweep.proofs.Words.{None, Scenario, ap, founded_of_sound, inl, inr, place_of, pos, refl, scenario_under, subst, sym, ℕ}
-use Rattle.{audit_sweep.specs.{Lacking.{AreEventsTold, TellsFirstLack}, Sweeping.SweepsSome}, net_plan.specs.declared.event.Event.Event}
-use Rattle.{run_law.specs.{records.Causes.device_of, runs.DueRecords.EndsAt}, std.proofs.Common.◌≤ℤ◌, tte_units.specs.Amount.units_of}
+-- What is known of a sweep of records, which of them take frames, and what they lack first.
+use Rattle.std.{proofs.Common.{◌^◌, ◌≤ℤ◌, false, length}, specs.Prelude.{Err, Ok}}
+use Rattle.audit_devices.specs.Takings.{TakesRightly}
+use Rattle.audit_law.proofs.law_lemmas.{FirstUnpaid.{EitherOf, first_debt_law, first_of_either, first_of_more}}
+use Rattle.audit_law.proofs.law_lemmas.{Founded.of_amount}
+use Rattle.audit_law.specs.{events.Readings.HaveBegun}
+use Rattle.audit_law.specs.{law.{Debts.IsPaid, FirstDebts.{TellsFirst, earlier_of}, Owed.{Debt, IsOwed, Pays}}}
+use Rattle.audit_sweep.proofs.Words
+use Words.{if◌then◌else◌, ◌+◌, ◌∷◌, ◌≡◌, ◌≤◌, Arrival, ArrivesAs, Bool, DeviceId, Happening, IsCaused, IsDue, IsFounded}
+use Words.{IsSwept, LinkId, List, Network, None, NoteBody, Option, Scenario, Some, Standpoint, Units, [], amount, ap}
+use Words.{arith, founded_of_sound, inl, inr, place_of, pos, refl, scenario_under, subst, sym, time_of, true, ℕ}
+use Rattle.audit_sweep.specs.{Knowing.{IsKnown, KnowsSome}, Lacking.{AreEventsTold, TellsFirstLack}}
+use Rattle.audit_sweep.specs.{Sweeping.SweepsSome, declared.{known.Known.Known, sweep.Sweep.Sweep}}
+use Rattle.audit_sweep.specs.unpaid.{Clocks.IsOnlyEnd, Debtors.device_named, points.Told.AreOfDevices}
+use Rattle.audit_sweep.specs.unpaid.Sorts
+use Sorts.{IsClockDebt, IsDispatchDebt, IsEmissionDebt, IsPointDebt, IsRecordDebt, IsSendingDebt}
+use Rattle.net_plan.specs.{Ranges.IsInRange}
+use Rattle.net_plan.specs.{declared.{event.Event.Event, ids.VlId.VlId, tables.Way.TheVariants.{Down, Up}}}
+use Rattle.run_law.specs.{control.{Arrivals.{frame_fault, frame_or_fault}, Wires.{Signal, control, timed}}}
+use Rattle.run_law.specs.{declared.judgement.Reason.Reason, device.Standpoints.{clock_of, cycle_at, standpoint}}
+use Rattle.run_law.specs.{records.{Causes.device_of, Order.IsBefore}, runs.DueRecords.EndsAt}
+use Rattle.run_law.specs.{scenario.Devices.{is_end, is_parent_of, is_relay}}
+use Rattle.run_law.specs.timed.{Arrivals.{entry_arrival, octets_fault, octets_or_fault, row_fault, taken_or_fault}}
+use Rattle.run_law.specs.timed.{Receptions.{arrival_of, last_taken}}
+use Rattle.schedule_tables.specs.declared.entry.Entry.{Entry}
+use Rattle.tte_units.specs.{Amount.units_of, declared.frames.pcf.Pcf.Pcf}
 use Rattle.audit_law.specs.law.Owed as debts
-use Rattle.audit_sweep.specs.unpaid.points.Kept as clocks
 use Rattle.audit_sweep.specs.unpaid.emissions.Kept as clusters
+use Rattle.audit_sweep.specs.unpaid.points.Kept as clocks
 use Rattle.run_law.specs.declared.note.NoteBody.TheVariants as notes
+use Rattle.run_law.specs.declared.steps.Arrival.TheVariants as arrivals
+
+-- ---- the first that the records of a report lack
 
 -- the network and the end are those of the sweep
 pub here : {network : Network} {befallen : List Event} {end : Units} {hs : List Happening} {sweep : Sweep}
@@ -149,3 +168,96 @@ tells_lack {network} {befallen} {end} {hs} result swept are is =
     let s = scenario_under network befallen in
     first_debt_law s hs (amount end) result swept.sound
     (subst (λ (r : Option ℕ). TellsFirst s hs (amount end) (λ o. Unit {0}) r) is (first_of_all s hs (amount end) are))
+
+-- ---- what is known of a sweep
+
+-- it is of its network
+pub of_its_network : {network : Network} {befallen : List Event} {end : Units} {hs : List Happening} {sweep : Sweep}
+    → IsSwept network befallen end hs sweep → IsSwept sweep.network.now befallen end hs sweep
+of_its_network {befallen} {end} {hs} {sweep} w =
+    subst (λ n. IsSwept n befallen end hs sweep) (sym w.of_network) w
+
+pub range_of_some : {sweep : Sweep} → SweepsSome sweep → IsInRange sweep.network.now
+range_of_some (network, befallen, end, hs, w) = (of_its_network w).range
+
+pub knows_of_some : {sweep : Sweep} → SweepsSome sweep → KnowsSome sweep.network.now sweep.known
+knows_of_some (network, befallen, end, hs, w) = (befallen, hs, (of_its_network w).known)
+
+pub end_of_some : {sweep : Sweep} → SweepsSome sweep → amount sweep.known.end ≤ 2 ^ 60
+end_of_some (network, befallen, end, hs, w) = subst (λ u. amount u ≤ 2 ^ 60) (sym w.ends) w.timely
+
+-- a record before the end's mark is none later than the end
+pub time_within : (h : Happening) (end : ℕ) → IsBefore (place_of h) ((end + 1) ∷ []) → time_of h ≤ end
+time_within h end (inl lt) = omega (arith, lt)
+time_within h end (inr b) = absurd b.1
+
+-- the events under which it is known have one end
+pub same_end : {network : Network} {befallen : List Event} {hs gs : List Happening} {known later : Known}
+    → IsKnown network befallen hs known → IsKnown network befallen gs later → later.end ≡ known.end
+same_end {known} k l = sym ((l.end known.end).1 ((k.end known.end).0 refl))
+
+-- ---- switches accept frames, and end systems have them delivered
+
+-- what becomes of a frame is that a switch accepts it, that an end system has it delivered, or none of the two
+abbrev IsRight : Network → DeviceId → Arrival → Type 0
+IsRight network device (arrivals.Accepted vl cycle) = is_end network device ≡ false
+IsRight network device (arrivals.Delivered vl cycle) = is_end network device ≡ true
+IsRight network device other = Unit {0}
+
+module _ (network : Network) (device : DeviceId) where
+  taken_right : (vl : VlId) (cycle : ℕ) (end : Bool) → is_end network device ≡ end
+      → IsRight network device (if end then arrivals.Delivered vl cycle else arrivals.Accepted vl cycle)
+  taken_right vl cycle true is = is
+  taken_right vl cycle false is = is
+
+  row_right : (at : Standpoint) (entry : Entry) (fault : Option Reason)
+      → IsRight network device (taken_or_fault network device at entry fault)
+  row_right at entry (Some reason) = tt
+  row_right at entry None = taken_right entry.row.vl (cycle_at network (clock_of at)) (is_end network device) refl
+
+  entry_right : (at : Standpoint) (size : ℕ) (last : VlId → Option ℕ) (entry : Option Entry)
+      → IsRight network device (entry_arrival network device at size last entry)
+  entry_right at size last None = tt
+  entry_right at size last (Some entry) = row_right at entry (row_fault network at entry size (last entry.row.vl))
+
+  octets_right : (link : LinkId) (at : Standpoint) (octets : List ℕ) (last : VlId → Option ℕ) (fault : Option Reason)
+      → IsRight network device (octets_or_fault network device link at octets last fault)
+  octets_right link at octets last (Some reason) = tt
+  octets_right link at octets last None = entry_right at (length octets) last _
+
+  passed_right : (relay parent : Bool) (frame : Pcf) (point : Units) → IsRight network device
+      (if relay then (if parent then arrivals.Passes frame Up else arrivals.PassesAndWaits frame Down point) else
+      arrivals.Waits frame point)
+  passed_right true true frame point = tt
+  passed_right true false frame point = tt
+  passed_right false parent frame point = tt
+
+  frame_right : (link : LinkId) (at : Standpoint) (frame : Pcf) (fault : Option Reason)
+      → IsRight network device (frame_or_fault network device link at frame fault)
+  frame_right link at frame (Some reason) = tt
+  frame_right link at frame None = passed_right (is_relay network device) (is_parent_of network device link) _ _
+
+module _ (s : Scenario) (hs : List Happening) (device : DeviceId) (t : ℕ) (link : LinkId) (cause : ℕ) where
+  arrival_right : (signal : Signal) → IsRight s.network device (arrival_of s hs device t link cause signal)
+  arrival_right (control (Err refusal)) = tt
+  arrival_right (control (Ok frame)) =
+      frame_right s.network device link (standpoint s hs device t) frame
+      (frame_fault s.network device link (standpoint s hs device t) frame)
+  arrival_right (timed octets) =
+      octets_right s.network device link (standpoint s hs device t) octets (last_taken hs device t link cause)
+      (octets_fault s.network (standpoint s hs device t) octets)
+
+  outcome_right : {is : Arrival} → ArrivesAs s hs device t link cause is → IsRight s.network device is
+  outcome_right a = subst (IsRight s.network device) (sym a.becomes) (arrival_right a.signal)
+
+caused_right : (s : Scenario) (hs : List Happening) (time : Units) (body : NoteBody) → IsCaused s hs time body → TakesRightly s.network body
+caused_right s hs time (notes.Accepted device link cause vl cycle) a =
+    outcome_right s hs device (amount time) link cause a
+caused_right s hs time (notes.Delivered device link cause vl cycle) a =
+    outcome_right s hs device (amount time) link cause a
+caused_right s hs time body a = tt
+
+-- by a record that is due a switch accepts a frame, or an end system has it delivered
+pub takes_rightly : {s : Scenario} {hs : List Happening} {h : Happening} → IsDue s hs h
+    → TakesRightly s.network h.note.body
+takes_rightly {s} {hs} {h} due = caused_right s hs h.note.time h.note.body due.cause

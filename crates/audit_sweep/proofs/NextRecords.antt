@@ -1,11 +1,43 @@
--- What is known of records goes on by the next one.
-use Rattle.{audit_devices.specs.{Effects.subject_of, Showing.IsSteady}, net_plan.specs.Belonging.HasDevice, run_law.specs.declared.note.Note.Note}
-use Rattle.{audit_law.specs.events.Readings.ReadsOn, std.proofs.Common.{◌⊎◌, arith, suc, zero}, tte_units.proofs.general_lemmas.Lists.pushed}
-use Rattle.audit_sweep.proofs.Words.{◌++◌, ◌∙◌, ◌∷◌, ◌≡◌, DeviceId, Happening, IsBodyOf, IsCaused, IsDue, KeptRecord, List, Network, NoteBody, Scenario, Some}
-use Rattle.audit_sweep.{proofs.Words.{[], ap, happening, inl, inr, numbered, subst, sym, ℕ}, specs.records.Keeping.{record_of, records_of}}
-use Rattle.{audit_sweep.specs.Knowing.{AllShowByCause, AllYoung}, run_law.proofs.{control.Arrived.arrived_young, records.Happenings.none_numbered}}
-use Rattle.std.proofs.lemmas.List.{map-append}
+-- Records that are sound, and what is known of them, go on by one more.
+use Rattle.std.proofs.{Common.{◌⊎◌, arith, suc, zero}, lemmas.List.{append-nil, map-append}}
+use Rattle.audit_devices.specs.{Effects.subject_of, Showing.IsSteady}
+use Rattle.audit_law.specs.{events.Readings.ReadsOn, law.Findings.{AreSound, IsSound}}
+use Rattle.audit_sweep.{specs.{Knowing.{AllShowByCause, AllYoung}, records.Keeping.{record_of, records_of}}}
+use Rattle.audit_sweep.proofs.Words
+use Words.{◌++◌, ◌∙◌, ◌∷◌, ◌≡◌, DeviceId, Happening, IsBodyOf, IsCaused, IsDue, KeptRecord, List, Network, NoteBody}
+use Words.{Scenario, Some, [], ap, happening, inl, inr, numbered, subst, sym, ℕ}
+use Rattle.net_plan.specs.Belonging.{HasDevice}
+use Rattle.run_law.{proofs.{control.Arrived.arrived_young, records.Happenings.none_numbered, runs.Grow.in_two}}
+use Rattle.run_law.{specs.declared.note.Note.Note}
+use Rattle.tte_units.proofs.general_lemmas.Lists.{pushed}
 use Rattle.run_law.specs.declared.note.NoteBody.TheVariants as notes
+
+-- ---- records that are sound, and one more
+
+-- records that are sound, and a further one that is sound given them
+pub sound_more : {N : Type 0} {place : N → List ℕ} (IsDue : List N → N → Type 0) {mark : List ℕ} {ns : List N}
+    {x : N} → AreSound place IsDue mark ns → IsSound place IsDue mark ns x → AreSound place IsDue mark (ns ++ x ∷ [])
+sound_more {N} {place} IsDue {mark} {ns} {x} sound one ps qs y e =
+    elim (in_two ns ps (y ∷ qs) x e) [
+      | inl none ↦ let never : y ∷ qs ≡ [] = none.0 in absurd cc
+      | inr l ↦ by l.others l.last l.whole
+    ]
+  where
+    by : (others : List N) → y ∷ qs ≡ others ++ x ∷ [] → ns ≡ ps ++ others → IsSound place IsDue mark ps y
+    by [] last whole =
+        let same : x ≡ y = cc in
+        subst (λ t. IsSound place IsDue mark ps t) same (subst (λ t. IsSound place IsDue mark t x) (whole ∙ append-nil ps) one)
+    by (o ∷ os) last whole = let same : o ≡ y = cc in sound ps os y (whole ∙ ap (λ (t : N). ps ++ t ∷ os) same)
+
+-- no records are sound
+pub sound_none : {N : Type 0} (place : N → List ℕ) (IsDue : List N → N → Type 0) (mark : List ℕ) → AreSound place IsDue mark []
+sound_none {N} place IsDue mark ps qs x e = absurd (no_part ps e)
+  where
+    no_part : (ps : List N) → [] ≡ ps ++ x ∷ qs → ⊥
+    no_part [] e = cc
+    no_part (p ∷ ps) e = cc
+
+-- ---- what is known of records goes on by the next one
 
 -- of the records with the next one, each is one of them, or the next one
 numbered_next : (hs : List Happening) (h g : Happening) (number : ℕ) → numbered (hs ++ h ∷ []) number ≡ Some g → (numbered hs number ≡ Some g) ⊎ (h ≡ g)

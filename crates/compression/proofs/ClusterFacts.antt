@@ -1,6 +1,6 @@
 -- Points of a cluster.
 use Rattle.std.{proofs.{Common.{◌*ℤ◌, ◌+ℤ◌, ◌∷◌, ◌≡◌, ◌≤ℤ◌, List, [], arith, length, pos, ℤ}, lemmas.Int.ints}, specs.List.Contains}
-use Rattle.compression.{proofs.Elements.in_none, specs.Clusters.{AreClusters, Cluster, Point, end_of}}
+use Rattle.compression.{proofs.Growth.in_none, specs.Clusters.{AreClusters, Cluster, Point, end_of}}
 
 pub ends_soon : (ow : ℤ) (o : Point) (ps : List Point) → pos 0 ≤ℤ ow → end_of ow o ps ≤ℤ (o.reading +ℤ (pos 2 *ℤ ow))
 ends_soon ow o ps some = grind (arith, length, ints)

@@ -2,7 +2,8 @@
 use Rattle.device_rules.specs.Entering.{AreRows, HaveEntries, entering_by, entrance_cmp, entrance_of, first_entering, is_by, is_of}
 use Rattle.{device_rules.specs.declared.entrances.EnteringRow.EnteringRow, tte_units.proofs.general_lemmas.Options.{no_entry, some_or_none}}
 use Rattle.{device_rules.specs.declared.entrances.{Entrance.Entrance, Which.Which}, schedule_tables.specs.{Entries.IsEntry, declared.entry.Entry.Entry}}
-use Rattle.{net_plan.{proofs.{SameIds.same_link, TableFacts.id_by}, specs.Ranges.IsInRange}, std.{proofs.Common.⊎_elim, specs.Ordering.{is_eq, nat_cmp}}}
+use Rattle.std.{proofs.Common.⊎_elim, specs.Ordering.{is_eq, nat_cmp}}
+use Rattle.net_plan.{proofs.{SameIds.same_link, Trees.id_by}, specs.Ranges.IsInRange}
 use Rattle.{net_plan.specs.declared.{ids.LinkId.LinkId, network.Network.Network, tables.Row.Row}, run_law.proofs.timed.Rows.{entry_at, has_entry}}
 use Rattle.{run_law.specs.timed.Arrivals.entry_of, std.{proofs.lemmas.{Cmp.ranked, List.Elements.All-take}, specs.BTreeMap.{BTreeMap, Updates, get}}}
 use Rattle.std.proofs.Common.{◌&&◌, ◌++◌, ◌∙◌, ◌∷◌, ◌≡◌, Bool, List, None, Option, Some, [], ap, arith, cond, refl, subst, sym, take, true, ℕ}

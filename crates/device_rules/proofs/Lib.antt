@@ -1,10 +1,8 @@
 pub mod least_key_lemmas
 pub mod frames_lemmas
 pub mod Numbers
-pub mod Places
+pub mod Takings
 pub mod Verdicts
 pub mod KeptRows
-pub mod Entered
-pub mod Takings
 pub mod AtPlace
 pub mod FirstKinds

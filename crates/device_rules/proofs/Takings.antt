@@ -1,20 +1,175 @@
--- Time-triggered frames that a device takes.
-use Rattle.device_rules.{proofs.Entered.{by_entry, entered_at, none_mapped, some_mapped}, specs.Entering.{entering_by, entrance_cmp, fault_of}}
-use Rattle.device_rules.{proofs.KeptRows.{enters, made}, specs.{Headings.{heading_fault, heading_of}, declared.{heading.Heading.Heading, intake.Intake.Intake}}}
-use Rattle.device_rules.specs.{Intakes.{HasTaken, IsWhole, Takes, cycle_of, last_by, last_in, row_arrival}, declared.entrances.EnteringRow.EnteringRow}
-use Rattle.{device_rules.specs.declared.entrances.Which.TheVariants.Into, run_law.specs.device.Standpoints.{Standpoint, clock_of, cycle_at, offset_in_cycle}}
-use Rattle.{net_plan.proofs.SameIds.same_vl, run_law.specs.machines.Calls.IsLinkAt, std.specs.{BTreeMap.get, Int.int_rem_euclid, List.{All}}}
-use Rattle.{net_plan.specs.Ranges.{IsInRange, IsRowInRange, IsVlInRange}, std.specs.Prelude.{IfSome, filter, find, option_and_then, option_map, unwrap_or}}
-use Rattle.{net_plan.specs.declared.ids.DeviceId.DeviceId, run_law.specs.declared.steps.Arrival.Arrival, std.proofs.lemmas.Bool.{cases_Bool, eqb-true}}
-use Rattle.{net_plan.specs.declared.ids.{LinkId.LinkId, VlId.VlId}, run_law.specs.machines.Nodes.TakenFrame, tte_units.specs.declared.units.Units.Units}
-use Rattle.{net_plan.specs.declared.network.Network.Network, run_law.specs.declared.judgement.Reason.Reason, schedule_tables.specs.declared.entry.Entry.Entry}
-use Rattle.net_plan.specs.declared.tables.{Row.Row, VirtualLink.VirtualLink}
-use Rattle.tte_units.proofs.general_lemmas.Lists.{find_of, in_all, last_kept, last_pushed, some_at}
-use Rattle.run_law.specs.timed.Arrivals.{entry_arrival, entry_entering, entry_of, octets_or_fault, taken_by, taken_or_fault, timed_arrival}
-use Rattle.std.proofs.Common.{◌++◌, ◌<◌, ◌==◌, ◌∙◌, ◌∷◌, ◌≡◌, ◌≤◌, Bool, List, None, Option, Some, [], ap, arith, cond, false, length, map, refl, slice_get}
-use Rattle.std.proofs.{Common.{suc, sym, true, zero, ℕ, ℤ, ⊎_elim}, lemmas.List.{Elements.{All-head, All-map, All-tail, filter-append}, length-map}}
+-- Time-triggered frames that a device takes, the rows by which they enter it, and the links they come by.
+use Rattle.std.proofs.Common
+use Common.{if◌then◌else◌, ◌&&◌, ◌++◌, ◌<◌, ◌==◌, ◌∙◌, ◌∷◌, ◌≡◌, ◌≤◌, Bool, List, None, Option, Some, [], ap, arith}
+use Common.{cond, false, get_or, length, map, refl, slice_get, subst, suc, sym, true, zero, ℕ, ℤ, ⊎_elim}
+use Rattle.std.proofs.lemmas.{Bool.{cases_Bool, eq-eqb, eqb-true, false≢true}}
+use Rattle.std.proofs.lemmas.{List.{Elements.{All-head, All-map, All-tail, filter-append}, length-map}}
+use Rattle.std.proofs.lemmas.{Option.{same_Some, slice_get_past, slice_get_read}}
+use Rattle.std.specs.{BTreeMap.get, Int.int_rem_euclid, List.All, Option.option_map_or}
+use Rattle.std.specs.{Prelude.{IfSome, filter, find, option_and_then, option_map, unwrap_or}}
+use Rattle.device_rules.{proofs.KeptRows.{enters, made}}
+use Rattle.device_rules.specs.{Headings.{heading_fault, heading_of}}
+use Rattle.device_rules.specs.{Intakes.{HasTaken, IsWhole, Takes, cycle_of, last_by, last_in, row_arrival}}
+use Rattle.device_rules.specs.Entering
+use Entering.{AreEntrances, HasPeriod, comes_by, entering_by, entrance_cmp, fault_of, first_entering, is_of}
+use Rattle.device_rules.specs.declared.{heading.Heading.Heading, intake.Intake.Intake}
+use Rattle.device_rules.specs.declared.entrances.{EnteringRow.EnteringRow, Entrance.Entrance, Entrances.Entrances}
+use Rattle.device_rules.specs.declared.entrances.{Which.{TheVariants.{Into, On}, Which}}
+use Rattle.net_plan.{proofs.SameIds.{same_link, same_vl}}
+use Rattle.net_plan.specs.{Places.link_at, Ranges.{IsInRange, IsRowInRange, IsVlInRange}}
+use Rattle.net_plan.specs.declared.{ids.{DeviceId.DeviceId, LinkId.LinkId, VlId.VlId}, network.Network.Network}
+use Rattle.net_plan.specs.declared.tables.{Link.Link, Row.Row, VirtualLink.VirtualLink}
+use Rattle.net_plan.specs.declared.tables.{Way.{TheVariants.{Down, Up}, Way}}
+use Rattle.run_law.specs.{control.Arrivals.{are_others, is_of_other_member}}
+use Rattle.run_law.specs.{declared.{judgement.Reason.Reason, steps.Arrival.Arrival}}
+use Rattle.run_law.specs.{device.Standpoints.{Standpoint, clock_of, cycle_at, offset_in_cycle}}
+use Rattle.run_law.specs.{machines.{Calls.IsLinkAt, Nodes.TakenFrame}}
+use Rattle.run_law.specs.{scenario.{Devices.{is_end, is_parent_of, member_of}, Ways.{is_way, is_way_of, way_to}}}
+use Rattle.run_law.specs.timed.Arrivals
+use Arrivals.{entry_arrival, entry_entering, entry_of, is_row_with, octets_or_fault, row_fault, taken_by}
+use Arrivals.{taken_or_fault, timed_arrival}
+use Rattle.schedule_tables.specs.declared.entry.Entry.{Entry}
+use Rattle.tte_units.{specs.declared.{frames.members.Members.Members, units.Units.Units}}
+use Rattle.tte_units.proofs.general_lemmas.{Lists.{find_of, in_all, last_kept, last_pushed, some_at}, Naturals.unequal}
+use Rattle.tte_units.proofs.general_lemmas.{Options.opened}
 use Rattle.run_law.specs.declared.judgement.Reason.TheVariants as reasons
 use Rattle.run_law.specs.declared.steps.Arrival.TheVariants as arrivals
+
+-- ---- the row by which a frame enters a device
+
+-- ---- the row that is kept
+
+find_alike : (f g : Row → Bool) (rows : List Row) → ((row : Row) → f row ≡ g row) → find f rows ≡ find g rows
+find_alike f g [] same = refl
+find_alike f g (row ∷ rows) same =
+    rw (same row) ((rw (find_alike f g rows same)))
+
+-- the row by which a frame with the id comes on the way of the link
+abbrev entering_on : Network → LinkId → ℕ → Way → Option Entry
+entering_on network link id way =
+    option_and_then (entry_of network) (find (λ row. is_way_of link way row.link row.way && is_row_with network id row) network.row)
+
+-- where rows are alike to those of a way of the link, the same one is the first
+alike : (network : Network) (which : Which) (link : LinkId) (id : ℕ) (way : Way)
+    → ((row : Row) → (link.0 == row.link.0) ≡ true → is_of network which row ≡ is_way way row.way)
+    → first_entering network which network.row (made link id) ≡ entering_on network link id way
+alike network which link id way same =
+    ap (option_and_then (entry_of network))
+    (find_alike _ _ network.row (λ row. gated (is_of network which row) (link.0 == row.link.0) (is_way way row.way) (is_row_with network id row) (same row)))
+  where
+    gated : (e b v w : Bool) → (b ≡ true → e ≡ v) → (e && (b && w)) ≡ ((b && v) && w)
+    gated e true v w h = rw (h refl) refl
+    gated true false v w h = refl
+    gated false false v w h = refl
+
+module _ (network : Network) (entrances : Entrances) where
+  row_found : (way : Way) (e : Entrance) (o : Option EnteringRow) → AreEntrances network entrances
+      → (way ≡ Up → o ≡ get entrance_cmp entrances.up e) → (way ≡ Down → o ≡ get entrance_cmp entrances.down e)
+      → o ≡ option_map (entering_by network) (first_entering network (On way) network.row e)
+  row_found Up e o are up down = up refl ∙ are.up e
+  row_found Down e o are up down = down refl ∙ are.down e
+
+  -- what was looked up is kept of the row by which the frame enters
+  pub found_is : (device : DeviceId) (link : LinkId) (id : ℕ) (way : Way) (o : Option EnteringRow)
+      → AreEntrances network entrances → way ≡ way_to network device link
+      → (way ≡ Up → o ≡ get entrance_cmp entrances.up (record { link = link; id = id }))
+      → (way ≡ Down → o ≡ get entrance_cmp entrances.down (record { link = link; id = id }))
+      → o ≡ option_map (entering_by network) (entry_entering network device link id)
+  found_is device link id way o are is up down =
+      row_found way (record { link = link; id = id }) o are up down
+      ∙ ap (option_map (entering_by network)) (alike network (On way) link id way (λ row e. refl))
+      ∙ (rw is)
+
+-- a row comes to the device by a link of its own on the way on which it receives
+comes_same : (parent : Bool) (l : Link) (device : DeviceId) (way : Way) → (l.parent.0 == device.0) ≡ parent → (parent ≡ false → (l.child.0 == device.0) ≡ true)
+    → comes_by way l device ≡ is_way (if parent then Up else Down) way
+comes_same true l device Up is child = is
+comes_same true l device Down is child = rw is refl
+comes_same false l device Up is child = is
+comes_same false l device Down is child = rw (is, child refl) refl
+
+link_of : (network : Network) (device : DeviceId) (link : LinkId) → IsLinkAt network device link
+    → (l : Link) × (link_at network link ≡ Some l) × ((l.parent.0 == device.0) ≡ false → (l.child.0 == device.0) ≡ true)
+link_of network device link is = grind (arith, opened, eq-eqb, false≢true)
+
+-- the row by which a frame enters the device by one of its links
+entered_at : (network : Network) (device : DeviceId) (link : LinkId) (id : ℕ) → IsLinkAt network device link
+    → first_entering network (Into device) network.row (made link id) ≡ entry_entering network device link id
+entered_at network device link id is =
+    let l = link_of network device link is in
+    alike network (Into device) link id (way_to network device link) (λ row e.
+    let same = same_link link row.link (eqb-true link.0 row.link.0 e) in
+    ap (λ o. option_map_or (λ x. comes_by row.way x device) o false)
+    (subst (λ k. link_at network k ≡ Some l.0) same l.1)
+    ∙ comes_same (is_parent_of network device link) l.0 device row.way
+    (sym (rw l.1))
+    (λ none. l.2 (sym (rw l.1) ∙ none)))
+
+some_mapped : (network : Network) (o : Option Entry) (row : EnteringRow) → option_map (entering_by network) o ≡ Some row
+    → (entry : Entry) × (o ≡ Some entry) × (row ≡ entering_by network entry)
+some_mapped network None row e = absurd cc
+some_mapped network (Some entry) row e = (entry, refl, sym (same_Some _ _ e))
+
+none_mapped : (network : Network) (o : Option Entry) → option_map (entering_by network) o ≡ None → o ≡ None
+none_mapped network None e = refl
+none_mapped network (Some entry) e = absurd cc
+
+-- ---- its virtual link
+
+vl_by : (row : Row) (vl : Option VirtualLink) (link : Option Link) (entry : Entry)
+    → option_and_then (λ v. option_map (λ l. record { row = row; vl = v; link = l }) link) vl ≡ Some entry → vl ≡ Some entry.vl
+vl_by row None link entry e = absurd cc
+vl_by row (Some v) None entry e = absurd cc
+vl_by row (Some v) (Some l) entry e = ap (λ x. Some x.vl) (same_Some _ _ e)
+
+has_vl : (network : Network) (o : Option Row) (entry : Entry) → option_and_then (entry_of network) o ≡ Some entry
+    → (i : ℕ) × (slice_get network.vl i ≡ Some entry.vl)
+has_vl network None entry e = absurd cc
+has_vl network (Some row) entry e = (row.vl.0, vl_by row (slice_get network.vl row.vl.0) (slice_get network.link row.link.0) entry e)
+
+module _ (network : Network) (device : DeviceId) (link : LinkId) where
+  -- the row that is kept has a period
+  pub has_period : (id : ℕ) (row : EnteringRow) → IsInRange network
+      → option_map (entering_by network) (entry_entering network device link id) ≡ Some row → HasPeriod row
+  has_period id row range e =
+      let m = some_mapped network (entry_entering network device link id) row e in
+      let v = has_vl network _ m.0 m.1 in
+      subst HasPeriod (sym m.2) (in_all (IsVlInRange network) network.vl v.0 m.0.vl range.vls v.1).period_least
+
+  -- ---- what becomes of the frame
+
+  by_entry : (at : Standpoint) (octets : List ℕ) (heading : Heading) (o : Option Entry) (last : VlId → Option ℕ)
+      → heading_of octets ≡ heading → heading_fault at.takes_part at.state network.marker heading ≡ None
+      → entry_entering network device link heading.id ≡ o
+      → timed_arrival network device link at octets last ≡ entry_arrival network device at (length octets) last o
+  by_entry at octets heading o last is none there = grind (arith, length)
+
+  -- a frame that enters by a row is judged by it
+  pub entered : (at : Standpoint) (octets : List ℕ) (heading : Heading) (row : EnteringRow)
+      → heading_of octets ≡ heading → heading_fault at.takes_part at.state network.marker heading ≡ None
+      → option_map (entering_by network) (entry_entering network device link heading.id) ≡ Some row
+      → (entry : Entry) × (row ≡ entering_by network entry)
+      × ((last : VlId → Option ℕ) → timed_arrival network device link at octets last
+      ≡ taken_or_fault network device at entry (row_fault network at entry (length octets) (last row.vl)))
+  entered at octets heading row is none e =
+      let m = some_mapped network (entry_entering network device link heading.id) row e in (
+        m.0,
+        m.2,
+        λ last. by_entry at octets heading (Some m.0) last is none m.1
+            ∙ ap (λ r. taken_or_fault network device at m.0
+            (row_fault network at m.0 (length octets) (last r.vl))) (sym m.2),
+      )
+
+  -- a frame that enters by no row is unknown
+  pub unknown : (at : Standpoint) (octets : List ℕ) (heading : Heading) → heading_of octets ≡ heading
+      → heading_fault at.takes_part at.state network.marker heading ≡ None
+      → option_map (entering_by network) (entry_entering network device link heading.id) ≡ None
+      → (last : VlId → Option ℕ) → timed_arrival network device link at octets last ≡ arrivals.Dropped reasons.Unknown
+  unknown at octets heading is none e last =
+      by_entry at octets heading None last is none
+      (none_mapped network (entry_entering network device link heading.id) e)
+
+-- ---- time-triggered frames that a device takes
 
 -- ---- what is kept can be judged
 
@@ -169,3 +324,44 @@ none_last xs vls none vl =
 -- there is one for each virtual link
 pub none_count : (xs : List (Option ℕ)) (vls : List VirtualLink) → xs ≡ map (λ vl. None) vls → length xs ≡ length vls
 none_count xs vls none = rw none (length-map vls _)
+
+-- ---- the links of a network, and the end systems at them
+
+-- what was read at a place of a list
+pub read_at : {X : Type 0} (xs ys : List X) (i : ℕ) (x : X) → xs ≡ ys → i < length xs → x ≡ get_or xs i x → slice_get ys i ≡ Some x
+read_at xs ys i x e lt at = rw e at (slice_get_read xs (length xs) i x refl lt at)
+
+equal : (a b : ℕ) → a ≡ b → (a == b) ≡ true
+equal a b e = grind arith
+
+regrouped : (a b c : Bool) → ((a && b) && c) ≡ (a && (b && c))
+regrouped true b c = refl
+regrouped false b c = refl
+
+-- is the device an end system whose bit is not the members?
+abbrev other_end : Network → DeviceId → Members → Bool
+other_end network device members = is_end network device && are_others (member_of network device) members
+
+module _ (network : Network) (device : DeviceId) (link : LinkId) (members : Members) where
+  other_by : (l : Link) → link_at network link ≡ Some l → is_of_other_member network device link members ≡
+      ((l.parent.0 == device.0) && other_end network l.child members)
+  other_by l e = rw e (regrouped (l.parent.0 == device.0) (is_end network l.child)
+      (are_others (member_of network l.child) members))
+
+  -- the device is the link's parent
+  pub other_below : (l : Link) (is : Bool) → link_at network link ≡ Some l → l.parent.0 ≡ device.0
+      → is ≡ other_end network l.child members → is ≡ is_of_other_member network device link members
+  other_below l is e h at =
+      at ∙ sym (other_by l e ∙ (rw (equal l.parent.0 device.0 h)))
+
+  -- it is not
+  pub none_below : (l : Link) → link_at network link ≡ Some l → (l.parent.0 ≡ device.0 → ⊥)
+      → (l.parent.0 == device.0) ≡ is_of_other_member network device link members
+  none_below l e h =
+      unequal l.parent.0 device.0 h
+      ∙ sym (other_by l e ∙ (rw (unequal l.parent.0 device.0 h)))
+
+  -- there is no such link
+  pub no_link : (xs : List Link) → xs ≡ network.link → length xs ≤ link.0
+      → false ≡ is_of_other_member network device link members
+  no_link xs e past = rw (slice_get_past network.link link.0 (rw (sym e) past)) refl

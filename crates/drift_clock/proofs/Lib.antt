@@ -1,9 +1,6 @@
-pub mod Rounding
-pub mod Reaches
+pub mod Drifts
 pub mod Histories
 pub mod Readings
 pub mod Sums
-pub mod SlipLaw
 pub mod ExactSegments
-pub mod Drifts
 pub mod transparent_lemmas

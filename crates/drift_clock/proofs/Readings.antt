@@ -2,7 +2,7 @@
 use Rattle.std.proofs.Common.{◌*◌, ◌+◌, ◌-◌, ◌<◌, ◌^◌, ◌∙◌, ◌∷◌, ◌≡◌, ◌≤◌, List, [], ap, arith, inl, inr, refl, subst, unsigned_abs, ℕ, ℤ}
 use Rattle.std.proofs.{Math.Nat.mul-le-mul_right, lemmas.Bool.cases_lt}
 use Rattle.drift_clock.{proofs.Histories.{InOrder, in_order, up_to-all, up_to-cons, up_to-late, up_to-none}, specs.RateSteps.{RateStep, up_to}}
-use Rattle.drift_clock.{proofs.Rounding.{rounded-measures, rounded-mono, rounded-zero}, specs.Counts.{Advances, rounded}}
+use Rattle.drift_clock.{proofs.Drifts.{rounded-measures, rounded-mono, rounded-zero}, specs.Counts.{Advances, rounded}}
 use Rattle.drift_clock.specs.{ClockLaws.{AlwaysBeginsAtZero, AlwaysKeepsClockLaws, ReadsItsSteps}, Readings.{reading_at, value_after}, SteadyLaws.time_advances}
 
 -- a step keeps the count, which then drifts by its rate

@@ -1,8 +1,17 @@
 -- What comes of the events of an instant is settled, as its law asks for it.
-use Rattle.{drift_world.proofs.Alike.ports_at, std.specs.List.filter_map, world_law.proofs.runs.Worlds.length_is}
-use Rattle.{drift_world.{proofs.Fits.{all_put_some, have_octets}, specs.declared.state.State.State}, run_law.proofs.law.FirstPlaces.numbered_within}
+use Rattle.std.specs.List.{filter_map}
+use Rattle.drift_world.{specs.declared.state.State.State}
+use Rattle.drift_world.proofs.{ActSteps.{is_put_in, one_put_in, order_put, some_put_in}, Alike.ports_at}
+use Rattle.drift_world.proofs.{Signals.{all_put_some, have_octets}}
+use Rattle.run_law.proofs.law.FirstDeliveries.{numbered_within}
+use Rattle.world_law.{specs.steps.Befalling.{ArePutBy, befell_bodies, bodies_of}}
+use Rattle.world_law.proofs.{runs.Worlds.length_is}
+use Rattle.world_law.proofs.steps_lemmas.{steps.Applied.no_coming}
+use Rattle.world_law.proofs.steps_lemmas.befalling.{Befell.befell_step}
+use Rattle.world_law.proofs.steps_lemmas.befalling.{EventRecords.{on_within, put_event, put_in_more, sent_on, wires_of}}
+use Rattle.world_state.{proofs.WorldSteps.{IsFreshOf, ports_settled}}
+use Rattle.world_state.{specs.Befalling.{AreSettledBy, bare, entry_of, lost_on, record_of, sent_up, turned_on}}
 use Rattle.{drift_world.proofs.Words.InOrder, run_law.specs.records.Causes.IsOfThisTime, world_state.specs.declared.queue.Entry.Entry}
-use Rattle.{drift_world.proofs.Puts.{is_put_in, one_put_in, order_put, some_put_in}, world_law.specs.steps.Befalling.{ArePutBy, befell_bodies, bodies_of}}
 use Rattle.drift_world.proofs.Words.{◌+◌, ◌<◌, ◌↔◌, ◌∙◌, ◌∷◌, ◌≡◌, ◌⊎◌, ArePutIn, AreUnderWay, AreWays, Befallen, Bool, Content, DeviceId, Happening}
 use Rattle.drift_world.proofs.Words.{Integrating, IsIn, IsPermutation-sym, IsPutOn, IsSomePut, Kept, Link, LinkId, List, Meaning, Network, None, Note, OnWire}
 use Rattle.drift_world.proofs.Words.{Option, Port, Scenario, Settled, Some, Stands, StandsAt, Up, WayNow, WayState, What, Wire, World, [], ap, arith}
@@ -10,8 +19,6 @@ use Rattle.drift_world.proofs.Words.{at_port, befell_as, behind, delay_at, false
 use Rattle.drift_world.proofs.Words.{is_cut, is_given, is_mapped, length, length-map, link_at, map, numbers_end, numbered, on_wire, option_map_or, rank_of, refl}
 use Rattle.drift_world.proofs.Words.{same_Some, settled_at, signal_as, signal_of, slice_get-map, slice_get_within, subst, sym, time_of, time_on_port, true}
 use Rattle.{drift_world.proofs.Words.{way_as, way_now, wire_at, world_of, ℕ}, std.proofs.Common.{All, option_and_then, option_map, slice_get}}
-use Rattle.world_law.proofs.steps_lemmas.{befalling.{Befell.befell_step, Seen.{on_within, put_event, put_in_more, sent_on, wires_of}}, steps.Applied.no_coming}
-use Rattle.world_state.{proofs.Befallings.{IsFreshOf, ports_settled}, specs.Befalling.{AreSettledBy, bare, entry_of, lost_on, record_of, sent_up, turned_on}}
 use Rattle.net_plan.specs.declared.event.What.TheVariants as events
 use Rattle.run_law.specs.declared.judgement.Why.TheVariants as whys
 use Rattle.run_law.specs.declared.note.NoteBody.TheVariants as kinds

@@ -2,8 +2,10 @@
 use Rattle.drift_world.proofs.Words.{◌+◌, ◌<◌, ◌∷◌, ◌≡◌, ◌≤◌, Happening, IsBefore, IsDue, IsScenarioRun, List, Meaning, Note}
 use Rattle.drift_world.proofs.Words.{Scenario, Stands, World, [], amount, ap, append-nil, arith, chain, happenings, inl, inr, place_of, refl, subst}
 use Rattle.drift_world.{proofs.Words.{sym, true, ℕ, ℤ}, specs.Running.RunsBehindEvents}
-use Rattle.world_law.proofs.{runs.{Next.none_due, Sourced.sourced, TaskPlaces.placed_so}, steps_lemmas.steps.Applied.no_coming}
-use Rattle.{net_plan.specs.declared.event.Event.Event, world_law.{proofs.runs.Firsts.source_before, specs.source.{Next.NoneDueBefore, Sources.IsSource}}}
+use Rattle.net_plan.specs.declared.event.Event.{Event}
+use Rattle.world_law.{specs.source.{Next.NoneDueBefore, Sources.IsSource}}
+use Rattle.world_law.proofs.{runs.{Next.none_due, TaskPlaces.placed_so, Worlds.{source_before, sourced}}}
+use Rattle.world_law.proofs.{steps_lemmas.steps.Applied.no_coming}
 use Rattle.run_law.proofs.runs.Grow.{move_mark}
 
 -- nothing is to come

@@ -1,10 +1,13 @@
 -- What is fit stays so where an event befalls.
-use Rattle.drift_world.proofs.{Beginnings.found, Words.{in_permuted, inl, inr, length, map, one, slice_get-get_or, subst, true, unwrap_or, ℕ}}
+use Rattle.std.specs.Prelude.{All, slice_get}
+use Rattle.drift_world.proofs.{Beginnings.found}
+use Rattle.drift_world.proofs.Words.{in_permuted, inl, inr, length, map, one, slice_get-get_or, subst, true, unwrap_or}
+use Rattle.drift_world.proofs.Words.{ℕ}
+use Rattle.world_state.{proofs.queue_lemmas.Slots.{all_apart, each_apart}, specs.Applying.{SetsShort, way_after}}
 use Rattle.drift_world.proofs.Words.{◌+◌, ◌<◌, ◌^◌, ◌∷◌, ◌≡◌, AreApart, Bool, IsPermutation, IsPermutation-map, IsPermutation-sym, IsShort, LinkId, List, None}
 use Rattle.drift_world.proofs.Words.{Some, Waits, Way, WayState, What, [], amount, ap, arith, false, filter, if◌then◌else◌, in_all, in_filter, in_get}
 use Rattle.{run_law.{proofs.records.Order.all_of, specs.scenario.Ways.is_way_of}, std.specs.List.IsDistinct, tte_units.proofs.general_lemmas.Naturals.flips}
 use Rattle.std.proofs.{Common.nat_eq, lemmas.{List.Elements.All-filter, Map.Keys.{IsDistinct-IsPermutation, IsDistinct-cons, IsDistinct-head, IsDistinct-tail}}}
-use Rattle.{std.specs.Prelude.{All, slice_get}, world_state.{proofs.queue_lemmas.Bags.{all_apart, each_apart}, specs.Applying.{SetsShort, way_after}}}
 use Rattle.net_plan.specs.declared.event.What.TheVariants as events
 
 -- ---- the ways

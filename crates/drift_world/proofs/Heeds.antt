@@ -1,6 +1,5 @@
 -- What is to be done for a device that had as much to do before.
-use Rattle.drift_world.proofs.Dues.{due_stays}
-use Rattle.drift_world.proofs.Halves.{act_stays}
+use Rattle.drift_world.proofs.{Nearings.due_stays, Timings.act_stays}
 use Rattle.drift_world.proofs.Words.{◌+◌, ◌<◌, ◌∙◌, ◌≡◌, DeviceId, IsWell, Kept, Meaning, Moment, Network, Node, Some, ap, arith, keeps, length, refl, sym, ℕ}
 use Rattle.{device_rules.specs.Reading.StandsAsBefore, std.proofs.Common.{slice_get}}
 use Rattle.run_law.specs.machines.{Answers.called, Nodes.Phase, Tasks.{IsPending, Task, doing, emitting, reading_for}}

@@ -1,16 +1,92 @@
--- The local clock of a device, as a world shows it, is that of the records.
-use Rattle.drift_world.proofs.Words.{happening, note_of}
-use Rattle.world_law.{proofs.runs.Worlds.length_is}
-use Rattle.{drift_clock.specs.Readings.value_after, drift_world.specs.Running.clock_of, run_law.{proofs.runs.Places.either_way, specs.records.Happenings.up_to}}
-use Rattle.{drift_world.proofs.{Agreements.{all_come, reads_value}, EventRuns.none_coming, Words.{true, world_of, ℕ, ℤ}}, run_law.specs.device.States.{adjustment_after, state_after}}
-use Rattle.drift_world.proofs.Words.{◌++◌, ◌+◌, ◌<◌, ◌∙◌, ◌∷◌, ◌≡◌, ◌≤◌, Bool, DeviceId, DeviceState, Happening, IsBefore, IsComplete, IsDue, IsIn}
-use Rattle.drift_world.proofs.Words.{IsScenarioRun, List, Meaning, Network, Note, Option, RateStep, Scenario, Shows, Stands, Units, World, [], amount, ap}
-use Rattle.drift_world.proofs.Words.{append-nil, arith, breaks_at, chain, false, filter, happenings, inl, inr, is_broken, keeps, le-leb, length, list_any}
-use Rattle.drift_world.proofs.Words.{local_shown, nat_le, numbered_in, place_of, rate_steps, reading_of, refl, scenario, subst, suc, sym, time_of}
-use Rattle.{drift_world.specs.{Locals.{HasCome, IsLocalClock}, declared.state.State.State}, world_law.proofs.devices.Shown.{all_past, held_shows}}
-use Rattle.{net_plan.specs.declared.event.Event.Event, world_law.proofs.{devices.{Resting.IsWorked, TurnedOn.all_up_to}, giving.GivenParts.some_same}}
+-- The local clocks of devices, as a world shows them, are those of the records.
 use Rattle.std.specs.List.{All}
+use Rattle.drift_clock.specs.Readings.{value_after}
+use Rattle.drift_world.proofs.{Agreements.{all_come, reads_value}, EventRuns.none_coming}
+use Rattle.drift_world.proofs.Words
+use Words.{◌++◌, ◌+◌, ◌<◌, ◌^◌, ◌∙◌, ◌∷◌, ◌≡◌, ◌≤◌, Bool, DeviceId, DeviceState, Happening, IfSome, IsBefore}
+use Words.{IsComplete, IsDue, IsHeld, IsIn, IsLocalClockBefore, IsScenarioRun, Kept, List, Meaning, Network, Node, Note}
+use Words.{Option, RateStep, Scenario, Shows, Stands, Units, World, [], amount, ap, append-nil, arith, breaks_at, chain}
+use Words.{false, filter, happening, happenings, inl, inr, ints, is_broken, keeps, le-leb, length, list_any}
+use Words.{local_shown, nat_le, never_self, note_of, numbered_in, place_of, rate_steps, reading_of, refl, scenario}
+use Words.{subst, suc, sym, time_of, true, world_of, ℕ, ℤ}
+use Rattle.drift_world.specs.{Locals.{AreSmall, HasCome, IsLocalClock, IsLocalValue}, Running.clock_of}
+use Rattle.drift_world.specs.{declared.state.State.State}
+use Rattle.net_plan.specs.declared.event.Event.{Event}
+use Rattle.run_law.{proofs.runs.Places.either_way}
+use Rattle.run_law.specs.{device.States.{adjustment_after, adjustment_before, state_after, state_before}}
+use Rattle.run_law.specs.{records.Happenings.up_to}
+use Rattle.sync_state.specs.correction.Deviation.{IsSmall}
+use Rattle.world_law.{specs.world.World.{HaveBefallen, IsKept}}
+use Rattle.world_law.proofs.{devices.Standing.{IsWorked, all_past, all_up_to, held_shows}}
+use Rattle.world_law.proofs.{giving.GivenParts.{no_later_breaks, some_same}, runs.Worlds.length_is}
+use Rattle.world_state.specs.declared.kept.Kept.TheVariants.{Out, Sound}
 use Rattle.sync_state.specs.declared.state.State.TheVariants as states
+
+-- ---- the values that local clocks show, where the machines' adjustments are small
+
+-- the machine of a sound device has a small adjustment
+small_kept : {M : Type 0} (stands : Meaning M) → AreSmall stands → (kept : Kept M) (network : Network)
+    (device : DeviceId) (node : Node) → keeps stands kept network device node → node.broken ≡ false → IsSmall node.standing.adjustment.0
+small_kept stands small (Sound machine) network device node is sound = small machine network device node is.0
+small_kept stands small (Out state adjustment) network device node is sound = let no = sym is.0 ∙ sound in absurd cc
+
+-- a sum of a reading of a run and a small adjustment is a local value
+shown_small : (broken : Bool) (state : DeviceState) (reading : ℕ) (adjustment : Units) → reading ≤ 2 ^ 60 + 2 ^ 51
+    → (broken ≡ false → IsSmall adjustment.0) → IfSome (local_shown broken state reading adjustment) IsLocalValue
+shown_small true state reading adjustment low small = tt
+shown_small false states.Synchronised reading adjustment low small = grind (arith, ints)
+shown_small false other reading adjustment low small = tt
+
+-- what is kept of a device stands for a node of it, with a small adjustment unless it is broken
+small_held : {M : Type 0} (stands : Meaning M) → AreSmall stands
+    → {s : Scenario} {hs coming : List Happening} {frontier : List ℕ} {now : ℕ} {device : DeviceId}
+    {kept : Kept M} → HaveBefallen s frontier now → IsHeld (keeps stands) s hs coming frontier now device kept
+    → (node : Node) × keeps stands kept s.network device node
+    × (is_broken s device now ≡ false → IsSmall node.standing.adjustment.0)
+small_held stands small befallen (inl k) = grind (arith, small_kept, no_later_breaks)
+small_held stands small befallen (inr k) =
+    (k.node, k.is, λ sound. (let no = sym k.broken ∙ sound in absurd cc))
+
+pub local_value : {C M : Type 0} {reading : C → ℕ → ℕ} {stands : Meaning M}
+    → AreSmall stands → {s : Scenario} {own : Network} {state : State C M} {notes : List Note} {device : DeviceId}
+    {t : ℕ} {shown : Option ℤ} → Stands reading (keeps stands) s (world_of own state) notes
+    → device.0 < length own.device → t ≤ 2 ^ 60 → (shows : Shows reading stands state device t shown)
+    → reading shows.clock t ≡ s.reading device t → IfSome shown IsLocalValue
+local_value {reading} {stands} small {s} {state} {notes} {device} {t} old lt limit shows reads =
+    let now = state.time in
+    let there : device.0 < length s.network.device = rw old.same at lt in
+    let held = old.devices device there in
+    let same = some_same held.0 shows.kept _ held.1 shows.kept_is in
+    let node = small_held stands small old.befallen held.2 in
+    let is = shows.is s.network node.0 (rw (sym same) node.1) in
+    let broken = some_same _ _ _ (old.broken device there) shows.broken_is in
+    let low = (old.steady device).low t limit in
+    rw is (shown_small shows.broken node.0.standing.state (reading shows.clock t) node.0.standing.adjustment
+    (rw reads low) (λ sound. node.2 (broken ∙ sound)))
+
+-- what the clock of a device reads at a time up to which the records are all of the run
+pub complete_reads : {C M : Type 0} {fresh : ℕ → C} {after_step : C → ℕ → ℤ → C} {reading : C → ℕ → ℕ}
+    {stands : Meaning M} {own : Network} {state : State C M} {t : ℕ}
+    {events : List Event} {notes : List Note} {device : DeviceId} {shown : Option ℤ} → device.0 < length own.device
+    → IsComplete fresh after_step reading stands own (world_of own state) t events notes
+    → (shows : Shows reading stands state device t shown)
+    → reading shows.clock t ≡ reading_of fresh after_step reading own events device t
+complete_reads {fresh} {after_step} {reading} {own} {t} {events} {device} lt complete shows =
+    let clock = some_same _ _ _ shows.clock_is (complete.is.clocks device lt) in
+    rw clock (sym (reads_value fresh after_step reading own events device t complete.past))
+
+-- what it reads at the present time
+pub now_reads : {C M : Type 0} {reading : C → ℕ → ℕ} {stands : Meaning M} {s : Scenario}
+    {own : Network} {state : State C M} {notes : List Note} {device : DeviceId} {t : ℕ} {shown : Option ℤ}
+    → Stands reading (keeps stands) s (world_of own state) notes → device.0 < length own.device → t ≡ state.time
+    → (shows : Shows reading stands state device t shown) → reading shows.clock t ≡ s.reading device t
+now_reads {reading} {s} {device} {t} old lt at shows =
+    let there : device.0 < length s.network.device = rw old.same at lt in
+    let own_clock = old.clocks device there in
+    let clock = some_same _ _ _ own_clock.1 shows.clock_is in
+    rw (sym clock) (sym (own_clock.2 t (omega arith)))
+
+-- ---- the local clock of a device, as a world shows it, is that of the records
 
 -- ---- what has been up to a time
 
@@ -147,3 +223,78 @@ local_is {fresh} {after_step} {reading} {stands} {own} {network} {state} {t} {ev
     (shown_is s hs device t shows.broken broken
     (sym (at.2.state ∙ ap (λ l. state_after s l device) same)) reads
     (at.2.adjustment ∙ ap (λ l. adjustment_after s l device) same))
+
+-- ---- the local clock of a device before the records of the present time, as a world shows it, is that of the records
+
+-- ---- where only events of the instant are worked off
+
+-- no device has acted at the instant
+not_acted : {M : Type 0} {stands : Meaning M} {s : Scenario}
+    {hs coming : List Happening} {frontier : List ℕ} {now : ℕ} {device : DeviceId} {machine : M}
+    (k : IsKept stands s hs coming frontier now device machine)
+    → ((p : List ℕ) → IsBefore p frontier → IsBefore p (now ∷ 2 ∷ [])) → k.up ≡ now
+not_acted {now} k early = elim k.acted [
+  | inl yet ↦ yet.0
+  | inr over ↦ absurd (never_self (now ∷ 2 ∷ []) (early (now ∷ 2 ∷ []) (over.1 (now ∷ 2 ∷ []) (inr (refl, inl (omega arith))))))
+]
+
+-- a node of the device shows what the events of the time and the records before it say
+record ShowsSound (s : Scenario) (hs : List Happening) (device : DeviceId) (now : ℕ) (node : Node) : Type 0 where
+  pub state : node.standing.state ≡ state_before s hs device now
+  pub adjustment : node.standing.adjustment ≡ adjustment_before s hs device now
+
+-- unless the device is broken, its machine stands for such a node
+sound_shows : {M : Type 0} {stands : Meaning M} {s : Scenario}
+    {hs coming : List Happening} {frontier : List ℕ} {now : ℕ} {device : DeviceId} {machine : M}
+    → IsHeld stands s hs coming frontier now device machine → coming ≡ []
+    → ((p : List ℕ) → IsBefore p frontier → IsBefore p (now ∷ 2 ∷ []))
+    → (node : Node) × stands machine s.network device node
+    × (is_broken s device now ≡ false → ShowsSound s hs device now node)
+sound_shows {s} {hs} {coming} {now} {device} (inl k) empty early =
+    let up = not_acted k early in
+    let all : hs ++ coming ≡ hs = rw empty (append-nil hs) in (
+      k.node,
+      k.is,
+      λ sound. record {
+        state = k.left.state ∙ ap (λ n. state_before s (hs ++ coming) device n) up ∙ ap (λ l. state_before s l device now) all;
+        adjustment =
+            k.left.counted.adjustment ∙ ap (λ n. adjustment_before s (hs ++ coming) device n) up
+            ∙ ap (λ l. adjustment_before s l device now) all;
+      },
+    )
+sound_shows (inr k) empty early = (k.node, k.is, λ sound. (let no = sym k.broken ∙ sound in cc))
+
+-- ---- what is shown
+
+shown_before : (s : Scenario) (hs : List Happening) (device : DeviceId) (t : ℕ) (broken : Bool) (state : DeviceState) {x : ℕ} (a : Units)
+    → is_broken s device t ≡ broken → x ≡ s.reading device t
+    → (is_broken s device t ≡ false → (state ≡ state_before s hs device t) × (a ≡ adjustment_before s hs device t))
+    → IsLocalClockBefore s hs device t (local_shown broken state x a)
+shown_before s hs device t true state a broken reads shows = λ step. (let no = sym broken ∙ step.correct in cc)
+shown_before s hs device t false states.Synchronised a broken reads shows = grind arith
+shown_before s hs device t false other a broken reads shows = λ step.
+    (let no : ◌≡◌ other states.Synchronised = (shows broken).0 ∙ step.synchronised in cc)
+
+pub local_is_before : {C M : Type 0} {reading : C → ℕ → ℕ} {stands : Meaning M}
+    {s : Scenario} {own : Network} {state : State C M} {notes : List Note} {device : DeviceId} {t : ℕ}
+    {shown : Option ℤ} → Stands reading (keeps stands) s (world_of own state) notes → state.early ≡ true
+    → device.0 < length own.device → t ≡ state.time → Shows reading stands state device t shown
+    → IsLocalClockBefore s (happenings s.network notes) device state.time shown
+local_is_before {reading} {stands} {s} {own} {state} {notes} {device} {t} old early lt at shows =
+    let world = world_of own state in
+    let hs = happenings s.network notes in
+    let now = world.now in
+    let there : device.0 < length s.network.device = rw old.same at lt in
+    let held = old.devices device there in
+    let machine = sound_shows held.2 (none_coming old early) (old.early early) in
+    let node = machine.0 in
+    let same = some_same held.0 shows.kept _ held.1 shows.kept_is in
+    let is = shows.is s.network node (rw (sym same) machine.1) in
+    let broken = some_same _ _ _ (old.broken device there) shows.broken_is in
+    let own_clock = old.clocks device there in
+    let clock = some_same _ _ _ own_clock.1 shows.clock_is in
+    let reads : reading shows.clock t ≡ s.reading device now =
+    rw at (ap (λ c. reading c now) (sym clock) ∙ sym (own_clock.2 now (omega arith))) in
+    subst (IsLocalClockBefore s hs device now) (sym is)
+    (shown_before s hs device now shows.broken node.standing.state node.standing.adjustment broken reads
+    (λ sound. let said = machine.2 sound in (said.state, said.adjustment)))

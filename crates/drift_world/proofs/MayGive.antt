@@ -1,7 +1,9 @@
 -- A record that is the next may be given.
 use Rattle.{world_law.specs.steps.Turns.IsNext, world_state.specs.Giving.{CameBy, HasItsFrame, IsYoung, MayBeGiven}}
 use Rattle.drift_world.{proofs.Words.{IsOwn, units_of, world_of}, specs.{Giving.{AreLow, IsToGive}, declared.state.State.State}}
-use Rattle.{drift_world.proofs.Sendings.link_within, run_law.proofs.law.FirstPlaces.founded_at}
+use Rattle.drift_world.proofs.Turned.{link_within}
+use Rattle.run_law.proofs.law.FirstDeliveries.{founded_at}
+use Rattle.world_law.proofs.steps_lemmas.hearing.Receptions.{receiver_in}
 use Rattle.drift_world.proofs.Words.{◌<◌, ◌∙◌, ◌≡◌, Arrived, ArrivedAt, Arrives, Compressed, DeviceId}
 use Rattle.drift_world.proofs.Words.{Happening, HasItsOctets, IsCaused, IsDue, IsFounded, IsInRange, LinkId, List}
 use Rattle.drift_world.proofs.Words.{Network, Note, NoteBody, Option, Pcf, Scenario, Settled, Some, Units, amount}
@@ -10,7 +12,6 @@ use Rattle.drift_world.proofs.Words.{same_Some}
 use Rattle.{drift_world.proofs.Words.{slice_get_within, sym, time_of, with_clock, ℕ}, world_law.proofs.frames.Proper.{arrived_so, launched_frame}}
 use Rattle.{run_law.{proofs.control.Arrived.arrived_young, specs.runs.DueRecords.IsArrivedRecord}, std.specs.Prelude.{option_and_then, option_map}}
 use Rattle.run_law.specs.declared.note.NoteBody.TheVariants.{Sent}
-use Rattle.world_law.proofs.steps_lemmas.hearing.Receptions.{receiver_in}
 
 -- it may be given but for its octets
 record MayBut (network : Network) (body : NoteBody) (frame : Option Pcf) : Type 0 where

@@ -1,14 +1,28 @@
--- A world comes nearer to a time, turn by turn.
-use Rattle.{drift_world.proofs.{Foremost.node_of, Showings.shows_of}, run_law.specs.machines.Tasks.IsPending, std.proofs.Math.Nat.mul-le-mul_right}
-use Rattle.drift_world.proofs.Words.{◌*◌, ◌+◌, ◌-◌, ◌<◌, ◌∙◌, ◌∷◌, ◌≡◌, ◌≤ℤ◌, ◌≤◌, Befallen, Bool, Content, DeviceId, Err, IsPutOn, IsRunning, IsWell}
-use Rattle.drift_world.proofs.Words.{List, Meaning, Network, None, Ok, OnOk, Option, Result, Settled, Some, Turn, WayState, [], ap, arith, cases_lt, false}
-use Rattle.drift_world.proofs.Words.{if◌then◌else◌, in_all, inl, inr, ints, keeps, le-ltb, length, length_permutation, lt-ltb, nat_lt, pos}
-use Rattle.{drift_world.proofs.Words.{reading_for, refl, subst, suc, sym, true, zero, ℕ}, world_state.specs.Befalling.AreSettledBy}
-use Rattle.drift_world.specs.Nearing.{IsLess, Nears, acting, burden, distance, due_work}
-use Rattle.drift_world.{proofs.Parts.part_most, specs.{Acting.IsIdleAt, Parts.part_rank, declared.part.Part.Part}}
-use Rattle.world_state.specs.declared.{queue.Entry.Entry, timers.Timer.Timer}
-use Rattle.{drift_world.specs.Turns.IsActive, std.proofs.{Common.{drop, slice_get}, lemmas.List.length-drop}}
-use Rattle.{drift_world.specs.declared.{next.Turn.TheVariants.{Ends, Gives, GoesOn}, state.State.State}, world_law.proofs.giving.GivenParts.some_same}
+-- A world comes nearer to a time, turn by turn, as devices act and timers are set.
+use Rattle.std.proofs.{Common.{drop, slice_get}, Math.Nat.mul-le-mul_right, lemmas.List.length-drop}
+use Rattle.drift_world.proofs.{ActTurns.{IsTurn, comes_first as comes_then, others_then}, Foremost.node_of}
+use Rattle.drift_world.proofs.{Parts.part_most, Showings.shows_of, Timings.{rekeyed_by, set_act, waits_as}}
+use Rattle.drift_world.proofs.{Turning.{comes_first, kept_timers, rekeyed_step, runs_on, says_then}}
+use Rattle.drift_world.proofs.Words
+use Words.{if◌then◌else◌, ◌*◌, ◌++◌, ◌+◌, ◌-◌, ◌<◌, ◌↔◌, ◌∙◌, ◌∷◌, ◌≡◌, ◌≤ℤ◌, ◌≤◌, Befallen, Bool, Content, DeviceId}
+use Words.{Err, IfOk, IsIn, IsPutOn, IsRunning, IsSound, IsWell, Kept, List, Meaning, Network, Node, None, Note, Ok}
+use Words.{OnOk, Option, Result, Settled, Some, StandsOn, StandsWith, Turn, Waits, WayState, [], ap, arith, cases_lt}
+use Words.{false, in_all, inl, inr, ints, keeps, le-ltb, length, length_permutation, lt-ltb, nat_lt, never, numbers_end}
+use Words.{pos, reading_for, refl, subst, suc, sym, true, units_of, zero, ℕ}
+use Rattle.drift_world.specs.{Acting.{ActGives, IsIdleAt, IsLeft, IsNextDue}}
+use Rattle.drift_world.specs.{Nearing.{IsLess, Nears, acting, burden, distance, due_work}}
+use Rattle.drift_world.specs.{Parts.{IsLaterThan, IsNoSooner, part_rank}}
+use Rattle.drift_world.specs.{Stepping.{ActsAt, IsActTimed, IsDueBy, IsDueTimed, IsTimerBy, MayRekey, SetsOnly}}
+use Rattle.drift_world.specs.{Turns.{GivesAt, IsActive, IsKept, IsPassed, IsStep, MayWork, TurnsTo, WorkSays}}
+use Rattle.drift_world.specs.declared.{next.Turn.TheVariants.{Ends, Gives, GoesOn}}
+use Rattle.drift_world.specs.declared.{part.{Part.Part, ToDo.{TheVariants.{Next, Now}, ToDo}}}
+use Rattle.drift_world.specs.declared.{source.Source.TheVariants.Act, state.State.State}
+use Rattle.run_law.specs.machines.{Calls.HasDue, Tasks.{IsDueReading, IsPending}}
+use Rattle.tte_units.specs.declared.units.Units.{Units}
+use Rattle.world_law.proofs.giving.GivenParts.{some_same}
+use Rattle.world_state.specs.{Befalling.AreSettledBy, declared.{queue.Entry.Entry, timers.Timer.Timer}}
+
+-- ---- a world comes nearer to a time, turn by turn
 
 -- ---- what is due at the times of timers
 
@@ -155,7 +169,7 @@ module _ {C M : Type 0} (last_step : C → ℕ) (reading : C → ℕ → ℕ) (s
   part_work part = let most = part_most part in omega arith
 
   -- what a device does leaves as much to work off, and the device has nothing more to do
-  pub act_less : {part : Part} {device : DeviceId} {old mid new : State C M} → IsActive reading stands network old part device
+  act_less : {part : Part} {device : DeviceId} {old mid new : State C M} → IsActive reading stands network old part device
       → mid ≡ record old { machines = mid.machines; early = mid.early; settled = mid.settled; spare = mid.spare } → IsRunning reading stands network mid
       → new ≡ record mid { timers = new.timers }
       → ((slot : ℕ) → (slot ≡ length network.device + device.0 → ⊥) → slice_get new.timers slot ≡ slice_get mid.timers slot)
@@ -169,7 +183,7 @@ module _ {C M : Type 0} (last_step : C → ℕ) (reading : C → ℕ → ℕ) (s
       fewer_acts active acted same others later.1 (omega arith)
 
   -- or only what is of a later part, which it has put off
-  pub defer_less : (part other : Part) {device : DeviceId} {old mid new : State C M} → IsActive reading stands network old part device
+  defer_less : (part other : Part) {device : DeviceId} {old mid new : State C M} → IsActive reading stands network old part device
       → part_rank part < part_rank other
       → mid ≡ record old { machines = mid.machines; early = mid.early; settled = mid.settled; spare = mid.spare }
       → new ≡ record mid { timers = new.timers }
@@ -199,7 +213,7 @@ module _ {C M : Type 0} (last_step : C → ℕ) (reading : C → ℕ → ℕ) (s
       omega arith
 
   -- a step that leaves less to work off comes nearer to any time
-  pub less_nears : (until : ℕ) (old new : State C M) → IsWell last_step reading stands network new → new.time ≡ old.time → IsLess network old new
+  less_nears : (until : ℕ) (old new : State C M) → IsWell last_step reading stands network new → new.time ≡ old.time → IsLess network old new
       → distance network until new < distance network until old
   less_nears until old new well time (inl lt) =
       fewer ((until - new.time) + burden network new) ((until - old.time) + burden network old) (7 * length network.device) (acting network new)
@@ -253,7 +267,7 @@ on_both (Err e) P Q R p q f = tt
 
 module _ {C M : Type 0} (network : Network) (until : ℕ) (old : State C M) where
   -- what nears a state with more room nears the state before it
-  pub nears_behind : (mid new : State C M) (turn : Turn) → distance network until mid ≤ distance network until old
+  nears_behind : (mid new : State C M) (turn : Turn) → distance network until mid ≤ distance network until old
       → Nears network until mid new turn → Nears network until old new turn
   nears_behind mid new Gives le nears = tt
   nears_behind mid new Ends le nears = tt
@@ -271,3 +285,252 @@ as_far {C} {M} network until old new same entries =
     ap (λ (t : State C M). distance network until t) same
     ∙ ap (λ (l : List (Entry Content)). ((until - old.time) + ((if old.pending then 1 else 0) + length old.befell.items + length l
     + length old.waiting.items + (length network.device - old.shown))) * (7 * length network.device + 1) + acting network old) entries
+
+-- ---- what a device has done by itself, once its timer is set
+
+module _ {C M : Type 0} {last_step : C → ℕ} {reading : C → ℕ → ℕ} {stands : Meaning M} {network : Network} {part : Part}
+    {device : DeviceId} {first mid : State C M} {left : ToDo} {acts : ℕ}
+    (may : MayWork last_step reading stands network first (Act part device))
+    (turn : IsTurn last_step reading stands network part device first mid left acts) where
+  still : StandsOn reading stands network first mid
+  still s notes is =
+      (turn.still s notes is
+      (comes_first may tt is)).new
+
+  timers_are : mid.timers ≡ first.timers
+  timers_are = ap State.timers turn.same
+
+  waits : (w : Waits) → IsIn w mid.waiting.items ↔ IsIn w first.waiting.items
+  waits = waits_as first mid (ap State.waiting turn.same)
+
+  -- its timer may be set
+  pub may_set : MayRekey last_step reading stands network mid device
+  may_set = record {
+    sized = turn.sound.sized;
+    there = may.foremost.there.of;
+    few = may.range.few_devices;
+    slots = ap length timers_are ∙ may.well.timed.sized;
+    running = runs_on mid may.well still;
+  }
+
+  -- ---- nothing of it is given
+
+  -- the step, once it is
+  pub stepped : {new : State C M} → IsActTimed reading stands network new.timers new device
+      → SetsOnly (λ slot. slot ≡ length network.device + device.0) mid new
+      → IsStep last_step reading stands network first new
+  stepped {new} timed sets =
+      let there = may.foremost.there.of in
+      let others = others_then device.0 first mid turn.same turn.machines in
+      rekeyed_step may.well turn.sound there others timers_are
+      (ap State.given turn.same) still
+      (set_act there (may.well.timed.each device there) others.clocks
+      others.time (λ w at. waits w)
+      timers_are timed sets)
+
+  -- there is less to do then
+  pub less_then : (new : State C M) → SetsOnly (λ slot. slot ≡ length network.device + device.0) mid new
+      → IsWell last_step reading stands network new
+      → (rest : ToDo) → IsLeft reading stands network mid device rest → IsLaterThan part rest
+      → ((other : Part) → rest ≡ Now other → slice_get new.timers (length network.device + device.0)
+      ≡ Some (record { time = new.time; rank = part_rank other })) → IsLess network first new
+  less_then new sets well (Now other) is later put =
+      defer_less last_step reading stands network part other may.foremost.there later turn.same
+      sets.same sets.others (put other refl)
+  less_then new sets well (Next due) is later put =
+      act_less last_step reading stands network may.foremost.there turn.same may_set.running
+      sets.same sets.others well is.1
+
+  -- ---- a record of it is given
+
+  module _ {gave : State C M} {note : Note} (sound : IsSound last_step network gave)
+      (machines : (i : ℕ) → (i ≡ device.0 → ⊥) → slice_get gave.machines.items i ≡ slice_get mid.machines.items i)
+      (act : ActGives reading stands network part device mid gave note)
+      (numbers : mid.given + length mid.settled.items + 2 < numbers_end) where
+    gives : StandsWith reading stands network first gave (note ∷ [])
+    gives s notes is =
+        let ahead = comes_first may tt is in
+        let was = turn.still s notes is ahead in
+        act.then_stands s notes was.new
+        (comes_then last_step reading stands network part device first mid left acts turn numbers s notes
+        is ahead)
+
+    gave_timers : gave.timers ≡ first.timers
+    gave_timers = ap State.timers act.same ∙ timers_are
+
+    gave_time : gave.time ≡ first.time
+    gave_time = ap State.time act.same ∙ ap State.time turn.same
+
+    gave_waits : (w : Waits) → w.device.0 < length network.device
+        → IsIn w gave.waiting.items ↔ IsIn w first.waiting.items
+    gave_waits w lt =
+        let few = may.range.few_devices in
+        let aside = act.waiting w (omega arith) in
+        let before = waits w in
+        (λ i. before.0 (aside.0 i), λ i. aside.1 (before.1 i))
+
+    pub gave_may_set : MayRekey last_step reading stands network gave device
+    gave_may_set =
+        let run = may.well.running in
+        record {
+          sized = sound.sized;
+          there = may.foremost.there.of;
+          few = may.range.few_devices;
+          slots = ap length gave_timers ∙ may.well.timed.sized;
+          running = record {
+            s = run.s;
+            notes = run.notes ++ note ∷ [];
+            is = gives run.s run.notes run.is;
+          };
+        }
+
+    pub gave_kept : {new : State C M} → IsActTimed reading stands network new.timers new device
+        → SetsOnly (λ slot. slot ≡ length network.device + device.0) gave new
+        → IsKept last_step reading stands network first new (note ∷ [])
+    gave_kept {new} timed sets =
+        let there = may.foremost.there.of in
+        let time = gave_time in
+        let clocks = ap State.clocks act.same ∙ ap State.clocks turn.same in
+        let keyed =
+        set_act there (may.well.timed.each device there) clocks gave_time
+        (λ w at. gave_waits w (omega arith)) gave_timers timed sets in
+        kept_timers (note ∷ []) may.well sound
+        (record {
+          clocks = clocks;
+          ended = ap State.ended act.same ∙ ap State.ended turn.same;
+          later = omega arith;
+        })
+        gives sets.same
+        (rekeyed_by may.well.timed there
+        (λ i ne. ap (λ c. slice_get c.items i) clocks)
+        (λ i ne. machines i ne ∙ turn.machines i ne) (λ w ne lt. gave_waits w lt) gave_time gave_timers keyed)
+
+    pub gave_says : {new : State C M} → SetsOnly (λ slot. slot ≡ length network.device + device.0) gave new
+        → GivesAt first new note Gives
+    gave_says sets =
+        let now = ap State.time sets.same ∙ ap State.time act.same in (
+          act.time ∙ ap units_of (sym now),
+          now ∙ ap State.time turn.same,
+          ap State.given sets.same ∙ ap State.given act.same
+              ∙ ap (λ t. t.given + 1) turn.same,
+        )
+
+-- ---- a timer that is right for the reading at which a machine acts next
+
+module _ {C M : Type 0} {reading : C → ℕ → ℕ} (stands : Meaning M) (network : Network) where
+  -- one that is right for the machine is right for the reading
+  pub due_by : {clock : C} {machine : Kept M} {device : DeviceId} {now time : ℕ} {part : Part} (due : Option Units) (node : Node)
+      → keeps stands machine network device node → IsDueReading network device node due → ActsAt reading stands network clock machine device now time part
+      → IsDueBy reading clock due now time
+  due_by None node kept least acts = record { none = tt; one = λ lt. let task = acts.one lt node kept in least task.0 task.1 }
+  due_by (Some at) node kept least acts = record {
+    none = λ u from most reached.
+        let first = least.0 in
+        let reads = first.2 in
+        acts.none node first.0 kept first.1 u from most (omega (arith, ints));
+    one = λ lt.
+        let task = acts.one lt node kept in
+        let le = least.1 task.0 task.1 in
+        let reads = task.2 in
+        omega (arith, ints);
+  }
+
+  -- and the other way about, where it is of the right part
+  pub acts_by : {clock : C} (machine : Kept M) (device : DeviceId) {now time : ℕ} (part : Part) (due : Option Units)
+      → ((node : Node) → keeps stands machine network device node → IsDueReading network device node due) → IsDueBy reading clock due now time
+      → ((node : Node) → keeps stands machine network device node → IsNoSooner network device node (pos (reading clock time)) part)
+      → ActsAt reading stands network clock machine device now time part
+  acts_by machine device part None least by keeps_part = record {
+    none = λ node task kept pending u from most reached. absurd (least node kept task pending);
+    one = λ lt. absurd (by.one lt);
+    late = λ lt. keeps_part;
+  }
+  acts_by {clock} machine device {time} part (Some at) least by keeps_part = record {
+    none = λ node task kept pending u from most reached.
+        let le = (least node kept).1 task pending in by.none u from most (omega (arith, ints));
+    one = one;
+    late = λ lt. keeps_part;
+  }
+    where
+      one : time < never → (node : Node) → keeps stands machine network device node → HasDue network device node (pos (reading clock time))
+      one lt node kept =
+          let first = (least node kept).0 in let e = first.2 in let reads = by.one lt in
+          (first.0, first.1, omega (arith, ints))
+
+  -- it stays right for the reading where clocks, timers and time do, whatever becomes of the machine
+  pub due_stays : {last_step : C → ℕ} {old : State C M} (new : State C M) (device : DeviceId) (due : Option Units) → IsWell last_step reading stands network old
+      → device.0 < length network.device → IsNextDue stands old device due
+      → new.clocks ≡ old.clocks → new.time ≡ old.time → new.timers ≡ old.timers → IsDueTimed reading network new device.0 due
+  due_stays {old} new device due well of_it least clocks now timers clock timer own at =
+      let timed = (well.timed.each device of_it).act in
+      let clock_is = some_same _ _ _ timed.of_clock (sym (rw clocks) ∙ own) in
+      let was : Timer = record { time = timed.act; rank = part_rank timed.part } in
+      let timer_is = some_same _ _ _ timed.of_act
+      (sym (rw timers) ∙ at) in
+      let node = node_of well.running device of_it timed.of_machine in
+      let by = due_by due node.0 node.1
+      (least timed.machine network device node.0 timed.of_machine node.1) timed.acts in
+      subst (λ n. IsTimerBy reading clock due n timer) (sym now)
+      (subst (λ t. IsTimerBy reading clock due old.time t) timer_is
+      (subst (λ k. IsTimerBy reading k due old.time was) clock_is
+      (record { by = by; part = timed.part; rank_is = refl })))
+
+-- ---- what a turn says, and how near it comes
+
+-- ---- what a turn says that works a source off
+
+-- what it gives after a step, it gives after the state before
+gives_then : {E C M : Type 0} (network : Network) (old mid new : State C M) (note : Note) (result : Result Turn E) → mid.time ≡ old.time → mid.given ≡ old.given
+    → IfOk result (GivesAt mid new note) → IfOk result (WorkSays network old new note)
+gives_then network old mid new note (Ok Gives) time given says = (says.0, says.1 ∙ time, says.2 ∙ ap (λ n. n + 1) given)
+gives_then network old mid new note (Ok GoesOn) time given says = absurd says
+gives_then network old mid new note (Ok Ends) time given says = absurd says
+gives_then network old mid new note (Err e) time given says = tt
+
+module _ {C M : Type 0} {last_step : C → ℕ} {reading : C → ℕ → ℕ} {stands : Meaning M} {network : Network} where
+  -- it does not end, and where it goes on, it comes nearer
+  pub work_turns : (E : Type 0) (old : State C M) {new : State C M} (until : ℕ) (note : Note) (result : Result Turn E) → old.time < until
+      → IsWell last_step reading stands network new → IfOk result (WorkSays network old new note)
+      → IfOk result (TurnsTo reading stands network until old new note)
+  work_turns E old until note (Ok Gives) early well says =
+      let time = says.1 in record { whole = λ s notes is. tt; says = (says.0, omega arith, says.2); nears = tt }
+  work_turns E old {new} until note (Ok GoesOn) early well says =
+      let time = says.0 in
+      record {
+        whole = λ s notes is. tt;
+        says = (omega arith, says.1);
+        nears = less_nears last_step reading stands network until old new well says.0 says.2;
+      }
+  work_turns E old until note (Ok Ends) early well says = absurd says
+  work_turns E old until note (Err e) early well says = tt
+
+  pub gives_turns : (E : Type 0) (old : State C M) {new : State C M} (until : ℕ) (note : Note) (result : Result Turn E) → old.time < until
+      → IsWell last_step reading stands network new → IfOk result (GivesAt old new note) → IfOk result (TurnsTo reading stands network until old new note)
+  gives_turns E old {new} until note result early well says =
+      work_turns E old until note result early well (gives_then network old old new note result refl refl says)
+
+  -- ---- what a turn says where time passes, or behind a step
+
+  pub passed_turns : {old new : State C M} {until : ℕ} (note : Note) (turn : Turn) → IsPassed last_step reading stands network until old new turn
+      → Nears network until old new turn → TurnsTo reading stands network until old new note turn
+  passed_turns note Gives passed nears = absurd passed.says
+  passed_turns note GoesOn passed nears = record { whole = passed.whole; says = passed.says; nears = nears }
+  passed_turns note Ends passed nears = record { whole = passed.whole; says = passed.says; nears = nears }
+
+pub turns_then : {E C M : Type 0} (reading : C → ℕ → ℕ) (stands : Meaning M) (network : Network)
+    (old mid new : State C M) (until : ℕ) (note : Note) (result : Result Turn E) → mid.given ≡ old.given → mid.ended ≡ old.ended
+    → StandsOn reading stands network old mid
+    → distance network until mid ≤ distance network until old → IfOk result (TurnsTo reading stands network until mid new note)
+    → IfOk result (TurnsTo reading stands network until old new note)
+turns_then reading stands network old mid new until note (Ok turn) given ended still le turns = record {
+  whole = λ s notes is. turns.whole s notes (still s notes is);
+  says = says_then old mid new until note turn given ended turns.says;
+  nears = nears_behind network until old mid new turn le turns.nears;
+}
+turns_then reading stands network old mid new until note (Err e) given ended still le turns = tt
+
+-- a turn that does not go on need not come nearer
+pub ends_near : {C M : Type 0} (network : Network) (until : ℕ) (old new : State C M) (turn : Turn) → (turn ≡ GoesOn → ⊥) → Nears network until old new turn
+ends_near network until old new Gives not = tt
+ends_near network until old new GoesOn not = absurd (not refl)
+ends_near network until old new Ends not = tt

@@ -1,11 +1,20 @@
--- Timers that are right, and stay so.
-use Rattle.{drift_world.proofs.Fits.sized_so, std.proofs.Common.slice_get}
-use Rattle.world_state.specs.{timers.Times.AreFrom}
-use Rattle.drift_world.proofs.Words.{◌*◌, ◌+◌, ◌<◌, ◌^◌, ◌↔◌, ◌∙◌, ◌≡◌, ◌≤ℤ◌, ◌≤◌, ◌⊎◌, AreTimed, Bool, ChangesOnly, DeviceId, IsIn, IsInRange, IsRunning, Meaning}
-use Rattle.drift_world.proofs.Words.{IsSized, IsTimed, Kept, List, Network, Node, None, Option, Some, Units, Waits, ap, arith, cases_eq, cases_lt, inl, inr, ints, keeps}
-use Rattle.drift_world.{proofs.Words.{length, never, pos, refl, subst, sym, ℕ}, specs.Stepping.{ActsAt, IsRekeyed, IsRipeAt, MayRekey, SetsOnly}}
-use Rattle.drift_world.specs.{Parts.IsNoSooner, declared.part.Part.Part}
-use Rattle.{drift_world.specs.declared.state.State.State, run_law.specs.machines.{Calls.HasDue, Tasks.IsDueReading}, world_state.specs.Timing.{IsLeastPoint, IsTimeFor}}
+-- The timers of devices are right and stay so, and an event leaves all devices but one as they were.
+use Rattle.std.proofs.Common.{◌≢◌, slice_get}
+use Rattle.drift_world.proofs.{Signals.sized_so}
+use Rattle.drift_world.proofs.Words
+use Words.{if◌then◌else◌, ◌*◌, ◌+◌, ◌<◌, ◌==◌, ◌^◌, ◌↔◌, ◌∙◌, ◌∷◌, ◌≡◌, ◌≤ℤ◌, ◌≤◌, ◌⊎◌, AreTimed, Bool, ChangesOnly}
+use Words.{DeviceId, IfSome, IsIn, IsInRange, IsOfNetwork, IsRunning, IsSized, IsSomeAnd, IsTimed, Kept, List, Meaning}
+use Words.{Network, Node, None, Option, Some, Units, Waits, What, [], amount, ap, arith, breaks_at, cases_eq, cases_lt}
+use Words.{clock_after, eqb-true, false, false_from_ne_true, filter, in_filter, inl, inr, ints, keeps, length, never}
+use Words.{not, option_map_or, pos, refl, same_Some, subst, sym, true, ℕ, ℤ}
+use Rattle.drift_world.specs.{Parts.IsNoSooner, declared.{part.Part.Part, state.State.State}}
+use Rattle.drift_world.specs.Stepping
+use Stepping.{ActsAt, IsActTimed, IsRekeyed, IsRipeAt, IsRipeTimed, IsSlotBy, MayRekey, SetsOnly}
+use Rattle.run_law.specs.machines.{Calls.HasDue, Tasks.IsDueReading}
+use Rattle.world_state.specs.{Applying.{IsElsewhere, device_in}, Timing.{IsLeastPoint, IsTimeFor}, timers.Times.AreFrom}
+use Rattle.net_plan.specs.declared.event.What.TheVariants as events
+
+-- ---- timers that are right, and stay so
 
 -- the network of a state that stands is in range
 pub in_range : {C M : Type 0} {reading : C → ℕ → ℕ} {stands : Meaning M} {network : Network} {state : State C M}
@@ -88,7 +97,7 @@ acts_timed reading stands network clock machine device now (Some due) time part 
 -- ---- they stay so
 
 -- where the device is as it was, and time has not gone back
-pub still_timed : {C M : Type 0} {reading : C → ℕ → ℕ} {stands : Meaning M}
+still_timed : {C M : Type 0} {reading : C → ℕ → ℕ} {stands : Meaning M}
     {network : Network} {old : State C M} (new : State C M) {device : DeviceId}
     → IsTimed reading stands network old.timers old device
     → slice_get new.clocks.items device.0 ≡ slice_get old.clocks.items device.0
@@ -263,3 +272,190 @@ module _ {C M : Type 0} {reading : C → ℕ → ℕ} {stands : Meaning M} {netw
                   (λ is. elim is [ inl e ↦ omega arith | inr e ↦ ne (omega arith) ]))
             ];
       }
+
+-- ---- an event leaves all devices as they were but one
+
+-- ---- what an event does to another device
+
+other_clock : {C : Type 0} (after_step : C → ℕ → ℤ → C) (device : DeviceId) (time : Units) (what : What) (clock : C) → IsElsewhere what device
+    → clock_after after_step device time what clock ≡ clock
+other_clock {C} after_step device time (events.Rate other rate) clock away = grind (arith, option_map_or, amount, false_from_ne_true, eqb-true)
+other_clock after_step device time (events.Wire link way delay) clock away = refl
+other_clock after_step device time other clock away = refl
+
+pub clock_elsewhere : {C : Type 0} (after_step : C → ℕ → ℤ → C) (old new : List C) (device : DeviceId) (time : Units) (what : What)
+    → device.0 < length old → IsElsewhere what device
+    → ((d : DeviceId) (clock : C) → slice_get old d.0 ≡ Some clock → slice_get new d.0 ≡ Some (clock_after after_step d time what clock))
+    → slice_get new device.0 ≡ slice_get old device.0
+clock_elsewhere after_step old new device time what there away each =
+    let it = Rattle.drift_world.proofs.Beginnings.found old device.0 there in
+    each device it.0 it.1 ∙ ap Some (other_clock after_step device time what it.0 away) ∙ sym it.1
+
+breaks_other : (device w : ℕ) (what : What) → IsElsewhere what (record { 0 = device }) → w ≡ device → breaks_at w what ≡ false
+breaks_other device w (events.Break other) away at = false_from_ne_true (other.0 == w) (λ e. away (eqb-true other.0 w e ∙ at))
+breaks_other device w rest away at = refl
+
+in_kept : {X : Type 0} (q : X → Bool) (xs : List X) (x : X) → q x ≡ true → IsIn x xs → IsIn x (filter q xs)
+in_kept q [] x passes i = i
+in_kept q (y ∷ ys) x passes (inl same) = rw (ap q (sym same) ∙ passes) (inl same)
+in_kept q (y ∷ ys) x passes (inr i) =
+    elim (q y) as (λ b. IsIn x (if b then y ∷ filter q ys else filter q ys)) [ true ↦ inr (in_kept q ys x passes i) | false ↦ in_kept q ys x passes i ]
+
+pub waits_elsewhere : (old : List Waits) {new : List Waits} (device : DeviceId) (what : What) → new ≡ filter (λ w. not (breaks_at w.device.0 what)) old
+    → IsElsewhere what device → (w : Waits) → w.device.0 ≡ device.0 → IsIn w new ↔ IsIn w old
+waits_elsewhere old device what is away w at = grind (arith, not, breaks_at, breaks_other, in_filter, in_kept)
+
+-- ---- the timers
+
+-- the device that an event changes is one of the network
+pub its_device : (network : Network) (what : What) {device : DeviceId} → IsOfNetwork network what → device_in what ≡ Some device
+    → device.0 < length network.device
+its_device network (events.Rate d rate) of is = rw (same_Some _ _ is) at of
+its_device network (events.On d) of is = rw (same_Some _ _ is) at of
+its_device network (events.Break d) of is = rw (same_Some _ _ is) at of
+its_device network other of is = absurd cc
+
+-- the timers of another device are not among its
+module _ (devices : ℕ) (device : DeviceId) (there : device.0 < devices) where
+  not_ripe : (o : Option DeviceId) → IfSome o (λ d. d.0 ≢ device.0)
+      → IsSomeAnd o (λ d. (device.0 ≡ d.0) ⊎ (device.0 ≡ devices + d.0)) → ⊥
+  not_ripe None away is = is
+  not_ripe (Some d) away (inl e) = away (sym e)
+  not_ripe (Some d) away (inr e) = omega arith
+
+  not_act : (o : Option DeviceId) → ((d : DeviceId) → o ≡ Some d → d.0 < devices) → IfSome o (λ d. d.0 ≢ device.0)
+      → IsSomeAnd o (λ d. (devices + device.0 ≡ d.0) ⊎ (devices + device.0 ≡ devices + d.0)) → ⊥
+  not_act None within away is = is
+  not_act (Some d) within away (inl e) = let lt = within d refl in omega arith
+  not_act (Some d) within away (inr e) = away (omega arith)
+
+-- the timers are right, where those of the device that the event changes are set
+pub timed_by_event : {C M : Type 0} {reading : C → ℕ → ℕ} {stands : Meaning M}
+    {network : Network} {old : State C M} {mid new : State C M} (what : What) → AreTimed reading stands network old
+    → ((device : DeviceId) → device.0 < length network.device → IsElsewhere what device
+    → (slice_get mid.clocks.items device.0 ≡ slice_get old.clocks.items device.0)
+    × (slice_get mid.machines.items device.0 ≡ slice_get old.machines.items device.0)
+    × ((w : Waits) → w.device.0 ≡ device.0 → IsIn w mid.waiting.items ↔ IsIn w old.waiting.items))
+    → mid.timers ≡ old.timers → mid.time ≡ old.time → IsOfNetwork network what → SetsOnly (IsSlotBy network what) mid new
+    → ((device : DeviceId) → device_in what ≡ Some device → IsTimed reading stands network new.timers new device)
+    → AreTimed reading stands network new
+timed_by_event {C} {M} {reading} {stands} {network} {old} {mid} {new} what are away timers time of_network sets own = record {
+  sized = sets.sized ∙ ap length timers ∙ are.sized;
+  each = λ device there. each device there (device_in what) refl;
+  later = sets.later (rw time (rw timers are.later));
+}
+  where
+    still : (device : DeviceId) → device.0 < length network.device → IsElsewhere what device → IsTimed reading stands network new.timers new device
+    still device there else_where =
+        let is = away device there else_where in
+        let same = sets.same in
+        still_timed new (are.each device there)
+        (rw same is.0)
+        (rw same is.1)
+        (λ w at. rw same (is.2 w at))
+        (let now = ap State.time same in omega arith)
+        (sets.others device.0 (not_ripe (length network.device) device there (device_in what) else_where)
+        ∙ ap (λ l. slice_get l device.0) timers)
+        (sets.others (length network.device + device.0)
+        (not_act (length network.device) device there (device_in what) (λ d is. its_device network what of_network is) else_where)
+        ∙ ap (λ l. slice_get l (length network.device + device.0)) timers)
+
+    each : (device : DeviceId) → device.0 < length network.device → (o : Option DeviceId) → device_in what ≡ o
+        → IsTimed reading stands network new.timers new device
+    each device there None none = still device there (rw none tt)
+    each device there (Some other) is = elim (cases_eq other.0 device.0) [
+      | inl at ↦ own device (is ∙ ap (λ n. Some (let d : DeviceId = record { 0 = n } in d)) at)
+      | inr ne ↦ still device there (rw is ne)
+    ]
+
+-- ---- the two timers of a device, each by itself
+
+-- the same frames wait
+pub waits_as : {C M : Type 0} (old new : State C M) → new.waiting ≡ old.waiting → (w : Waits)
+    → IsIn w new.waiting.items ↔ IsIn w old.waiting.items
+waits_as old new same w =
+    rw same ((λ there. there), (λ there. there))
+
+module _ {C M : Type 0} {reading : C → ℕ → ℕ} (stands : Meaning M) (network : Network) (old new : State C M)
+    {device : DeviceId} where
+  -- one stays right, where what it is for does
+  pub ripe_stays : IsRipeTimed reading old.timers old device → new.clocks ≡ old.clocks → new.time ≡ old.time
+      → ((w : Waits) → w.device.0 ≡ device.0 → IsIn w new.waiting.items ↔ IsIn w old.waiting.items)
+      → slice_get new.timers device.0 ≡ slice_get old.timers device.0 → IsRipeTimed reading new.timers new device
+  ripe_stays is clocks time waiting slot = record {
+    clock = is.clock;
+    of_clock = rw clocks is.of_clock;
+    ripe = is.ripe;
+    of_ripe = slot ∙ is.of_ripe;
+    ripens = rw time (record {
+      none = λ w there at u from most reached. is.ripens.none w ((waiting w at).0 there) at u from most reached;
+      one = λ true_time. let r = is.ripens.one true_time in (r.0, (waiting r.0 r.2).1 r.1, r.2, r.3);
+    });
+  }
+
+  pub act_stays : IsActTimed reading stands network old.timers old device → new.clocks ≡ old.clocks → new.time ≡ old.time → new.machines ≡ old.machines
+      → slice_get new.timers (length network.device + device.0) ≡ slice_get old.timers (length network.device + device.0)
+      → IsActTimed reading stands network new.timers new device
+  act_stays is clocks time machines slot = record {
+    clock = is.clock;
+    of_clock = rw clocks is.of_clock;
+    machine = is.machine;
+    of_machine = rw machines is.of_machine;
+    act = is.act;
+    part = is.part;
+    of_act = slot ∙ is.of_act;
+    acts = rw time is.acts;
+  }
+
+module _ {C M : Type 0} {reading : C → ℕ → ℕ} {stands : Meaning M} {network : Network} {old mid new : State C M}
+    {device : DeviceId} where
+  -- one is set, and then the other
+  pub set_both : device.0 < length network.device → IsRipeTimed reading mid.timers mid device → SetsOnly (λ slot. slot ≡ device.0) old mid
+      → IsActTimed reading stands network new.timers new device → SetsOnly (λ slot. slot ≡ length network.device + device.0) mid new
+      → IsRekeyed reading stands network device old new
+  set_both there ripe first act then = record {
+    sets = record {
+      same = then.same ∙ ap (λ s. let k : State C M = record s { timers = new.timers } in k) first.same;
+      sized = then.sized ∙ first.sized;
+      others = λ slot apart. then.others slot (λ e. apart (inr e)) ∙ first.others slot (λ e. apart (inl e));
+      later = λ all. then.later (first.later all);
+    };
+    timed = record {
+      ripe = ripe_stays stands network mid new ripe (ap State.clocks then.same) (ap State.time then.same)
+          (λ w at. waits_as mid new (ap State.waiting then.same) w)
+          (then.others device.0 (λ e. omega arith));
+      act = act;
+    };
+  }
+
+  -- one alone is set, and the other was right
+  pub set_act : device.0 < length network.device → IsTimed reading stands network old.timers old device → mid.clocks ≡ old.clocks
+      → mid.time ≡ old.time
+      → ((w : Waits) → w.device.0 ≡ device.0 → IsIn w mid.waiting.items ↔ IsIn w old.waiting.items)
+      → mid.timers ≡ old.timers → IsActTimed reading stands network new.timers new device
+      → SetsOnly (λ slot. slot ≡ length network.device + device.0) mid new
+      → IsRekeyed reading stands network device mid new
+  set_act there was clocks time waiting timers act sets = record {
+    sets = record { same = sets.same; sized = sets.sized; others = λ slot apart. sets.others slot (λ e. apart (inr e)); later = sets.later };
+    timed = record {
+      ripe = ripe_stays stands network old new was.ripe (ap State.clocks sets.same ∙ clocks)
+          (ap State.time sets.same ∙ time)
+          (λ w at. rw sets.same (waiting w at))
+          (sets.others device.0 (λ e. omega arith) ∙ ap (λ l. slice_get l device.0) timers);
+      act = act;
+    };
+  }
+
+  pub set_ripe : device.0 < length network.device → IsTimed reading stands network old.timers old device → mid.clocks ≡ old.clocks
+      → mid.time ≡ old.time → mid.machines ≡ old.machines → mid.timers ≡ old.timers
+      → IsRipeTimed reading new.timers new device → SetsOnly (λ slot. slot ≡ device.0) mid new → IsRekeyed reading stands network device mid new
+  set_ripe there was clocks time machines timers ripe sets = record {
+    sets = record { same = sets.same; sized = sets.sized; others = λ slot apart. sets.others slot (λ e. apart (inl e)); later = sets.later };
+    timed = record {
+      ripe = ripe;
+      act = act_stays stands network old new was.act (ap State.clocks sets.same ∙ clocks)
+          (ap State.time sets.same ∙ time) (ap State.machines sets.same ∙ machines)
+          (sets.others (length network.device + device.0) (λ e. omega arith)
+          ∙ ap (λ l. slice_get l (length network.device + device.0)) timers);
+    };
+  }

@@ -1,21 +1,114 @@
--- A turn of a world: what comes first, and what the steps keep.
-use Rattle.{drift_world.proofs.Fits.{sound_same, sound_timers}, world_law.proofs.{acts.NoActs.nothing_comes_before, runs.Worlds.nothing_settled_is_all}}
-use Rattle.drift_world.proofs.{Foremost.timers_later, Rising.settled_in_order, Words.InOrder}
-use Rattle.drift_world.{proofs.{AtSource.{IsSourceRank, at_rank, is_late, rank_most, ranks}, Sources.{of_world, sooner_too}}, specs.{Stepping.IsRekeyed, declared.{source.Source.Source, state.State.State}}}
-use Rattle.drift_world.proofs.{Timings.{passed, rekeyed, unchanged}, Words.{numbers_of, option_map_or, own_place, place_of, rank, refl, settled_at, subst, sym, true, world_of, ℕ}}
-use Rattle.drift_world.proofs.Words.{◌++◌, ◌+◌, ◌<◌, ◌^◌, ◌∙◌, ◌∷◌, ◌≡◌, ◌≤◌, AreFirsts, AreComing, AreTimed, Bool, ChangesOnly, ComesFirst, DeviceId}
-use Rattle.drift_world.proofs.Words.{StandsOn, StandsWith, at_port, on_wire, waiting_as}
-use Rattle.world_law.specs.world.World.{is_at_source}
-use Rattle.{std.specs.List.filter_map}
-use Rattle.drift_world.proofs.Words.{SlotTimer, DueAt, Err, Happening, HasItsOctets, HasNothingBefore, IsAt, IsBefore, IsIn, IsRunning, IsScenarioRun, IsSound}
-use Rattle.drift_world.proofs.Words.{IsWell, List, Meaning, Network, NoSourceBefore, Note, Ok, OnErr, OnOk, Option, Result, Scenario, Settled, SourceFirst}
-use Rattle.run_law.specs.records.Ranks.{key}
-use Rattle.drift_world.proofs.Words.{Stands, Turn, [], ap, append-nil, arith, cases_lt, chain, happenings, inl, inr, keeps, length, length-map, map, never_self}
-use Rattle.drift_world.specs.Turns.{HasRoom, IsAfter, IsForemost, IsKept, IsNow, IsPassed, IsStep, IsThere, MayGive, MayWork, PassSays, SettledFirst, TurnSays, given_in}
-use Rattle.drift_world.specs.Turns.{source_place, source_rank}
-use Rattle.drift_world.specs.declared.source.Source.TheVariants.{Arrival, Departure, Later}
-use Rattle.{drift_world.specs.declared.next.Turn.TheVariants.{Ends, Gives, GoesOn}, run_law.proofs.runs.Places.{before_later, before_later_time}}
-use Rattle.std.proofs.Common.{All, slice_get}
+-- A turn of a world: what comes first, where its records stand, and how far the world came.
+use Rattle.std.{proofs.Common.{All, slice_get}, specs.List.filter_map}
+use Rattle.drift_world.proofs.{Foremost.{of_world, sooner_too, timers_later}, Parts.{part_least, part_most}}
+use Rattle.drift_world.proofs.{Rising.settled_in_order, Signals.{sound_same, sound_timers}}
+use Rattle.drift_world.proofs.{Timings.{passed, rekeyed, unchanged}}
+use Rattle.drift_world.proofs.Words
+use Words.{◌++◌, ◌+◌, ◌<◌, ◌^◌, ◌∙◌, ◌∷◌, ◌≡◌, ◌≤◌, ◌⊎◌, AreComing, AreFirsts, AreTimed, Bool, ChangesOnly, ComesFirst}
+use Words.{ComesUpTo, DeviceId, DueAt, Err, Happening, HasItsOctets, HasNothingBefore, InOrder, IsAt, IsBefore, IsIn}
+use Words.{IsRunning, IsScenarioRun, IsSound, IsWell, List, Meaning, Network, NoSourceBefore, Note, NoteBody, Ok, OnErr}
+use Words.{OnOk, Option, Result, Scenario, Settled, SlotTimer, SourceFirst, Stands, StandsOn, StandsWith, Turn, Units}
+use Words.{[], ap, append-nil, arith, at_port, cases_lt, chain, false, given_by, happenings, inl, inr, ints, is_mapped}
+use Words.{keeps, length, length-map, map, never_self, numbers_of, on_wire, option_map_or, own_place, place_of, pos}
+use Words.{rank, refl, settled_at, subst, suc, sym, true, waiting_as, world_of, zero, ℕ}
+use Rattle.drift_world.specs.{Acting.AreAbove, Running.{MayTryAgain, next_of}, Stepping.IsRekeyed}
+use Rattle.drift_world.specs.Turns
+use Turns.{HasRoom, IsAfter, IsForemost, IsKept, IsNow, IsPassed, IsStep, IsThere, MayGive, MayWork, NextSays, PassSays}
+use Turns.{SettledFirst, TurnSays, given_in, source_place, source_rank}
+use Rattle.drift_world.specs.declared.{next.Turn.TheVariants.{Ends, Gives, GoesOn}}
+use Rattle.drift_world.specs.declared.{source.Source.{Source, TheVariants.{Act, Arrival, Clock, Departure, Later}}}
+use Rattle.drift_world.specs.declared.{state.State.State}
+use Rattle.run_law.{proofs.{records.Order.all_of, runs.Places.{before_later, before_later_time}}}
+use Rattle.run_law.{specs.records.Ranks.key}
+use Rattle.world_law.{proofs.{acts.NoActs.nothing_comes_before, runs.Worlds.{late_of, nothing_settled_is_all}}}
+use Rattle.world_law.{specs.world.World.is_at_source}
+use Rattle.run_law.specs.declared.note.NoteBody.TheVariants as kinds
+
+-- ---- records that stand where their sources do
+
+-- ---- the ranks of sources
+
+-- no source is of rank 1, or of that of changes of state, or of those of what becomes of frames
+pub record IsSourceRank (r : ℕ) : Type 0 where
+  pub least : 2 ≤ r
+  pub no_change : r ≡ 7 → ⊥
+  pub either : (r ≤ 8) ⊎ (14 ≤ r)
+
+ranks : (source : Source) → IsSourceRank (source_rank source)
+ranks (Act part device) =
+    let least = part_least part in
+    let most = part_most part in
+    record { least = omega arith; no_change = λ e. omega arith; either = inl (omega arith) }
+ranks (Clock device) = record { least = omega arith; no_change = λ e. omega arith; either = inr (omega arith) }
+ranks (Later time) = record { least = omega arith; no_change = λ e. omega arith; either = inr (omega arith) }
+ranks other = record { least = omega arith; no_change = λ e. omega arith; either = inl (omega arith) }
+
+none : (r : ℕ) → 8 < r → r < 14 → (r ≤ 8) ⊎ (14 ≤ r) → ⊥
+none r low high (inl le) = omega arith
+none r low high (inr ge) = omega arith
+
+-- a record of such a rank stands where its source does
+pub at_rank : (body : NoteBody) → IsSourceRank (rank body) → is_at_source body ≡ true
+at_rank (kinds.Event line what) r = let least = r.least in absurd (omega arith)
+at_rank (kinds.State device state cause why) r = absurd (r.no_change refl)
+at_rank (kinds.Lost device link cause) r = absurd (none 9 (omega arith) (omega arith) r.either)
+at_rank (kinds.TtSent device link cause vl cycle) r = absurd (none 10 (omega arith) (omega arith) r.either)
+at_rank (kinds.Accepted device link cause vl cycle) r = absurd (none 11 (omega arith) (omega arith) r.either)
+at_rank (kinds.Delivered device link cause vl cycle) r = absurd (none 12 (omega arith) (omega arith) r.either)
+at_rank (kinds.Dropped device link cause reason) r = absurd (none 13 (omega arith) (omega arith) r.either)
+at_rank other r = refl
+
+-- so does one of the rank of a source
+pub source_at : (source : Source) (body : NoteBody) → rank body ≡ source_rank source → is_at_source body ≡ true
+source_at source body same = at_rank body (subst IsSourceRank (sym same) (ranks source))
+
+rank_most : (body : NoteBody) → rank body ≤ 14
+rank_most (kinds.Event line what) = omega arith
+rank_most other = omega arith
+
+-- ---- what is settled
+
+-- what holds of all holds of each
+pub each_of : {X : Type 0} (P : X → Type 0) (xs : List X) (x : X) → All P xs → IsIn x xs → P x
+each_of P [] x all i = absurd i
+each_of P (y ∷ ys) x all (inl same) = subst P (sym same) (all zero y (omega arith))
+each_of P (y ∷ ys) x all (inr i) = each_of P ys x (λ k d within. all (suc k) d (omega arith)) i
+
+-- nothing that is settled stands where its source does
+is_late : {C M : Type 0} {reading : C → ℕ → ℕ} (stands : Meaning M) {network : Network}
+    (state : State C M) {z : Settled} {others : List Settled} {s : Scenario} {notes : List Note}
+    → state.settled.items ≡ z ∷ others
+    → (old : Stands reading (keeps stands) s (world_of network state) notes)
+    → is_at_source z.body ≡ false
+is_late stands {network} state {z} {s} {notes} whole old =
+    let shown = settled_at network state.time z in
+    let there : IsIn shown (map (settled_at network state.time) state.settled.items) =
+    rw whole (inl refl) in
+    late_of old.are shown there
+
+-- ---- where the first of what is settled is of a higher rank, all is
+
+each_above : (network : Network) (now low : ℕ) (settled : List Settled) → InOrder (map (settled_at network now) settled)
+    → ((z : Settled) (others : List Settled) → settled ≡ z ∷ others → low < rank z.body) → (y : Settled) → IsIn y settled → low < rank y.body
+each_above network now low [] order first y i = absurd i
+each_above network now low (x ∷ xs) order first y (inl e) = rw e (first x xs refl)
+each_above network now low (x ∷ xs) order first y (inr i) =
+    let lt = first x xs refl in
+    elim (cases_lt (rank y.body) (rank x.body)) [
+      | inr ge ↦ omega arith
+      | inl less ↦ absurd (order.0 (settled_at network now y) (is_mapped (settled_at network now) xs y i) (inr (refl, inl less)))
+    ]
+
+pub all_above : {C M : Type 0} {reading : C → ℕ → ℕ} (stands : Meaning M)
+    {network : Network} (state : State C M) (low : ℕ) {s : Scenario} {notes : List Note}
+    → Stands reading (keeps stands) s (world_of network state) notes
+    → ((z : Settled) (others : List Settled) → state.settled.items ≡ z ∷ others → low < rank z.body)
+    → AreAbove low state
+all_above stands {network} state low old first =
+    all_of (λ z. low < rank z.body) state.settled.items
+    (each_above network state.time low state.settled.items (settled_in_order old) first)
+
+-- ---- a turn of a world: what comes first, and what the steps keep
 
 -- ---- a source and what is settled
 
@@ -438,3 +531,37 @@ pub record IsOnward {C M : Type 0} (last_step : C → ℕ) (reading : C → ℕ 
   pub still : StandsOn reading stands network old new
   pub early : new.time < until
   pub given : new.given ≡ old.given
+
+-- ---- how far a world came that was asked for the next record
+
+module _ {C M : Type 0} {reading : C → ℕ → ℕ} {stands : Meaning M} {own : Network} {old new : State C M} where
+  -- memory ran out before the time
+  try_again : (until : Units) (n : ℕ) → until.0 ≡ pos n → IsAfter old new → IsRunning reading stands own old
+      → StandsWith reading stands own old new [] → new.time < n
+      → MayTryAgain (world_of own old) (world_of own new) until
+  try_again until n is after run still lt =
+      let a = run.is in
+      let b = still run.s run.notes run.is in
+      record {
+        same = b.same ∙ sym a.same;
+        lines = b.lines ∙ sym a.lines;
+        given = b.given ∙ ap length (append-nil run.notes) ∙ sym a.given;
+        ended = after.ended;
+        later = after.later;
+        before = omega (arith, ints);
+      }
+
+  pub comes_up_to : (E : Type 0) (result : Result Bool E) (note : Note) (until : Units) (n : ℕ) → until.0 ≡ pos n → IsAfter old new
+      → IsRunning reading stands own old
+      → ((s : Scenario) (notes : List Note) → Stands reading (keeps stands) s (world_of own old) notes
+      → Stands reading (keeps stands) s (world_of own new) (notes ++ given_by (next_of result note)))
+      → NextSays old new n note result → ComesUpTo (world_of own old) (world_of own new) until (next_of result note)
+  comes_up_to E (Ok false) note until n is after run still says = λ unended order limit.
+      (let at = says unended (omega (arith, ints)) in
+      let time = at.time in
+      record { time = omega (arith, ints); early = λ either. at.early })
+  comes_up_to E (Ok true) note until n is after run still says =
+      let time = ap (λ (u : Units). u.0) says.0 in
+      let early = says.1 in
+      (says.0, omega (arith, ints))
+  comes_up_to E (Err e) note until n is after run still says = try_again until n is after run still says

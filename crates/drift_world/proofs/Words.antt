@@ -14,7 +14,8 @@ pub use Rattle.net_plan.specs.declared.{event.What.What, ids.{DeviceId.DeviceId,
 pub use Rattle.net_plan.specs.declared.tables.Way.{Way, TheVariants.{Down, Up}}
 pub use Rattle.pcf_codec.specs.Fields.{field}
 pub use Rattle.tte_units.specs.declared.frames.pcf.Pcf.{Pcf}
-pub use Rattle.run_law.proofs.law.FirstPlaces.{in_filter, numbered_in}
+pub use Rattle.run_law.proofs.law.FirstDeliveries.{in_filter, numbered_in}
+pub use Rattle.world_state.proofs.{Queues.is_set, queue_lemmas.Slots.in_permuted}
 pub use Rattle.run_law.proofs.records.Order.{any_in, given_of, is_given}
 pub use Rattle.run_law.proofs.runs.Places.{chain, in_parts, in_right, never_self, parted}
 pub use Rattle.run_law.specs.control.Wires.{Arrives, Launch, Signal, control, launched, signal_of, time_on_port, timed}
@@ -37,11 +38,9 @@ pub use Rattle.world_law.specs.source.{Agreeing.scenario, First.NoSourceBefore}
 pub use Rattle.world_law.specs.world.{Calls.{HasActed, IsDueNow, moment_of}, Moves.{ArePutIn, ComesFirst, StandsAt, settled_as}, Outcomes.departure_body}
 pub use Rattle.world_law.specs.world.World.{AreComing, AreWays, AtPort, IsHeld, OnWire, Stands, Waiting, WayNow, World, act_place}
 pub use Rattle.world_law.specs.world.World.{note_of, numbers_end, ripe_place, way_now, wire_place}
-pub use Rattle.world_state.proofs.queue_lemmas.Bags.{in_permuted}
 pub use Rattle.world_state.specs.queue.Places.{IsFirst, numbers_of}
 pub use Rattle.world_state.specs.declared.queue.DueAt.{DueAt}
 pub use Rattle.run_law.proofs.records.Members.{in_map as is_mapped}
-pub use Rattle.world_state.proofs.Swaps.{is_set}
 pub use Rattle.world_state.specs.{Applying.clock_after, Giving.{ArrivedAt, HasItsOctets, IsPutOn, changed_device, delay_by, wire_entry}, Keeping.{Meaning, keeps}}
 pub use Rattle.world_state.specs.{Places.{IsPutAt, IsSomePut, own_place}, Sound.{AreBelow, AreUnderWay, IsShort, rank_of}}
 pub use Rattle.world_state.specs.Storing.{IsStoredBy}

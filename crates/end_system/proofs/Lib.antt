@@ -1,14 +1,6 @@
 pub mod Tasks
-pub mod Advance
-pub mod Heard
-pub mod Correct
+pub mod Corrections
 pub mod Ripe
-pub mod Values
-pub mod Arrive
-pub mod Before
-pub mod TimedFrames
+pub mod Arrivals
 pub mod RowSearch
-pub mod RowNext
-pub mod OwnLemmas
 pub mod Words
-pub mod WhichFirst

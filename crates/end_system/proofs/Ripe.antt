@@ -1,21 +1,92 @@
--- Frames that are permanent at an end system.
-use Rattle.{end_system.proofs.{Advance.{not_fallen, number_stays}, Heard.{expected_is, has_numbers}}, sync_state.specs.membership.Summary.{Hears, silence}}
-use Rattle.{end_system.{proofs.Correct.heard_nothing, specs.Owns.channel_by}, run_law.specs.declared.steps.Ripe.Ripe, sync_state.specs.Plan.expected_at}
-use Rattle.end_system.proofs.Words.{◌&&◌, ◌*◌, ◌++◌, ◌+ℤ◌, ◌+◌, ◌-ℤ◌, ◌<ℤ◌, ◌<◌, ◌^◌, ◌∙◌, ◌∷◌, ◌≡◌, ◌≤ℤ◌, ◌≤◌, A, Agenda, Appointment, AreHeardSo, AreRowsOf}
-use Rattle.end_system.proofs.Words.{B, Bool, Channel, ClockTask, DeviceId, Dispatch, EndSystem, HasNumber, IfSome, IsAgenda, IsAtSlot, IsCorrection, IsDispatch}
-use Rattle.end_system.proofs.Words.{IsOwnOf, IsSending, IsSmall, LinkId, List, MayCall, Moment, Network, Node, None, Option, Own, Pcf, Some, Standing}
-use Rattle.end_system.proofs.Words.{StandsAsEnd, Summarizes, Summary, SyncPlan, Synchronised, Units, [], amount, and_parts, ap, arith, called, end_plan}
-use Rattle.end_system.proofs.Words.{expected_offset, false, from_zero, inl, inr, ints, is_off, mul-le-mul_left, mul-le-mul_right, neg_ℤ, next_point, pos, refl}
-use Rattle.{end_system.{proofs.Words.{subst, sym, true, ℕ, ℤ}, specs.Standing.{IsAtEnd, IsHeardSo}}, run_law.specs.scenario.Devices.channel_of_link}
-use Rattle.{end_system.specs.{Controls.heard_by, Ripening.{IsTold, heard_so}}, std.proofs.{Common.{SomeIff, int_le, nat_le}, lemmas.Bool.{both_ways, leb-true}}}
-use Rattle.{run_law.proofs.control.Verdicts.{enough_not, in_time_by, in_time_not, tells_by}, sync_state.specs.declared.membership.frame.HeardFrame.HeardFrame}
-use Rattle.run_law.specs.control.{Corrections.correction_value, Hearing.{heard_as, heard_by_schedule, heard_enough, is_in_schedule, last_cycle}}
-use Rattle.{run_law.specs.{control.Permanence.ripe_as, machines.Nodes.{Phase, ripening}}, sync_state.specs.membership.{Hearing.Hearing, Members.count_of}}
-use Rattle.{run_law.specs.declared.steps.Ripe.TheVariants.{Ignored, Integrates, Outside, Within}, sync_state.proofs.StateFacts.{integrating_point, no_longer}}
-use Rattle.run_law.specs.machines.{Answers.{IsPermanenceOutcomeAt, hearings, node_turned_on, with_heard, with_joined}, Calls.{IsLaterMoment, MayRipen}}
-use Rattle.{sync_state.specs.{Calls.{after, heard_frame, turned_on}, membership.BestFrame.IsBetterOf}, tte_units.specs.declared.frames.members.Members.Members}
-use Rattle.sync_state.specs.{Integration.{Integrates as DoesIntegrate, joined_by}, declared.state.State.{State, TheVariants.{Integrating, Joining, Off}}}
-use Rattle.{sync_state.specs.{Standing.point_in, declared.answers.Joined.Joined}, tte_units.proofs.general_lemmas.{Bools.match_false, Integers.int_le-is}}
+-- Frames that arrive or are permanent at an end system, and how it and its agenda stand.
+use Rattle.std.proofs.{Common.{SomeIff, int_le, nat_le}, lemmas.Bool.{both_ways, leb-true}}
+use Rattle.device_rules.specs.{Headings.heading_fault, declared.heading.Heading.Heading}
+use Rattle.end_system.proofs.{Corrections.{expected_is, has_numbers, heard_nothing, not_fallen, number_stays}}
+use Rattle.end_system.proofs.Words
+use Words.{◌&&◌, ◌*◌, ◌++◌, ◌+ℤ◌, ◌+◌, ◌-ℤ◌, ◌<ℤ◌, ◌<◌, ◌^◌, ◌∙◌, ◌∷◌, ◌≡◌, ◌≤ℤ◌, ◌≤◌, A, Agenda, Appointment}
+use Words.{AreHeardSo, AreRowsOf, B, Bool, Channel, ClockTask, DeviceId, Dispatch, EndSystem, HasNumber, HasTaken}
+use Words.{IfSome, Intake, IsAgenda, IsAtSlot, IsCorrection, IsDispatch, IsOwnOf, IsSending, IsSmall, LinkId, List}
+use Words.{MayCall, Moment, Network, Node, None, Option, Own, Pcf, Some, Standing, StandsAsEnd, Summarizes, Summary}
+use Words.{SyncPlan, Synchronised, Units, [], amount, and_parts, ap, arith, arriving, called, correcting, end_plan}
+use Words.{expected_offset, false, from_zero, inl, inr, ints, is_off, mul-le-mul_left, mul-le-mul_right, neg_ℤ}
+use Words.{next_point, pos, refl, standpoint_at, subst, sym, true, ℕ, ℤ}
+use Rattle.end_system.specs.{Controls.heard_by, Owns.channel_by, Ripening.{IsTold, heard_so}}
+use Rattle.end_system.specs.{Standing.{IsAtEnd, IsHeardSo}}
+use Rattle.net_plan.specs.Ranges.{IsWithin}
+use Rattle.run_law.{proofs.{control.Verdicts.{enough_not, in_time_by, in_time_not, tells_by}, device.States.is_in}}
+use Rattle.run_law.specs.{declared.steps.Ripe.{Ripe, TheVariants.{Ignored, Integrates, Outside, Within}}}
+use Rattle.run_law.specs.{device.{Standpoints.clock_of, States.is_synchronised}, scenario.Devices.channel_of_link}
+use Rattle.run_law.specs.control.{Corrections.correction_value}
+use Rattle.run_law.specs.control.{Hearing.{heard_as, heard_by_schedule, heard_enough, is_in_schedule, last_cycle}}
+use Rattle.run_law.specs.control.{Permanence.ripe_as}
+use Rattle.run_law.specs.machines.{Answers.{IsPermanenceOutcomeAt, hearings, node_turned_on, with_heard, with_joined}}
+use Rattle.run_law.specs.machines.{Calls.{IsLaterMoment, MayRipen}, Nodes.{Phase, TakenFrame, ripening}}
+use Rattle.sync_state.{proofs.StateFacts.{integrating_point, no_longer}}
+use Rattle.sync_state.specs.{Calls.{after, heard_frame, turned_on}}
+use Rattle.sync_state.specs.{Integration.{Integrates as DoesIntegrate, joined_by}, Plan.expected_at, Standing.point_in}
+use Rattle.sync_state.specs.declared.{answers.Joined.Joined, membership.frame.HeardFrame.HeardFrame}
+use Rattle.sync_state.specs.declared.{state.State.{State, TheVariants.{Integrating, Joining, Off}}}
+use Rattle.sync_state.specs.membership.{BestFrame.IsBetterOf, Hearing.Hearing, Members.count_of}
+use Rattle.sync_state.specs.membership.{Summary.{Hears, silence}}
+use Rattle.tte_units.{proofs.general_lemmas.{Bools.{match_false, takes_by}, Integers.{int_le-is, whole}, Lists.none_in}}
+use Rattle.tte_units.{specs.declared.frames.members.Members.Members}
+
+-- ---- as what an end system stands that a control frame came to, it stood before
+
+-- two networks of which an end system knows the same have the same correction points, and the same precision
+passed_in : {other network : Network} {far device : DeviceId} {own : Own} (cycle : ℕ) (local : ℤ) → IsOwnOf other far own
+    → IsOwnOf network device own
+    → pos (cycle * amount other.cycle + amount other.correction) ≤ℤ (local +ℤ other.precision.0)
+    → pos (cycle * amount network.cycle + amount network.correction) ≤ℤ (local +ℤ network.precision.0)
+passed_in {other} {network} cycle local was now h =
+    let lengths = ap (λ (p : SyncPlan). p.cycle_length) (sym was.plan ∙ now.plan) in
+    let corrections = sym was.correction ∙ now.correction in
+    subst (λ (u : Units). pos (cycle * amount network.cycle + amount network.correction) ≤ℤ (local +ℤ u.0))
+    (sym was.precision ∙ now.precision)
+    (subst (λ (u : Units). pos (cycle * amount network.cycle + amount u) ≤ℤ (local +ℤ other.precision.0)) corrections
+    (subst (λ (u : Units). pos (cycle * amount u + amount other.correction) ≤ℤ (local +ℤ other.precision.0)) lengths h))
+
+number_in : {other network : Network} {far device : DeviceId} {own : Own} (s : Standing) (heard : Summary) (reading : ℤ)
+    (next : Option ℕ) → IsOwnOf other far own → IsOwnOf network device own
+    → IfSome next (HasNumber other s heard reading) → IfSome next (HasNumber network s heard reading)
+number_in s heard reading None was now h = h
+number_in {other} {network} s heard reading (Some n) was now h = record {
+  bound = h.bound;
+  at_end = λ e. let end = h.at_end e in record {
+    none_a = end.none_a;
+    none_b = end.none_b;
+    passed = passed_in {other = other} {network = network} (2 ^ 20 + 2 ^ 17 + 1) (reading +ℤ s.adjustment.0) was now end.passed;
+  };
+}
+
+-- it stands so: then it stood so at its last call before, as it stood as something then
+pub stood_before : {other network : Network} {far device : DeviceId} {before node : Node} {e : EndSystem} {moment : Moment}
+    → StandsAsEnd e other far before → StandsAsEnd (record e { last = moment }) network device node
+    → StandsAsEnd e network device (called e.last node.phase node)
+stood_before {other} {network} {before} {node} {e} was now =
+    let same : before.standing ≡ node.standing = was.standing ∙ sym now.standing in
+    let number = subst (λ (m : Moment). IfSome (next_point before.standing) (HasNumber other before.standing e.heard m.reading.0))
+    was.last was.number in
+    record {
+      own = now.own;
+      sound = now.sound;
+      standing = now.standing;
+      plan = now.plan;
+      last = refl;
+      begun = subst (λ (m : Moment). pos 0 ≤ℤ m.reading.0) was.last was.begun;
+      small = now.small;
+      heard = now.heard;
+      near = now.near;
+      joined = now.joined;
+      number = number_in node.standing e.heard e.last.reading.0 (next_point node.standing) was.own now.own
+          (subst (λ (s : Standing). IfSome (next_point s) (HasNumber other s e.heard e.last.reading.0)) same number);
+      rows = now.rows;
+      entering = now.entering;
+      slot = now.slot;
+      agenda = now.agenda;
+    }
+
+-- ---- frames that are permanent at an end system
 
 -- ---- the range of points
 
@@ -420,3 +491,81 @@ pub turns_on : {network : Network} {device : DeviceId} {node : Node} {e : EndSys
       last = e.last;
     }) network device (node_turned_on node)
 turns_on sync stands off value = grind (arith, heard_still, on_sending, on_correction, on_dispatch)
+
+-- ---- time-triggered frames that arrive at an end system
+
+pub local_range : (reading adjustment local : ℤ) → local ≡ (reading +ℤ adjustment) → pos 0 ≤ℤ reading → reading ≤ℤ pos (2 ^ 60 + 2 ^ 51)
+    → neg_ℤ (pos (2 ^ 61)) <ℤ adjustment → adjustment <ℤ pos (2 ^ 61) → (neg_ℤ (pos (2 ^ 62)) <ℤ local) × (local <ℤ pos (2 ^ 62))
+local_range reading adjustment local e begun low small great = (omega (arith, ints), omega (arith, ints))
+
+pub above : (x : ℤ) → pos 0 ≤ℤ x → neg_ℤ (pos (2 ^ 40)) ≤ℤ x
+above x h = omega (arith, ints)
+
+module _ (network : Network) (device : DeviceId) (node : Node) (e : EndSystem) (moment : Moment) where
+  -- the heading of what arrives is judged as the node says
+  pub heading_at : (heading : Heading) → StandsAsEnd e network device node → is_off node.standing.state ≡ false
+      → heading_fault (standpoint_at node moment).takes_part (standpoint_at node moment).state network.marker heading
+      ≡ heading_fault true e.sync.state e.own.marker heading
+  heading_at heading stands on = grind (arith, takes_by, is_off)
+
+  pub stands_with : {entering : Intake} {taken : List TakenFrame} → StandsAsEnd e network device node
+      → IsLaterMoment node.last moment → HasTaken network device entering taken → StandsAsEnd
+      (record {
+        own = e.own;
+        sync = e.sync;
+        heard = e.heard;
+        agenda = e.agenda;
+        rows = e.rows;
+        entering = entering;
+        last = moment;
+      }) network device (called moment arriving (record node { taken = taken }))
+  stands_with stands later are = grind (arith, not_fallen, number_stays, next_point)
+
+  pub clock_is : (local : ℤ) → StandsAsEnd e network device node → pos 0 ≤ℤ moment.reading.0
+      → local ≡ (moment.reading.0 +ℤ e.sync.adjustment.0) → local ≡ clock_of (standpoint_at node moment)
+  clock_is local stands begun is =
+      is ∙ ap (λ (s : Standing). moment.reading.0 +ℤ s.adjustment.0) (sym stands.standing) ∙ ap
+      (λ z. z +ℤ node.standing.adjustment.0)
+      (whole moment.reading.0 begun)
+
+-- ---- the values of an agenda
+
+amount_least : (low n : ℕ) (z : ℤ) → z ≡ pos n → pos low ≤ℤ z → low ≤ n
+amount_least low n z e h = omega (arith, ints)
+
+pub at_least : {low high : ℕ} {u : Units} → IsWithin low high u → low ≤ amount u
+at_least {low} {u} h = amount_least low (amount u) u.0 (from_zero low u.0 h.least) h.least
+
+-- ---- the cycle behind a value
+
+pub some_length : (b : ℕ) → 2 ^ 32 ≤ b → 0 < b
+some_length b h = omega arith
+
+-- ---- what is next after the clock was set
+
+module _ {network : Network} {device : DeviceId} {own : Own} (n : ℕ) (is : IsOwnOf network device own) where
+  length_is : n * amount own.plan.cycle_length ≡ n * amount network.cycle
+  length_is = ap (λ (p : SyncPlan). n * amount p.cycle_length) is.plan
+
+  correction_is : n * amount own.plan.cycle_length + amount own.correction
+      ≡ n * amount network.cycle + amount network.correction
+  correction_is =
+      ap (λ k. k + amount own.correction) (length_is) ∙ ap (λ u. n * amount network.cycle + amount u)
+      is.correction
+
+same_cycle : (m n : ℕ) → Some m ≡ Some n → m ≡ n
+same_cycle m n e = cc
+
+module _ (network : Network) (device : DeviceId) (own : Own) (s : Standing) (local : ℤ) where
+  pub next_correction : (next : Appointment) (value : ℕ) → IsOwnOf network device own
+      → next_point s ≡ Some next.cycle → value ≡ next.cycle * amount own.plan.cycle_length + amount own.correction
+      → local <ℤ pos value → next.at.0 ≡ (pos value -ℤ s.adjustment.0) → IsCorrection network s local [] (Some next)
+  next_correction next value is point value_is ahead at = grind (arith, amount, correction_is, none_in, correcting)
+
+  pub passed_correction : (cycle value : ℕ) → IsOwnOf network device own → next_point s ≡ Some cycle
+      → value ≡ cycle * amount own.plan.cycle_length + amount own.correction → pos value ≤ℤ local
+      → IsCorrection network s local [] None
+  passed_correction cycle value is point value_is passed = grind (arith, amount, same_cycle, correction_is)
+
+pub in_sync : (s : Standing) → is_synchronised s.state ≡ true → s.state ≡ Synchronised
+in_sync s e = is_in s.state e

@@ -1,14 +1,25 @@
 -- What an end system has to do, and what of it comes first.
-use Rattle.end_system.proofs.Words.{◌*◌, ◌+ℤ◌, ◌+◌, ◌-ℤ◌, ◌<ℤ◌, ◌<◌, ◌∙◌, ◌∷◌, ◌≡◌, ◌≤ℤ◌, ◌≤◌, Agenda, Appointment, ClockTask, DeviceId, Dispatch, IfSome}
-use Rattle.end_system.proofs.Words.{IsAgenda, IsBelow, IsCorrection, IsDispatch, IsOwnOf, IsSending, IsSomeAnd, List, MayCall, Moment, Network, Node, None}
-use Rattle.end_system.proofs.Words.{Option, Own, Row, RowId, Some, Standing, Units, [], amount, ap, arith, below_itself, correcting, dispatching, false, inl}
-use Rattle.end_system.proofs.Words.{inr, ints, is_end, mul-le-mul_right, option_map_or, pos, refl, sending, slice_get, subst, sym, true, value_of, ℕ, ℤ}
-use Rattle.{end_system.specs.{Agendas.{HasReading, IsFirstDue, IsLeastReading}, Deeds.{IsAhead, IsSooner, Leaves}}, std.proofs.Common.{negsuc, unsigned_abs}}
-use Rattle.run_law.specs.{machines.Nodes.acting, records.Order.IsBefore}
-use Rattle.run_law.specs.machines.Tasks.{HasFrame, IsDueReading, IsFirstTask, IsPending, Task, doing, emitting, offset_of, order_of, reading_for}
+use Rattle.std.proofs.Common.{negsuc, unsigned_abs}
+use Rattle.device_rules.{proofs.FirstKinds.first_kind_of}
+use Rattle.device_rules.specs.{FirstKinds.{IsFirstKind, kind_of, order_of_kind}}
+use Rattle.device_rules.specs.{declared.first_kind.TaskKind.TheVariants.{Correction, Dispatch as Dispatches, Sending}}
+use Rattle.end_system.{specs.{Agendas.{HasReading, IsFirstDue, IsLeastReading}, Deeds.{IsAhead, IsSooner, Leaves}}}
+use Rattle.end_system.proofs.Words
+use Words.{◌*◌, ◌+ℤ◌, ◌+◌, ◌-ℤ◌, ◌<ℤ◌, ◌<◌, ◌∙◌, ◌∷◌, ◌≡◌, ◌≤ℤ◌, ◌≤◌, Agenda, Appointment, ClockTask, DeviceId}
+use Words.{Dispatch, IfSome, IsAgenda, IsBelow, IsCorrection, IsDispatch, IsOwnOf, IsSending, IsSomeAnd, List, MayCall}
+use Words.{Moment, Network, Node, None, Option, Own, Row, RowId, Some, Standing, Units, [], amount, ap, arith}
+use Words.{below_itself, correcting, dispatching, false, inl, inr, ints, is_end, mul-le-mul_right, option_map_or, pos}
+use Words.{refl, sending, slice_get, subst, sym, true, value_of, ℕ, ℤ}
+use Rattle.run_law.specs.{records.Order.IsBefore}
+use Rattle.run_law.specs.machines.{Calls.HasDue, Nodes.acting}
+use Rattle.run_law.specs.machines.Tasks
+use Tasks.{HasFrame, IsDueReading, IsFirstTask, IsPending, Task, doing, emitting, offset_of, order_of, reading_for}
 use Rattle.schedule_tables.specs.Dispatches.{dispatch_order}
-use Rattle.tte_units.proofs.general_lemmas.{Bools.not_both, Integers.{never_both, through}, Naturals.{cases_of, none_less}}
+use Rattle.tte_units.proofs.general_lemmas.{Bools.not_both, Integers.{never_both, through}}
+use Rattle.tte_units.proofs.general_lemmas.{Naturals.{cases_of, none_less}}
 use Rattle.end_system.specs.declared.agenda.Due.TheVariants as dues
+
+-- ---- what an end system has to do, and what of it comes first
 
 -- ---- what is pending is ahead
 
@@ -21,7 +32,7 @@ module _ (network : Network) (device : DeviceId) (node : Node) where
       → Leaves network device row cycle
   leaves_by end h = grind (arith, not_both)
 
-  pub ahead_task : {own : Own} (task : Task) → IsOwnOf network device own → IsPending network device node task
+  ahead_task : {own : Own} (task : Task) → IsOwnOf network device own → IsPending network device node task
       → IsAheadTask network device node task
   ahead_task (emitting sent) is p = absurd (not_both _ p.1.cm is.no_cm)
   ahead_task {own} (doing (sending cycle)) is p = record { own = p.1.own; ahead = p.1.ahead; not_yet = p.1.not_yet }
@@ -244,14 +255,14 @@ NoSendingDue agenda reading = IfSome agenda.sending (λ next. reading <ℤ next.
 
 module _ {network : Network} {device : DeviceId} (node : Node) {agenda : Agenda} (reading : ℤ) (cycle : ℕ)
     (a : IsAgenda network device node.standing node.changed node.done agenda) where
-  pub no_sending : NoSendingDue agenda reading → IsAhead network device node.standing node.changed node.done
+  no_sending : NoSendingDue agenda reading → IsAhead network device node.standing node.changed node.done
       (sending cycle) → (value_of network (sending cycle) -ℤ node.standing.adjustment.0) ≤ℤ reading → ⊥
   no_sending none h here =
       let t = some_and agenda.sending _ _ (sending_some network device node.standing node.changed node.done
       agenda.sending cycle a.sending h) none in
       le_lt_trans reading _ _ reading t.1.1 t.1.0 here
 
-  pub no_correction : IfSome agenda.correction (λ next. reading <ℤ next.at.0)
+  no_correction : IfSome agenda.correction (λ next. reading <ℤ next.at.0)
       → IsAhead network device node.standing node.changed node.done (correcting cycle)
       → (value_of network (correcting cycle) -ℤ node.standing.adjustment.0) ≤ℤ reading → ⊥
   no_correction none h here =
@@ -405,3 +416,36 @@ module _ (network : Network) (device : DeviceId) (own : Own) (node : Node) (agen
       let t = some_and agenda.dispatch _ _ (dispatch_some agenda.dispatch row cycle is a.dispatch
       (ahead_task network device node (doing (dispatching row cycle)) is p)) due.2 in
       le_lt_trans reading _ _ reading t.1.1 t.1.0 here
+
+-- ---- the kind of what an end system does first
+
+module _ (network : Network) (device : DeviceId) (own : Own) (node : Node) (agenda : Agenda) (reading : ℤ) (is : IsOwnOf network device own)
+    (sound : node.broken ≡ false) (a : IsAgenda network device node.standing node.changed node.done agenda) where
+  pub sends_first : (next : Appointment) → IsFirstDue agenda reading (Some (dues.Sending next)) → IsFirstKind network device node reading Sending
+  sends_first next due =
+      first_kind_of (first_is_sending network device own node reading next is sound a due)
+
+  pub corrects_first : (next : Appointment) → IsFirstDue agenda reading (Some (dues.Correction next)) → IsFirstKind network device node reading Correction
+  corrects_first next due =
+      first_kind_of
+      (first_is_correction network device own node agenda reading next is sound a due)
+
+  -- where neither a sending nor a correction is due, all that is due are dispatches
+  dispatches_all : IfSome agenda.sending (λ next. reading <ℤ next.at.0) → IfSome agenda.correction (λ next. reading <ℤ next.at.0) → (task : Task)
+      → IsPending network device node task → reading_for network node task ≤ℤ reading → kind_of task ≡ Dispatches
+  dispatches_all none also (emitting sent) p due = absurd (not_both _ p.1.cm is.no_cm)
+  dispatches_all none also (doing (sending cycle)) p due =
+      absurd (no_sending node reading cycle a none (ahead_task network device node (doing (sending cycle)) is p) due)
+  dispatches_all none also (doing (correcting cycle)) p due =
+      absurd (no_correction node reading cycle a also (ahead_task network device node (doing (correcting cycle)) is p) due)
+  dispatches_all none also (doing (dispatching row cycle)) p due = refl
+
+  pub dispatches_first : IfSome agenda.sending (λ next. reading <ℤ next.at.0) → IfSome agenda.correction (λ next. reading <ℤ next.at.0)
+      → HasDue network device node reading → IsFirstKind network device node reading Dispatches
+  dispatches_first none also due = record {
+    task = due.0;
+    pending = due.1;
+    due = due.2;
+    of_kind = dispatches_all none also due.0 due.1 due.2;
+    first = λ other p here. let same = ap order_of_kind (dispatches_all none also other p here) in omega (arith, same);
+  }

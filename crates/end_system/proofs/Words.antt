@@ -18,7 +18,7 @@ pub use Rattle.run_law.specs.device.{Standpoints.{Standpoint, first_reason}, Sta
 pub use Rattle.run_law.specs.machines.{Answers.called, Calls.MayCall, Nodes.{ClockTask, Node, arriving, correcting, dispatching, sending, standpoint_at}}
 pub use Rattle.run_law.specs.machines.Tasks.{value_of}
 pub use Rattle.run_law.specs.scenario.Devices.{is_end}
-pub use Rattle.schedule_tables.proofs.OrderLemmas.{below_itself}
+pub use Rattle.schedule_tables.proofs.SlotLemmas.{below_itself}
 pub use Rattle.schedule_tables.specs.{Dispatches.IsBelow, Margins.expected_offset}
 pub use Rattle.schedule_tables.specs.Slots.{AreInOrder, IsSlotOf, key_of, numbers_of}
 pub use Rattle.schedule_tables.specs.declared.{entry.Entry.Entry, slot.{Slot.Slot, Whose.TheVariants.SentBy}}

@@ -1,15 +1,48 @@
--- The form of words by their count and their first, and the numbers of forms.
-use Rattle.lens.specs.declared.forms.{Form.{Form, TheVariants.{DrawNamed, Events, Latency, Least, Plan, Report, Schedule, Sheet, Slack, SlackOf}}, Question.TheVariants.{Clocks, Draw, DrawWhole, Flows, LatencySeen, Page, Why}}
-use Rattle.{lens.specs.declared.forms.RunPart.{RunPart, TheVariants.{Cycle, Times}}, lens_plan.specs.messages.Values.{is_name_text, time_spelled}}
-use Rattle.lens_slack.specs.Inequalities.{IsInequality}
-use Rattle.lens.specs.Forms.{IsFormInRange, IsPartInRange, cycle_part, draw_form, events_form, five_words_form, form_of, four_words_form, greatest_cycle}
-use Rattle.lens.specs.Forms.{greatest_number, inequality_spelled, named_form, network_form, part_between, reads_as_time, six_words_form}
-use Rattle.lens.specs.Forms.{slack_of_form, three_words_form, times_part, two_words_form, why_form}
-use Rattle.{schedule_tables.specs.declared.rule.Rule.Rule, std.proofs.Common.{◌∷◌, ◌≡◌, ◌≤◌, Bool, List, None, Some, [], arith, false, length, refl, true, ℕ}}
-use Rattle.{std.{proofs.lemmas.Bool.{Decides.nat_tests, and_parts}, specs.Str.Parse.digits_value}, trace_text.specs.Numbers.number_up_to}
-use Rattle.std.specs.{Option.{option_and_then, option_map}, Prelude.{◌&&◌, ◌==◌, IfSome, Option, bytes_eq, codes, decimal, if◌then◌else◌, nat_le, slice_get}}
-use Rattle.tte_forms.{proofs.FormLemmas.{form_in_range as storm_in_range}, specs.declared.form.Form.TheVariants.Storm}
-use Rattle.tte_forms.specs.Forms.{IsFormInRange as IsStormInRange, cycles_spelled, form_of as storm_form_of, if_some, seed_spelled, storm_form}
+-- The form of words by their count and their first, and the answer for them.
+use Rattle.std.proofs.{lemmas.Bool.{Decides.nat_tests, and_parts}}
+use Rattle.std.proofs.Common
+use Common.{◌∙◌, ◌∷◌, ◌≡◌, ◌≤◌, Bool, List, None, Some, [], ap, arith, false, length, refl, subst, sym, true, ℕ}
+use Rattle.std.specs.{Option.{option_and_then, option_map}}
+use Rattle.std.specs.{Prelude.{if◌then◌else◌, ◌&&◌, ◌==◌, IfSome, Option, bytes_eq, codes, decimal, nat_le, slice_get}}
+use Rattle.std.specs.{Str.Parse.digits_value}
+use Rattle.fault_hypothesis.proofs.storm_lemmas.OneStorm.{one_storm}
+use Rattle.lens.{proofs.draw_lemmas.Naming.named_one}
+use Rattle.lens.specs.{Limit.report_limit, Questions.{EndsFor, IsQuestionAnswer}}
+use Rattle.lens.specs.{Top.{AnswerIsOne, AnswersWords, IsAnswerBy}, events.Answer.{IsEventsAnswer, event_lines}}
+use Rattle.lens.specs.Forms
+use Forms.{IsFormInRange, IsPartInRange, cycle_part, draw_form, events_form, five_words_form, form_of, four_words_form}
+use Forms.{greatest_cycle, greatest_number, inequality_spelled, named_form, network_form, part_between, reads_as_time}
+use Forms.{six_words_form, slack_of_form, three_words_form, times_part, two_words_form, why_form}
+use Rattle.lens.specs.declared.forms.{RunPart.{RunPart, TheVariants.{Cycle, Times}}}
+use Rattle.lens.specs.declared.forms.Form.{Form}
+use Rattle.lens.specs.declared.forms.Form.TheVariants
+use TheVariants.{DrawNamed, Events, Latency, Least, Plan, Report, Schedule, Sheet, Slack, SlackOf}
+use Rattle.lens.specs.declared.forms.Question.{Question}
+use Rattle.lens.specs.declared.forms.Question.{TheVariants.{Clocks, Draw, DrawWhole, Flows, LatencySeen, Page, Why}}
+use Rattle.lens_flows.proofs.AllTold.{flows_answer_one}
+use Rattle.lens_latency.{proofs.{Comings.latency_one, OneReport.latency_report_one}, specs.Answer.IsLatencyOf}
+use Rattle.lens_overview.proofs.OneAnswer.{overview_answer_one}
+use Rattle.lens_plan.{proofs.Plans.plan_one_for, specs.{Answer.IsPlanFor, messages.Values.{is_name_text, time_spelled}}}
+use Rattle.lens_schedule.{proofs.LawProofs.schedule_one, specs.Answer.IsScheduleOf}
+use Rattle.lens_sheet.{proofs.Sheets.sheet_one, specs.Answer.IsSheetOf}
+use Rattle.lens_slack.{proofs.{Verdict.{octets_one, slack_one}, least_lemmas.OneLeast.least_one}}
+use Rattle.lens_slack.specs.{Answer.IsSlackOf, Inequalities.IsInequality, Steps.{all_steps, rule_steps}}
+use Rattle.lens_slack.specs.{least.Answer.{IsLeastOf, with_late}}
+use Rattle.lens_why.proofs.Chains.{why_answer_one}
+use Rattle.net_plan.{proofs.Trees.rules_give_trees, specs.declared.{event.Event.Event, network.Network.Network}}
+use Rattle.schedule_checker.specs.Refusals.{RefusalIsOne}
+use Rattle.schedule_tables.{proofs.{Margins.shape_rules, SlotLemmas.one_entry}}
+use Rattle.schedule_tables.{specs.{Rules.KeepsRules, declared.rule.Rule.Rule}}
+use Rattle.trace_text.specs.Numbers.{number_up_to}
+use Rattle.tte_forms.{proofs.{FormLemmas.form_in_range as storm_in_range, networks.Answers.network_answer_one}}
+use Rattle.tte_forms.specs.{Answering.Answer, Putting.Shown}
+use Rattle.tte_forms.specs.{declared.{form.Form.TheVariants.Storm, status.Status.{Status, TheVariants.{Done, Usage}}}}
+use Rattle.tte_forms.specs.{networks.Accepting.IsNetworkAnswer}
+use Rattle.tte_forms.specs.Forms
+use Forms.{IsFormInRange as IsStormInRange, cycles_spelled, form_of as storm_form_of, if_some, seed_spelled, storm_form}
+use Rattle.tte_reports.{proofs.Reports.report_one, specs.Reports.IsOneFor}
+
+-- ---- the form of words by their count and their first, and the numbers of forms
 
 pub no_words : (words : List (List ℕ)) → length words ≤ 0 → None ≡ form_of words
 unfolding form_of
@@ -176,7 +209,7 @@ five_words_by true draw h = h
 five_words_by false draw h = tt
 
 -- the numbers of the form of words lie in their ranges
-pub form_in_range : (words : List (List ℕ)) → IfSome (form_of words) IsFormInRange
+form_in_range : (words : List (List ℕ)) → IfSome (form_of words) IsFormInRange
 unfolding form_of
 form_in_range [] = tt
 form_in_range (command ∷ []) = tt
@@ -197,3 +230,67 @@ form_in_range (command ∷ network ∷ report ∷ fourth ∷ last ∷ []) =
 form_in_range (command ∷ network ∷ report ∷ from ∷ to ∷ name ∷ []) =
     five_words_by (bytes_eq command (codes "draw")) (named_form (times_part from to) name) (named_range name (times_part from to) (times_range from to))
 form_in_range (command ∷ network ∷ report ∷ fourth ∷ fifth ∷ last ∷ more ∷ words) = tt
+
+-- ---- the answer for the words
+
+-- what is answered for the form is answered for the words
+pub words_as : (words : List (List ℕ)) {f form : Option Form} → f ≡ form → (first second : Option (List ℕ)) (status : Status) (old new : Shown)
+    → AnswersWords words f first second status old new → AnswersWords words form first second status old new
+words_as words {f} {form} same first second status old new a = subst (λ x. AnswersWords words x first second status old new) same a
+
+-- the events of a storm have one answer
+events_answer_one : (seed cycles : ℕ) (network : Network) → cycles ≤ 100000 → KeepsRules network → (a b : Answer) → IsEventsAnswer seed cycles network a
+    → IsEventsAnswer seed cycles network b → a ≡ b
+events_answer_one seed cycles network few rules a b p q =
+    let events = one_storm network seed cycles p.events q.events rules few p.storm q.storm in
+    p.answer ∙ ap (λ (es : List Event). record { status = Done; lines = event_lines network es }) events ∙ sym q.answer
+
+events_one : RefusalIsOne → (seed cycles : ℕ) → cycles ≤ 100000 → (octets : List ℕ) (a b : Answer) → IsNetworkAnswer (IsEventsAnswer seed cycles) octets a
+    → IsNetworkAnswer (IsEventsAnswer seed cycles) octets b → a ≡ b
+events_one one seed cycles few octets a b p q =
+    network_answer_one one (IsEventsAnswer seed cycles) octets (λ network accepted. events_answer_one seed cycles network few accepted.rules) a b p q
+
+question_one : (words : List (List ℕ)) (question : Question) → IsOneFor (IsQuestionAnswer words question)
+question_one words (Why number) = why_answer_one number
+question_one words DrawWhole = overview_answer_one words
+question_one words (Draw part) = λ network text notes end x y rules of i j. i ∙ sym j
+question_one words Page = λ network text notes end x y rules of i j. i ∙ sym j
+question_one words Flows = flows_answer_one
+question_one words LatencySeen = latency_report_one
+question_one words Clocks = λ network text notes end x y rules of i j. i ∙ sym j
+
+-- no question ends as words of no form do
+pub no_usage_for : (question : Question) → EndsFor question Usage → ⊥
+no_usage_for (Why number) h = h
+no_usage_for other h = h
+
+answer_one : RefusalIsOne → (words : List (List ℕ)) (form : Option Form) → IfSome form IsFormInRange → (octets report : List ℕ) (a b : Answer)
+    → IsAnswerBy words form octets report a → IsAnswerBy words form octets report b → a ≡ b
+answer_one one words None range octets report a b p q = p ∙ sym q
+answer_one one words (Some Slack) range octets report a b p q =
+    octets_one (IsSlackOf all_steps) (slack_one all_steps) a b p q
+answer_one one words (Some (SlackOf rule)) range octets report a b p q =
+    octets_one (IsSlackOf (rule_steps rule)) (slack_one (rule_steps rule)) a b p q
+answer_one one words (Some Least) range octets report a b p q =
+    octets_one (λ network. IsLeastOf (with_late network)) (λ network. least_one {n = with_late network}) a b p q
+answer_one one words (Some Sheet) range octets report a b p q =
+    network_answer_one one IsSheetOf octets (λ network accepted. sheet_one network) a b p q
+answer_one one words (Some Latency) range octets report a b p q =
+    network_answer_one one IsLatencyOf octets (λ network accepted. latency_one network) a b p q
+answer_one one words (Some Schedule) range octets report a b p q =
+    network_answer_one one (IsScheduleOf words) octets
+    (λ network accepted x y. schedule_one {words = words} {a = x} {b = y} one_entry
+    (rules_give_trees network (shape_rules network accepted.rules)))
+    a b p q
+answer_one one words (Some Plan) range octets messages a b p q =
+    network_answer_one one (IsPlanFor messages octets) octets
+    (λ network accepted. plan_one_for {text = messages} octets
+    (rules_give_trees network (shape_rules network accepted.rules))) a b p q
+answer_one one words (Some (Report question)) range octets report a b p q =
+    report_one one report_limit (IsQuestionAnswer words question) (question_one words question) report a b p q
+answer_one one words (Some (DrawNamed part name)) range octets report a b p q =
+    named_one one words part name report a b p q
+answer_one one words (Some (Events seed cycles)) range octets report a b p q = events_one one seed cycles range.1 octets a b p q
+
+pub one_answer : RefusalIsOne → AnswerIsOne
+one_answer one words octets report a b p q = answer_one one words (form_of words) (form_in_range words) octets report a b p q

@@ -1,4 +1,3 @@
 pub mod draw_lemmas
 pub mod events_lemmas
 pub mod FormLemmas
-pub mod TopAnswers

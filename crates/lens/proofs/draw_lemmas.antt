@@ -1,13 +1,5 @@
-pub mod Parts
 pub mod Marking
 pub mod Keeping
-pub mod Lanes
 pub mod Naming
-pub mod Titles
-pub mod Lines
-pub mod Falls
-pub mod Runs
-pub mod Clocks
 pub mod Reading
-pub mod Asking
 pub mod Coming

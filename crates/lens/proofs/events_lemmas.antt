@@ -1,5 +1,1 @@
-pub mod PutLines
-pub mod Ranged
-pub mod EventTexts
-pub mod ShortTexts
-pub mod Reporting
+pub mod StormEvents

@@ -3,7 +3,9 @@ use Rattle.lens_clocks.proofs.{Extremes.{ends_are_of_clocks, shown_by}, InStep.c
 use Rattle.lens_clocks.specs.{Laws.SpreadsAreWithin, Telling.clocks_at}
 use Rattle.run_law.specs.{device.LocalClocks.local, records.Happenings.happenings}
 use Rattle.std.proofs.{Common.{◌*◌, ◌∙◌, ◌≡◌, arith, sym}, lemmas.Int.ints}
-use Rattle.{tte_audit.specs.Report.scenario_of, tte_reports.proofs.Safely.report_well, tte_units.specs.Amount.amount}
+use Rattle.tte_audit.specs.Report.{scenario_of}
+use Rattle.tte_reports.proofs.Reports.{report_well}
+use Rattle.tte_units.specs.Amount.{amount}
 
 pub spreads_are_within : SpreadsAreWithin
 spreads_are_within network octets ns end k ends rules r passed e =

@@ -4,7 +4,8 @@ use Rattle.run_law.specs.{records.Happenings.Happening, scenario.Scenarios.Scena
 use Rattle.std.proofs.Common.{◌++◌, ◌+◌, ◌<◌, ◌∙◌, ◌≡◌, ◌≤◌, List, [], ap, append_assoc, arith, inl, inr, refl, subst, suc, sym, zero, ℕ}
 use Rattle.std.proofs.Math.Nat.{le-div_iff_mul-le}
 use Rattle.std.proofs.lemmas.{Bool.cases_lt, Int.ints, List.append-nil}
-use Rattle.tte_forms.{proofs.Puts.{PutFails-behind, PutFails-more, PutsLines-append}, specs.Putting.{PutFails, PutsLines, PutsSome, Shown}}
+use Rattle.tte_forms.{proofs.Puts.{PutFails-behind, PutFails-more, PutsLines-append}}
+use Rattle.tte_forms.{specs.Putting.{PutFails, PutsLines, PutsSome, Shown}}
 
 pub cycles_have_passed : CyclesHavePassed
 cycles_have_passed s until k range =

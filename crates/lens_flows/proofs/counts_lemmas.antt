@@ -1,13 +1,5 @@
 pub mod Orders
-pub mod Tallies
-pub mod Fated
 pub mod Counts
-pub mod FlowParts
-pub mod Ends
-pub mod Leasts
-pub mod Sums
-pub mod KeptDeliveries
 pub mod Telling
-pub mod OneTold
-pub mod Certainty
+pub mod KeptDeliveries
 pub mod Within

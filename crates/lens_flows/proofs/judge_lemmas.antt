@@ -1,8 +1,3 @@
 pub mod Firsts
-pub mod Crossings
-pub mod Steps
-pub mod BegunCycles
-pub mod Fating
+pub mod Judging
 pub mod Comings
-pub mod Rows
-pub mod Spans

@@ -1,19 +1,99 @@
--- The lines of `latency` hold in each run.
-use Rattle.lens_latency.{proofs.{Parts.{has_part, part_of}, Rows.{begins_in_cycle, one_first, one_last}}, specs.Laws.{ComesAtItsPlace, ComesInItsTime, trip_by}}
-use Rattle.lens_latency.specs.{Comings.{AreComings, IsComing, IsPartAt, IsPartOf, some_coming}, Trips.{IsFirstOf, IsHop, IsTrip, trip_of}}
-use Rattle.lens_latency.specs.declared.{comings.Coming.Coming, trips.{TripEnd.TheVariants.{First, Last}, Trip.Trip}}
-use Rattle.net_plan.{proofs.{Beta.beta_exists, Shape.rules_give_trees}, specs.{Bounds.{IsBeta, beta_at}, Places.{IsEndSystem, IsSwitchOf, device_at, is_end_system}, Ranges.IsInRange}}
-use Rattle.net_plan.specs.declared.{ids.{DeviceId.DeviceId, VlId.VlId}, network.Network.Network, tables.{Device.Device, VirtualLink.VirtualLink, Way.{Way, TheVariants.{Down, Up}}}}
-use Rattle.precision_law.proofs.traffic_lemmas.Safe.{frames_are_delivered, times_are_taken}
-use Rattle.{precision_law.proofs.traffic_lemmas.faults.Channels.switch_no_end, run_law.proofs.scenario.Devices.end_test}
-use Rattle.run_law.specs.{device.{LocalClocks.local_before, Standpoints.offset_in_cycle}, records.Happenings.{happenings, time_of}, scenario.Scenarios.is_broken}
-use Rattle.schedule_tables.proofs.Margins.{shape_rules}
-use Rattle.schedule_tables.specs.{Entries.{IsEntry, IsOnChannel, source_by, source_of, target_by, target_of}, Rules.KeepsRules}
-use Rattle.schedule_tables.specs.{Schedule.EntersOn, Windows.{arrival_of, tolerance, window_end}, declared.{entry.Entry.Entry, rule.Rule.TheVariants.{BothChannels, Joints}}}
-use Rattle.std.proofs.Common.{◌-ℤ◌, ◌-◌, ◌<◌, ◌∙◌, ◌∷◌, ◌≡◌, ◌≤ℤ◌, ◌≤◌, List, None, Option, Some, [], ap, arith, false, inl, inr, length, max, min, pos, refl, subst, suc, sym, true, zero}
-use Rattle.std.proofs.{Math.Nat.{le-max_left, le-max_right, min-le_left, min-le_right}, lemmas.{Bool.both_ways, Int.ints, Option.slice_get_within}}
-use Rattle.std.specs.{List.Contains, Prelude.{slice_get, ℕ, ℤ}}
-use Rattle.tte_units.{proofs.general_lemmas.Options.{one as same_some, opened}, specs.declared.frames.channel.Channel.{Channel, TheVariants.{A, B}}}
+-- The lines of `latency` hold in each run, by the rows of virtual links.
+use Rattle.std.{specs.{List.Contains, Prelude.{slice_get, ℕ, ℤ}}}
+use Rattle.std.proofs.{Math.Nat.{le-max_left, le-max_right, min-le_left, min-le_right}}
+use Rattle.std.proofs.{lemmas.{Bool.{both_ways, cases_lt}, Int.ints, Option.slice_get_within}}
+use Rattle.std.proofs.Common
+use Common.{◌-ℤ◌, ◌-◌, ◌<◌, ◌∙◌, ◌∷◌, ◌≡◌, ◌≤ℤ◌, ◌≤◌, List, None, Option, Some, [], ap, arith, false, inl, inr, length}
+use Common.{max, min, pos, refl, subst, suc, sym, true, zero}
+use Rattle.lens_latency.{proofs.Comings.{has_part, part_of}}
+use Rattle.lens_latency.specs.{Comings.{AreComings, IsComing, IsPartAt, IsPartOf, some_coming}}
+use Rattle.lens_latency.specs.{Laws.{ComesAtItsPlace, ComesInItsTime, trip_by}}
+use Rattle.lens_latency.specs.{Trips.{IsFirstOf, IsHop, IsTrip, trip_of}}
+use Rattle.lens_latency.specs.{declared.{comings.Coming.Coming, trips.{Trip.Trip, TripEnd.TheVariants.{First, Last}}}}
+use Rattle.net_plan.{proofs.Trees.{beta_exists, rules_give_trees}}
+use Rattle.net_plan.specs.{Bounds.{IsBeta, beta_at}, Paths.IsUplink}
+use Rattle.net_plan.specs.{Places.{IsEndSystem, IsSwitchOf, device_at, is_end_system, link_at}, Ranges.IsInRange}
+use Rattle.net_plan.specs.declared.{ids.{DeviceId.DeviceId, VlId.VlId}, network.Network.Network}
+use Rattle.net_plan.specs.declared.tables.{Device.Device, Link.Link, VirtualLink.VirtualLink}
+use Rattle.net_plan.specs.declared.tables.{Way.{TheVariants.{Down, Up}, Way}}
+use Rattle.precision_law.proofs.traffic_lemmas.{Safe.{frames_are_delivered, times_are_taken}}
+use Rattle.precision_law.proofs.traffic_lemmas.{faults.Channels.switch_no_end, schedule.Rows.rows_go_once}
+use Rattle.run_law.{proofs.scenario.Devices.end_test}
+use Rattle.run_law.specs.{device.{LocalClocks.local_before, Standpoints.offset_in_cycle}}
+use Rattle.run_law.specs.{records.Happenings.{happenings, time_of}, scenario.{Devices.is_end, Scenarios.is_broken}}
+use Rattle.schedule_tables.{proofs.{Margins.shape_rules, SlotLemmas.one_entry}}
+use Rattle.schedule_tables.specs.{Entries.{IsEntry, IsOnChannel, source_by, source_of, target_by, target_of}}
+use Rattle.schedule_tables.specs.{Rules.KeepsRules, Schedule.EntersOn, Windows.{arrival_of, tolerance, window_end}}
+use Rattle.schedule_tables.specs.declared.{entry.Entry.Entry}
+use Rattle.schedule_tables.specs.declared.rule.Rule.TheVariants
+use TheVariants.{BothChannels, Forwarding, Joints, Senders, Sources, Targets}
+use Rattle.tte_units.{proofs.general_lemmas.Options.{closed, one as same_some, opened}}
+use Rattle.tte_units.{specs.declared.frames.channel.Channel.{Channel, TheVariants.{A, B}}}
+
+-- ---- the rows of a virtual link at its sender and at its receivers
+
+module _ (n : Network) (range : IsInRange n) (keeps : KeepsRules n) where
+  -- a row that leaves an end system goes by its uplink
+  by_uplink : (channel : Channel) (place : ℕ) (entry : Entry) (device : DeviceId) → IsEntry n place entry → IsOnChannel n channel entry
+      → is_end n device ≡ true → source_of entry ≡ device → IsUplink n channel device entry.row.link
+  by_uplink channel place entry device row on end source = by entry.row.way source
+    where
+      by : (way : Way) → source_by way entry.link ≡ device → IsUplink n channel device entry.row.link
+      by Up e = closed (λ (l : Link). (l.child ≡ device) × IsSwitchOf n channel l.parent) (link_at n entry.row.link) entry.link row.link (e, on)
+      by Down e =
+          let switch = subst (IsSwitchOf n channel) e on in
+          absurd (both_ways _ (switch_no_end channel device range switch) end)
+
+  -- the virtual link's row that leaves its sender on the channel is one
+  one_first : (vl : VlId) (channel : Channel) (place other : ℕ) (entry second : Entry) → IsEntry n place entry → IsEntry n other second
+      → entry.row.vl ≡ vl → second.row.vl ≡ vl → IsOnChannel n channel entry → IsOnChannel n channel second → source_of entry ≡ entry.vl.sender
+      → source_of second ≡ second.vl.sender → entry ≡ second
+  one_first vl channel place other entry second row also own same on there source from =
+      let linked = subst (λ (v : VlId). slice_get n.vl v.0 ≡ Some entry.vl) own row.vl in
+      let again = subst (λ (v : VlId). slice_get n.vl v.0 ≡ Some second.vl) same also.vl in
+      let vls = same_some (slice_get n.vl vl.0) entry.vl second.vl linked again in
+      let end = end_test n entry.vl.sender (keeps Senders vl.0 entry.vl linked) in
+      let back : source_of second ≡ entry.vl.sender = from ∙ sym (ap (λ v. v.sender) vls) in
+      let tree = rules_give_trees n (shape_rules n keeps) in
+      let link = tree.one_uplink channel entry.vl.sender entry.row.link second.row.link (by_uplink channel place entry entry.vl.sender row on end source)
+      (by_uplink channel other second entry.vl.sender also there end back) in
+      (rows_go_once n place other entry second keeps row also (own ∙ sym same) link).1
+
+  -- so is the one that enters an end system on the channel
+  one_last : (vl : VlId) (channel : Channel) (device : DeviceId) (place other : ℕ) (entry second : Entry) → IsEndSystem n device
+      → IsEntry n place entry → IsEntry n other second → entry.row.vl ≡ vl → second.row.vl ≡ vl → IsOnChannel n channel entry
+      → IsOnChannel n channel second → target_of entry ≡ device → target_of second ≡ device → entry ≡ second
+  one_last vl channel device place other entry second end row also own same on there target into =
+      elim (cases_lt place other) [
+        | inl lt ↦
+            absurd ((keeps Targets other).end_systems place entry second channel lt row also (same ∙ sym own) (subst (IsEndSystem n) (sym into) end) on there
+            (into ∙ sym target))
+        | inr ge ↦ elim (cases_lt other place) [
+          | inl lt ↦
+              absurd ((keeps Targets place).end_systems other second entry channel lt also row (own ∙ sym same) (subst (IsEndSystem n) (sym target) end) there on
+              (target ∙ sym into))
+          | inr le ↦
+              let here : other ≡ place = omega (arith, ge, le) in
+              one_entry n place entry second row (subst (λ j. IsEntry n j second) here also)
+        ]
+      ]
+
+  -- a row that leaves a switch comes behind a window, so its own begins in the cycle
+  begins_in_cycle : (channel : Channel) (place : ℕ) (entry : Entry) → IsEntry n place entry → IsSwitchOf n channel (source_of entry)
+      → tolerance n ≤ arrival_of entry
+  begins_in_cycle channel place entry row switch =
+      let not : source_of entry ≡ entry.vl.sender → ⊥ = λ e.
+      both_ways _ (switch_no_end channel (source_of entry) range switch)
+      (subst (λ d. is_end n d ≡ true) (sym e) (end_test n entry.vl.sender (keeps Senders entry.row.vl.0 entry.vl row.vl))) in
+      elim (keeps Sources place entry row) [
+        | inl sender ↦ absurd (not sender)
+        | inr other ↦
+            let enters = other.1.2 in
+            let behind = (keeps Forwarding place).from_switch other.1.0 enters.entry entry enters.is row (sym enters.same_vl) not enters.target in
+            omega (arith, behind)
+      ]
+
+-- ---- the lines of `latency` hold in each run
 
 -- the coming is the device's of the virtual link, among these
 record IsFound (network : Network) (cs : List Coming) (vl : VlId) (device : DeviceId) : Type 0 where

@@ -1,13 +1,6 @@
-pub mod Parts
-pub mod Firsts
-pub mod Names
+pub mod Comings
 pub mod Givings
 pub mod Departures
-pub mod Followings
 pub mod SeenTimes
-pub mod OneAnswer
 pub mod OneReport
-pub mod Rows
 pub mod LawProofs
-pub mod Beginnings
-pub mod SeenLaw

@@ -1,17 +1,553 @@
--- The rows of flows.
+-- The rows of flows, and by which channels the copies of a frame come.
+use Rattle.std.{specs.{Option.option_map_or, Prelude.{◌&&◌, ◌==◌, slice_get}}}
+use Rattle.std.proofs.{lemmas.{Bool.{Decides.nat_tests, false≢true}, List.{Sums.fold-append, append-nil}}}
+use Rattle.std.proofs.Common
+use Common.{if◌then◌else◌, ◌++◌, ◌+◌, ◌∙◌, ◌∷◌, ◌≡◌, ◌≤◌, ◌⊎◌, Bool, List, None, Option, Some, [], add-one, ap}
+use Common.{append_assoc, arith, false, fold, inl, inr, length, length-append, refl, subst, suc, sym, true, zero, ℕ}
 use Rattle.lens_flows.specs.declared.judge.flow.Flow.{Flow}
 use Rattle.lens_overview.proofs.{LawStrokes.same_shade, LawTexts.is_flow}
-use Rattle.lens_overview.specs.{Cells.{Missed, cells_of, flow_cells, is_alike, is_any}, LawParts.IsRowOf, Labels.{is_of_vl, with_receiver}, Ranges.{all_below, each_below}, Shades.is_same}
-use Rattle.lens_overview.specs.Rows.{Row, ToldSoFar, calm_below, count_rows, filled_row, is_like, is_turned, joined, lane_at, lane_rows, losses, others_row, passage_rows, passages_at, raised, rows_of, start_of, title_row, upper_rows, with_flows}
-use Rattle.lens_overview.specs.declared.{label.{Kind.Kind, Label.Label}, rows.Calm.Calm, shade.Shade.{Shade, TheVariants.Blank}}
-use Rattle.net_plan.{proofs.SameIds.same_vl, specs.declared.{ids.VlId.VlId, network.Network.Network, tables.Device.Device}}
-use Rattle.run_law.{proofs.runs.Places.{in_left, in_parts}, specs.records.Order.IsIn}
-use Rattle.std.proofs.Common.{◌+◌, ◌++◌, ◌∙◌, ◌∷◌, ◌≡◌, ◌⊎◌, Bool, List, None, Option, Some, [], ap, arith, false, fold, if◌then◌else◌, inl, inr, length, length-append, refl, subst, suc, sym, true, zero, ℕ}
-use Rattle.std.{proofs.lemmas.Bool.{Decides.nat_tests, false≢true}, specs.{Option.option_map_or, Prelude.{◌&&◌, ◌==◌, slice_get}}}
+use Rattle.lens_overview.proofs.LawRows
+use LawRows.{Brings, brings_delivered, brought_delivered, come_brought, cycle_of_copy, flow_of_copy, frame_after}
+use LawRows.{frame_behind, is_copy, is_own, never_missing, told_from}
+use Rattle.lens_overview.specs.{Cells.{Missed, cells_of, flow_cells, is_alike, is_any}}
+use Rattle.lens_overview.specs.{Labels.{is_of_vl, with_receiver}, LawColours.{ComesBy, IsRepeatedIn, IsSentBy}}
+use Rattle.lens_overview.specs.{LawParts.{IsDeliveredIn, IsRowOf}}
+use Rattle.lens_overview.specs.{News.{change_at, change_of, news_of, repeats_by, struck}}
+use Rattle.lens_overview.specs.{Ranges.{all_below, each_below}}
+use Rattle.lens_overview.specs.{Shades.{code_of, delivered, is_blank, is_same, repeated}}
+use Rattle.lens_overview.specs.Rows
+use Rows.{Row, ToldSoFar, calm_below, count_rows, filled_row, is_like, is_turned, joined, lane_at, lane_rows, losses}
+use Rows.{others_row, passage_rows, passages_at, raised, rows_of, start_of, title_row, upper_rows, with_flows}
+use Rattle.lens_overview.specs.declared.{label.{Kind.Kind, Label.Label}, news.{Change.Change, Copied.Copied, News.News}}
+use Rattle.lens_overview.specs.declared.{rows.Calm.Calm, shade.Shade.{Shade, TheVariants.Blank}}
+use Rattle.net_plan.{proofs.SameIds.same_vl}
+use Rattle.net_plan.specs.declared.{event.What.What, ids.{DeviceId.DeviceId, LinkId.LinkId, VlId.VlId}}
+use Rattle.net_plan.specs.declared.{network.Network.Network, tables.Device.Device}
+use Rattle.run_law.{proofs.runs.Places.{in_left, in_parts, in_right}}
+use Rattle.run_law.specs.{declared.note.{Note.Note, NoteBody.NoteBody}, records.{Happenings.Happening, Order.IsIn}}
+use Rattle.run_law.specs.{scenario.{Devices.channel_of_link, Scenarios.Scenario}}
+use Rattle.tte_units.{proofs.general_lemmas.Options.{mapped, one}}
+use Rattle.tte_units.{specs.declared.frames.channel.Channel.{Channel, TheVariants.{A, B}}}
 use Rattle.lens_overview.specs.declared.label.Group.TheVariants as groups
 use Rattle.lens_overview.specs.declared.label.Kind.TheVariants as kinds
 use Rattle.lens_overview.specs.declared.label.Label.TheVariants as labels
+use Rattle.lens_overview.specs.declared.news.Change.TheVariants as changes
+use Rattle.lens_overview.specs.declared.shade.Shade.TheVariants as shades
+use Rattle.net_plan.specs.declared.event.What.TheVariants as events
 use Rattle.net_plan.specs.declared.tables.Way.TheVariants as ways
+use Rattle.run_law.specs.declared.judgement.Reason.TheVariants as reasons
+use Rattle.run_law.specs.declared.note.NoteBody.TheVariants as notes
+
+-- ---- by which channels the copies of a frame come, and its shade
+
+-- ---- what a shade says of a channel
+
+-- a copy came by the channel
+abbrev pub has : Channel → Shade → Bool
+has A shades.AloneA = true
+has A shades.Both = true
+has B shades.AloneB = true
+has B shades.Both = true
+has channel shade = false
+
+delivered_has : (shade : Shade) (channel : Channel) → code_of shade ≤ 3 → has channel (delivered shade (Some channel)) ≡ true
+delivered_has shades.Blank A most = refl
+delivered_has shades.Blank B most = refl
+delivered_has shades.Both A most = refl
+delivered_has shades.Both B most = refl
+delivered_has shades.AloneA A most = refl
+delivered_has shades.AloneA B most = refl
+delivered_has shades.AloneB A most = refl
+delivered_has shades.AloneB B most = refl
+delivered_has shade channel most = absurd (omega (arith, most))
+
+delivered_keeps : (shade : Shade) (by channel : Channel) → code_of shade ≤ 3 → has channel shade ≡ true
+    → has channel (delivered shade (Some by)) ≡ true
+delivered_keeps shades.Blank by A most e = absurd (false≢true e)
+delivered_keeps shades.Blank by B most e = absurd (false≢true e)
+delivered_keeps shades.Both A channel most e = e
+delivered_keeps shades.Both B channel most e = e
+delivered_keeps shades.AloneA A channel most e = e
+delivered_keeps shades.AloneA B A most e = refl
+delivered_keeps shades.AloneA B B most e = refl
+delivered_keeps shades.AloneB A A most e = refl
+delivered_keeps shades.AloneB A B most e = refl
+delivered_keeps shades.AloneB B channel most e = e
+delivered_keeps shade by channel most e = absurd (omega (arith, most))
+
+delivered_new : (shade : Shade) (by channel : Channel) → code_of shade ≤ 3 → has channel (delivered shade (Some by)) ≡ true
+    → (has channel shade ≡ true) ⊎ (by ≡ channel)
+delivered_new shade A A most e = inr refl
+delivered_new shade B B most e = inr refl
+delivered_new shades.Blank A B most e = absurd (false≢true e)
+delivered_new shades.Blank B A most e = absurd (false≢true e)
+delivered_new shades.Both A B most e = inl refl
+delivered_new shades.Both B A most e = inl refl
+delivered_new shades.AloneA A B most e = absurd (false≢true e)
+delivered_new shades.AloneA B A most e = inl refl
+delivered_new shades.AloneB A B most e = inl refl
+delivered_new shades.AloneB B A most e = absurd (false≢true e)
+delivered_new shade by channel most e = absurd (omega (arith, most))
+
+has_seen : (shade : Shade) (channel : Channel) → has channel shade ≡ true → is_blank shade ≡ false
+has_seen shades.Both channel e = refl
+has_seen shades.AloneA channel e = refl
+has_seen shades.AloneB channel e = refl
+has_seen shade A e = absurd (false≢true e)
+has_seen shade B e = absurd (false≢true e)
+
+pub both_is : (shade : Shade) → has A shade ≡ true → has B shade ≡ true → shade ≡ shades.Both
+both_is shades.Both a b = refl
+both_is shades.AloneA a b = absurd (false≢true b)
+both_is shade a b = absurd (false≢true a)
+
+pub first_is : (shade : Shade) → has A shade ≡ true → (has B shade ≡ true → ⊥) → shade ≡ shades.AloneA
+first_is shades.AloneA a b = refl
+first_is shades.Both a b = absurd (b refl)
+first_is shade a b = absurd (false≢true a)
+
+pub second_is : (shade : Shade) → has B shade ≡ true → (has A shade ≡ true → ⊥) → shade ≡ shades.AloneB
+second_is shades.AloneB b a = refl
+second_is shades.Both b a = absurd (a refl)
+second_is shade b a = absurd (false≢true b)
+
+-- ---- what a record tells of a copy
+
+vl_in : VlId → Change → VlId
+vl_in d (changes.Sends vl cycle) = vl
+vl_in d change = d
+
+cycle_in : Change → ℕ
+cycle_in (changes.Sends vl cycle) = cycle
+cycle_in change = 0
+
+copied_in : Copied → Change → Copied
+copied_in d (changes.Repeats copied) = copied
+copied_in d change = d
+
+struck_sends : (what : What) (vl : VlId) (cycle : ℕ) → struck what ≡ changes.Sends vl cycle → ⊥
+struck_sends (events.Break device) vl cycle e = cc
+struck_sends (events.Cut link way) vl cycle e = cc
+struck_sends (events.Heal link way) vl cycle e = cc
+struck_sends what vl cycle e = cc
+
+repeats_sends : (network : Network) (device : DeviceId) (link : LinkId) (o : Option Change) (vl : VlId) (cycle : ℕ)
+    → repeats_by network device link o ≡ changes.Sends vl cycle → ⊥
+repeats_sends network device link None vl cycle e = cc
+repeats_sends network device link (Some (changes.Sends v c)) vl cycle e = cc
+repeats_sends network device link (Some other) vl cycle e = cc
+
+-- only a record that sends a frame tells so
+sending : (network : Network) (before : List News) (body : NoteBody) (vl : VlId) (cycle : ℕ) → change_of network before body ≡ changes.Sends vl cycle
+    → (device : DeviceId) × (link : LinkId) × (cause : ℕ) × (body ≡ notes.TtSent device link cause vl cycle)
+unfolding vl_in cycle_in
+sending network before (notes.Event line what) vl cycle e = absurd (struck_sends what vl cycle e)
+sending network before (notes.TtSent device link cause v c) vl cycle e = (
+  device,
+  link,
+  cause,
+  ap (λ (x : VlId). notes.TtSent device link cause x c) (ap (vl_in vl) e) ∙ ap (λ (n : ℕ). notes.TtSent device link cause vl n) (ap cycle_in e),
+)
+sending network before (notes.Dropped device link cause reasons.Repeat) vl cycle e =
+    absurd (repeats_sends network device link (change_at before cause) vl cycle e)
+sending network before body vl cycle e = absurd cc
+
+-- the record drops the second copy
+record IsRepeating (network : Network) (before : List News) (body : NoteBody) (copied : Copied) : Type 0 where
+  pub link : LinkId
+  pub cause : ℕ
+  pub is : body ≡ notes.Dropped copied.device link cause reasons.Repeat
+  pub by : copied.channel ≡ channel_of_link network link
+  pub sent : change_at before cause ≡ Some (changes.Sends copied.vl copied.cycle)
+
+struck_repeats : (what : What) (copied : Copied) → struck what ≡ changes.Repeats copied → ⊥
+struck_repeats (events.Break device) copied e = cc
+struck_repeats (events.Cut link way) copied e = cc
+struck_repeats (events.Heal link way) copied e = cc
+struck_repeats what copied e = cc
+
+repeating : (network : Network) (before : List News) (body : NoteBody) (copied : Copied) → change_of network before body ≡ changes.Repeats copied
+    → IsRepeating network before body copied
+unfolding copied_in
+repeating network before (notes.Event line what) copied e = absurd (struck_repeats what copied e)
+repeating network before (notes.Dropped device link cause reasons.Repeat) copied e = by (change_at before cause) refl e
+  where
+    by : (o : Option Change) → change_at before cause ≡ o → repeats_by network device link o ≡ changes.Repeats copied
+        → IsRepeating network before (notes.Dropped device link cause reasons.Repeat) copied
+    by None sent e = absurd cc
+    by (Some (changes.Sends vl cycle)) sent e =
+        let made : Copied = record { vl = vl; device = device; cycle = cycle; channel = channel_of_link network link } in
+        let same : made ≡ copied = ap (copied_in copied) e in
+        record {
+          link = link;
+          cause = cause;
+          is = ap (λ (x : Copied). notes.Dropped x.device link cause reasons.Repeat) same;
+          by = sym (ap (λ (x : Copied). x.channel) same);
+          sent = sent ∙ ap (λ (x : Copied). Some (changes.Sends x.vl x.cycle)) same;
+        }
+    by (Some other) sent e = absurd cc
+repeating network before body copied e = absurd cc
+
+module _ (vl : VlId) (device : DeviceId) (cycle : ℕ) where
+  -- a second copy of the frame comes by a channel
+  record BringsMore (change : Change) : Type 0 where
+    pub copied : Copied
+    pub is : change ≡ changes.Repeats copied
+    pub copy : is_copy vl device cycle copied ≡ true
+    pub channel : Channel
+    pub by : copied.channel ≡ Some channel
+
+  -- the record delivers the frame, or drops a second copy, or makes nothing of its shade
+  effect : (change : Change)
+      → Brings vl device cycle change ⊎ BringsMore change ⊎ ((shade : Shade) → frame_after vl device cycle change shade ≡ shade)
+  effect (changes.Delivers copied) = by (is_copy vl device cycle copied) refl copied.channel refl
+    where
+      by : (b : Bool) → is_copy vl device cycle copied ≡ b → (o : Option Channel) → copied.channel ≡ o
+          → Brings vl device cycle (changes.Delivers copied) ⊎ BringsMore (changes.Delivers copied)
+          ⊎ ((shade : Shade) → (if b then delivered shade copied.channel else shade) ≡ shade)
+      by false e o is = inr (inr (λ shade. refl))
+      by true e None is = inr (inr (λ shade. ap (λ x. delivered shade x) is))
+      by true e (Some channel) is = inl (record { copied = copied; is = refl; copy = e; channel = channel; by = is })
+  effect (changes.Repeats copied) = by (is_copy vl device cycle copied) refl copied.channel refl
+    where
+      none : (shade : Shade) (b : Bool) → (if b then shade else delivered shade None) ≡ shade
+      none shade true = refl
+      none shade false = refl
+
+      by : (b : Bool) → is_copy vl device cycle copied ≡ b → (o : Option Channel) → copied.channel ≡ o
+          → Brings vl device cycle (changes.Repeats copied) ⊎ BringsMore (changes.Repeats copied)
+          ⊎ ((shade : Shade) → (if b then repeated shade copied.channel else shade) ≡ shade)
+      by false e o is = inr (inr (λ shade. refl))
+      by true e None is = inr (inr (λ shade. ap (λ x. repeated shade x) is ∙ none shade (is_blank shade)))
+      by true e (Some channel) is = inr (inl (record { copied = copied; is = refl; copy = e; channel = channel; by = is }))
+  effect change = inr (inr (λ shade. refl))
+
+  -- what a delivery makes of it, and a second copy
+  after_delivery : (change : Change) (shade : Shade) → (b : Brings vl device cycle change)
+      → frame_after vl device cycle change shade ≡ delivered shade (Some b.channel)
+  after_delivery change shade b =
+      ap (λ c. frame_after vl device cycle c shade) b.is
+      ∙ ap (λ (t : Bool). if t then delivered shade b.copied.channel else shade) b.copy ∙ ap (λ o. delivered shade o) b.by
+
+  after_repeat : (change : Change) (shade : Shade) → (b : BringsMore change)
+      → frame_after vl device cycle change shade ≡ repeated shade (Some b.channel)
+  after_repeat change shade b =
+      ap (λ c. frame_after vl device cycle c shade) b.is
+      ∙ ap (λ (t : Bool). if t then repeated shade b.copied.channel else shade) b.copy ∙ ap (λ o. repeated shade o) b.by
+
+  repeated_keeps : (shade : Shade) (by channel : Channel) → code_of shade ≤ 3 → has channel shade ≡ true → has channel (repeated shade (Some by)) ≡ true
+  repeated_keeps shade by channel most e = at (is_blank shade)
+    where
+      at : (t : Bool) → has channel (if t then shade else delivered shade (Some by)) ≡ true
+      at true = e
+      at false = delivered_keeps shade by channel most e
+
+  -- a copy that came is never forgotten
+  after_keeps : (change : Change) (shade : Shade) (channel : Channel) → code_of shade ≤ 3 → has channel shade ≡ true
+      → has channel (frame_after vl device cycle change shade) ≡ true
+  after_keeps change shade channel most e = elim (effect change) [
+    | inl b ↦ ap (has channel) (after_delivery change shade b) ∙ delivered_keeps shade b.channel channel most e
+    | inr more ↦ elim more [
+      | inl b ↦ ap (has channel) (after_repeat change shade b) ∙ repeated_keeps shade b.channel channel most e
+      | inr none ↦ ap (has channel) (none shade) ∙ e
+    ]
+  ]
+
+-- ---- records, one after another
+
+-- the last of records is among the first, or stands behind them
+last_or_first : (before rest ns : List Note) (note x : Note) → ns ++ x ∷ [] ≡ before ++ note ∷ rest
+    → ((ns ≡ before) × (x ≡ note)) ⊎ ((more : List Note) × (ns ≡ before ++ note ∷ more))
+last_or_first [] rest [] note x e = inl (refl, cc)
+last_or_first [] rest (n ∷ ns) note x e = let same : n ≡ note = cc in inr (ns, ap (λ (m : Note). m ∷ ns) same)
+last_or_first (b ∷ []) rest [] note x e = absurd cc
+last_or_first (b ∷ c ∷ before) rest [] note x e = absurd cc
+last_or_first (b ∷ before) rest (n ∷ ns) note x e =
+    let same : n ≡ b = cc in
+    let others : ns ++ x ∷ [] ≡ before ++ note ∷ rest = cc in
+    elim (last_or_first before rest ns note x others) [
+      | inl h ↦ inl (ap (λ (m : Note). m ∷ ns) same ∙ ap (λ (ms : List Note). b ∷ ms) h.0, h.1)
+      | inr h ↦ inr (h.0, ap (λ (m : Note). m ∷ ns) same ∙ ap (λ (ms : List Note). b ∷ ms) h.1)
+    ]
+
+module _ (network : Network) (s : Scenario) (hs : List Happening) where
+  -- what is told of each record
+  abbrev AreTold : List Note → List News → Type 0
+  AreTold [] [] = Unit {0}
+  AreTold (note ∷ ns) (news ∷ fs) = ((before : List News) × (news ≡ news_of network s hs before note)) × AreTold ns fs
+  AreTold ns fs = ⊥
+
+  told_more : (ns : List Note) (fs before : List News) (note : Note) → AreTold ns fs → AreTold (ns ++ note ∷ []) (fs ++ news_of network s hs before note ∷ [])
+  told_more [] [] before note told = ((before, refl), tt)
+  told_more [] (f ∷ fs) before note told = absurd told
+  told_more (n ∷ ns) [] before note told = absurd told
+  told_more (n ∷ ns) (f ∷ fs) before note told = (told.0, told_more ns fs before note told.1)
+
+  news_there : (ns : List Note) (fs : List News) (k : ℕ) (note : Note) → AreTold ns fs → slice_get ns k ≡ Some note
+      → (before : List News) × (slice_get fs k ≡ Some (news_of network s hs before note))
+  news_there [] fs zero note told e = absurd cc
+  news_there [] fs (suc k) note told e = absurd cc
+  news_there (n ∷ ns) [] k note told e = absurd told
+  news_there (n ∷ ns) (f ∷ fs) zero note told e =
+      let same : n ≡ note = one (Some n) n note refl e in (
+        told.0.0,
+        ap (λ (x : News). Some x) told.0.1 ∙ ap (λ x. Some (news_of network s hs told.0.0 x)) same,
+      )
+  news_there (n ∷ ns) (f ∷ fs) (suc k) note told e = news_there ns fs k note told.1 e
+
+  note_there : (ns : List Note) (fs : List News) (k : ℕ) (news : News) → AreTold ns fs → slice_get fs k ≡ Some news
+      → (note : Note) × (before : List News) × (slice_get ns k ≡ Some note) × (news ≡ news_of network s hs before note)
+  note_there ns [] zero news told e = absurd cc
+  note_there ns [] (suc k) news told e = absurd cc
+  note_there [] (f ∷ fs) k news told e = absurd told
+  note_there (n ∷ ns) (f ∷ fs) zero news told e =
+      let same : f ≡ news = one (Some f) f news refl e in (n, told.0.0, refl, sym same ∙ told.0.1)
+  note_there (n ∷ ns) (f ∷ fs) (suc k) news told e = note_there ns fs k news told.1 e
+
+  -- the record that a copy comes from
+  sent_by : (ns : List Note) (fs : List News) (cause : ℕ) (vl : VlId) (cycle : ℕ) → AreTold ns fs
+      → change_at fs cause ≡ Some (changes.Sends vl cycle) → IsSentBy ns cause vl cycle
+  sent_by ns fs zero vl cycle told e = absurd cc
+  sent_by ns fs (suc k) vl cycle told e =
+      let at = mapped (λ (n : News). n.change) (slice_get fs k) (changes.Sends vl cycle) e in
+      let h = note_there ns fs k at.0 told at.1 in
+      let sends : change_of network h.1 h.0.body ≡ changes.Sends vl cycle = sym (ap (λ (n : News). n.change) h.3) ∙ at.2 in
+      let is = sending network h.1 h.0.body vl cycle sends in
+      record {
+        place = k;
+        counted = sym (add-one k);
+        note = h.0;
+        there = h.2;
+        device = is.0;
+        link = is.1;
+        cause = is.2;
+        is = is.3;
+      }
+
+  by_sent : (ns : List Note) (fs : List News) (cause : ℕ) (vl : VlId) (cycle : ℕ) → AreTold ns fs
+      → IsSentBy ns cause vl cycle → change_at fs cause ≡ Some (changes.Sends vl cycle)
+  by_sent ns fs cause vl cycle told sent =
+      let h = news_there ns fs sent.place sent.note told sent.there in
+      ap (change_at fs) (sent.counted ∙ add-one sent.place)
+      ∙ ap (λ (o : Option News). Rattle.std.specs.Prelude.option_map (λ (n : News). n.change) o) h.1
+      ∙ ap (λ body. Some (change_of network h.0 body)) sent.is
+
+  module _ (flow : Flow) (cycle : ℕ) where
+    abbrev told : List Note → List News
+    told ns = told_from network s hs [] ns
+
+    -- the shade of the flow's frame of the cycle
+    abbrev pub shade_by : List Note → Shade
+    shade_by ns = frame_behind flow.vl flow.device cycle shades.Blank (told ns)
+
+    -- it says by which channels copies come
+    pub record IsKnown (ns : List Note) : Type 0 where
+      pub told : AreTold ns (told ns)
+      pub comes : (channel : Channel) → has channel (shade_by ns) ≡ true → ComesBy network ns flow cycle channel
+      pub shows : (channel : Channel) → ComesBy network ns flow cycle channel → has channel (shade_by ns) ≡ true
+
+    most : (ns : List Note) → code_of (shade_by ns) ≤ 3
+    most ns = never_missing flow.vl flow.device cycle (told ns)
+
+    -- what came stays
+    delivered_longer : (ns more : List Note) → (d : IsDeliveredIn network ns flow cycle)
+        → (e : IsDeliveredIn network (ns ++ more) flow cycle) × (e.channel ≡ d.channel)
+    delivered_longer ns more d = (
+      record {
+        note = d.note;
+        there = in_left d.note ns more d.there;
+        link = d.link;
+        cause = d.cause;
+        is = d.is;
+        channel = d.channel;
+        by = d.by;
+      },
+      refl,
+    )
+
+    comes_longer : (ns : List Note) (x : Note) (channel : Channel) → ComesBy network ns flow cycle channel
+        → ComesBy network (ns ++ x ∷ []) flow cycle channel
+    comes_longer ns x channel (inl (d, same)) = let h = delivered_longer ns (x ∷ []) d in inl (h.0, h.1 ∙ same)
+    comes_longer ns x channel (inr r) = inr (record {
+      before = r.before;
+      note = r.note;
+      rest = r.rest ++ x ∷ [];
+      there = ap (λ (ms : List Note). ms ++ x ∷ []) r.there ∙ append_assoc r.before (r.note ∷ r.rest) (x ∷ []);
+      link = r.link;
+      cause = r.cause;
+      is = r.is;
+      by = r.by;
+      sent = r.sent;
+      delivered = r.delivered;
+    })
+
+    -- what a record makes of the shade
+    shade_next : (ns : List Note) (x : Note)
+        → shade_by (ns ++ x ∷ []) ≡ frame_after flow.vl flow.device cycle (change_of network (told ns) x.body) (shade_by ns)
+    shade_next ns x =
+        ap (frame_behind flow.vl flow.device cycle shades.Blank) (fold-append _ _ ns (x ∷ []))
+        ∙ fold-append _ _ (told ns) (news_of network s hs (told ns) x ∷ [])
+
+    -- where the frame is not blank, a record delivers it
+    seen_delivered : (ns : List Note) → is_blank (shade_by ns) ≡ false → IsDeliveredIn network ns flow cycle
+    seen_delivered ns seen =
+        let some : 1 ≤ code_of (shade_by ns) = grind (arith, nat_tests, seen) in
+        let h = come_brought flow.vl flow.device cycle (told ns) shades.Blank refl some in
+        brought_delivered network s hs ns flow cycle h.0 h.1 h.2
+
+    -- a second copy that a record drops behind a delivery
+    repeat_new : (ns : List Note) (x : Note) → IsKnown ns → is_blank (shade_by ns) ≡ false
+        → (b : BringsMore flow.vl flow.device cycle (change_of network (told ns) x.body))
+        → IsRepeatedIn network (ns ++ x ∷ []) flow cycle b.channel
+    repeat_new ns x known seen b =
+        let h = repeating network (told ns) x.body b.copied b.is in
+        let own = flow_of_copy flow.vl flow.device cycle b.copied b.copy in
+        let at = cycle_of_copy flow.vl flow.device cycle b.copied b.copy in
+        record {
+          before = ns;
+          note = x;
+          rest = [];
+          there = refl;
+          link = h.link;
+          cause = h.cause;
+          is = h.is ∙ ap (λ (d : DeviceId). notes.Dropped d h.link h.cause reasons.Repeat) own.1;
+          by = sym h.by ∙ b.by;
+          sent = sent_by ns (told ns) h.cause flow.vl cycle known.told
+              (h.sent ∙ ap (λ (v : VlId). Some (changes.Sends v b.copied.cycle)) own.0 ∙ ap (λ (c : ℕ). Some (changes.Sends flow.vl c)) at);
+          delivered = seen_delivered ns seen;
+        }
+
+    next_comes : (ns : List Note) (x : Note) → IsKnown ns → (channel : Channel)
+        → has channel (frame_after flow.vl flow.device cycle (change_of network (told ns) x.body) (shade_by ns)) ≡ true
+        → ComesBy network (ns ++ x ∷ []) flow cycle channel
+    next_comes ns x known channel e = elim (effect flow.vl flow.device cycle (change_of network (told ns) x.body)) [
+      | inl b ↦
+          let now = sym (ap (has channel) (after_delivery flow.vl flow.device cycle (change_of network (told ns) x.body) (shade_by ns) b)) ∙ e in
+          elim (delivered_new (shade_by ns) b.channel channel (most ns) now) [
+            | inl old ↦ comes_longer ns x channel (known.comes channel old)
+            | inr own ↦
+                let h = brings_delivered network s hs (ns ++ x ∷ []) flow cycle (told ns) x (in_right x ns (x ∷ []) (inl refl)) b in
+                inl (h.0, h.1 ∙ own)
+          ]
+      | inr more ↦ elim more [
+        | inl b ↦
+            let now = sym (ap (has channel) (after_repeat flow.vl flow.device cycle (change_of network (told ns) x.body) (shade_by ns) b)) ∙ e in
+            by_repeat b (is_blank (shade_by ns)) refl now
+        | inr none ↦ comes_longer ns x channel (known.comes channel (sym (ap (has channel) (none (shade_by ns))) ∙ e))
+      ]
+    ]
+      where
+        by_repeat : (b : BringsMore flow.vl flow.device cycle (change_of network (told ns) x.body)) → (t : Bool) → is_blank (shade_by ns) ≡ t
+            → has channel (if t then shade_by ns else delivered (shade_by ns) (Some b.channel)) ≡ true
+            → ComesBy network (ns ++ x ∷ []) flow cycle channel
+        by_repeat b true blank now = comes_longer ns x channel (known.comes channel now)
+        by_repeat b false seen now = elim (delivered_new (shade_by ns) b.channel channel (most ns) now) [
+          | inl old ↦ comes_longer ns x channel (known.comes channel old)
+          | inr own ↦ inr (subst (IsRepeatedIn network (ns ++ x ∷ []) flow cycle) own (repeat_new ns x known seen b))
+        ]
+
+    next_shows : (ns : List Note) (x : Note) → IsKnown ns → (channel : Channel) → ComesBy network (ns ++ x ∷ []) flow cycle channel
+        → has channel (frame_after flow.vl flow.device cycle (change_of network (told ns) x.body) (shade_by ns)) ≡ true
+    next_shows ns x known channel (inl (d, same)) = elim (in_parts d.note ns (x ∷ []) d.there) [
+      | inl i ↦
+          let old : IsDeliveredIn network ns flow cycle =
+          record { note = d.note; there = i; link = d.link; cause = d.cause; is = d.is; channel = d.channel; by = d.by } in
+          kept (known.shows channel (inl (old, same)))
+      | inr last ↦ elim last [ inl is ↦ new is | inr none ↦ absurd none ]
+    ]
+      where
+        kept : has channel (shade_by ns) ≡ true
+            → has channel (frame_after flow.vl flow.device cycle (change_of network (told ns) x.body) (shade_by ns)) ≡ true
+        kept e = after_keeps flow.vl flow.device cycle (change_of network (told ns) x.body) (shade_by ns) channel (most ns) e
+
+        new : d.note ≡ x → has channel (frame_after flow.vl flow.device cycle (change_of network (told ns) x.body) (shade_by ns)) ≡ true
+        new is =
+            let body : x.body ≡ notes.Delivered flow.device d.link d.cause flow.vl cycle = sym (ap (λ (n : Note). n.body) is) ∙ d.is in
+            let brings : Brings flow.vl flow.device cycle (change_of network (told ns) x.body) =
+            record {
+              copied = record { vl = flow.vl; device = flow.device; cycle = cycle; channel = channel_of_link network d.link };
+              is = ap (change_of network (told ns)) body;
+              copy = is_own flow.vl flow.device cycle (channel_of_link network d.link);
+              channel = d.channel;
+              by = d.by;
+            } in
+            ap (has channel) (after_delivery flow.vl flow.device cycle (change_of network (told ns) x.body) (shade_by ns) brings)
+            ∙ subst (λ c. has c (delivered (shade_by ns) (Some d.channel)) ≡ true) same (delivered_has (shade_by ns) d.channel (most ns))
+    next_shows ns x known channel (inr r) = elim (last_or_first r.before r.rest ns r.note x r.there) [
+      | inl h ↦ new h.0 h.1
+      | inr h ↦
+          let old : IsRepeatedIn network ns flow cycle channel =
+          record {
+            before = r.before;
+            note = r.note;
+            rest = h.0;
+            there = h.1;
+            link = r.link;
+            cause = r.cause;
+            is = r.is;
+            by = r.by;
+            sent = r.sent;
+            delivered = r.delivered;
+          } in
+          after_keeps flow.vl flow.device cycle (change_of network (told ns) x.body) (shade_by ns) channel (most ns) (known.shows channel (inr old))
+    ]
+      where
+        new : ns ≡ r.before → x ≡ r.note
+            → has channel (frame_after flow.vl flow.device cycle (change_of network (told ns) x.body) (shade_by ns)) ≡ true
+        new all is =
+            let body : x.body ≡ notes.Dropped flow.device r.link r.cause reasons.Repeat = ap (λ (n : Note). n.body) is ∙ r.is in
+            let sent = by_sent ns (told ns) r.cause flow.vl cycle known.told
+            (subst (λ ms. IsSentBy ms r.cause flow.vl cycle) (sym all) r.sent) in
+            let d = subst (λ ms. IsDeliveredIn network ms flow cycle) (sym all) r.delivered in
+            let seen = has_seen (shade_by ns) d.channel (known.shows d.channel (inl (d, refl))) in
+            let more : BringsMore flow.vl flow.device cycle (change_of network (told ns) x.body) =
+            record {
+              copied = record { vl = flow.vl; device = flow.device; cycle = cycle; channel = channel_of_link network r.link };
+              is = ap (change_of network (told ns)) body ∙ ap (repeats_by network flow.device r.link) sent;
+              copy = is_own flow.vl flow.device cycle (channel_of_link network r.link);
+              channel = channel;
+              by = r.by;
+            } in
+            ap (has channel) (after_repeat flow.vl flow.device cycle (change_of network (told ns) x.body) (shade_by ns) more)
+            ∙ ap (λ (t : Bool). has channel (if t then shade_by ns else delivered (shade_by ns) (Some channel))) seen
+            ∙ delivered_has (shade_by ns) channel (most ns)
+
+    known_next : (ns : List Note) (x : Note) → IsKnown ns → IsKnown (ns ++ x ∷ [])
+    known_next ns x known = record {
+      told =
+          subst (AreTold (ns ++ x ∷ [])) (sym (fold-append _ _ ns (x ∷ []))) (told_more ns (told ns) (told ns) x known.told);
+      comes = λ channel e. next_comes ns x known channel (sym (ap (has channel) (shade_next ns x)) ∙ e);
+      shows = λ channel come. ap (has channel) (shade_next ns x) ∙ next_shows ns x known channel come;
+    }
+
+    none_repeated : (channel : Channel) → IsRepeatedIn network [] flow cycle channel → ⊥
+    none_repeated channel r = at r.before r.there
+      where
+        at : (before : List Note) → [] ≡ before ++ r.note ∷ r.rest → ⊥
+        at [] e = cc
+        at (b ∷ before) e = cc
+
+    known_none : IsKnown []
+    known_none = record {
+      told = tt;
+      comes = λ channel e. absurd (false≢true (sym (has_seen shades.Blank channel e)));
+      shows = λ channel come. elim come [ inl h ↦ absurd h.0.there | inr r ↦ absurd (none_repeated channel r) ];
+    }
+
+    known_all : (ns rest : List Note) → IsKnown ns → IsKnown (ns ++ rest)
+    known_all ns [] known = subst IsKnown (sym (append-nil ns)) known
+    known_all ns (x ∷ rest) known = subst IsKnown (append_assoc ns (x ∷ []) rest) (known_all (ns ++ x ∷ []) rest (known_next ns x known))
+
+    pub known_of : (ns : List Note) → IsKnown ns
+    known_of ns = known_all [] ns known_none
+
+    -- a frame of which a copy came is delivered
+    pub come_delivered : (ns : List Note) (channel : Channel) → ComesBy network ns flow cycle channel → IsDeliveredIn network ns flow cycle
+    come_delivered ns channel (inl (d, same)) = d
+    come_delivered ns channel (inr r) =
+        subst (λ ms. IsDeliveredIn network ms flow cycle) (sym r.there) (delivered_longer r.before (r.note ∷ r.rest) r.delivered).0
+
+-- ---- the rows of flows
 
 -- ---- rows of other things
 

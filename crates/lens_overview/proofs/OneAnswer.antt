@@ -1,6 +1,6 @@
 -- The answer for a report is one.
-use Rattle.lens_flows.{proofs.counts_lemmas.OneTold.flows_one}
-use Rattle.lens_overview.{proofs.NoneMissed.none_are, specs.Answer.{IsOverviewAnswer, picture_for, pieces_answer}}
+use Rattle.lens_flows.proofs.counts_lemmas.Telling.{flows_one}
+use Rattle.lens_overview.{proofs.LawAnswers.none_are, specs.Answer.{IsOverviewAnswer, picture_for, pieces_answer}}
 use Rattle.{lens_svg.specs.Titles.title_of, std.proofs.Common.{◌∙◌, List, ap, sym, ℕ}, tte_reports.specs.Reports.IsOneFor}
 
 -- for each network and its report there is one answer at most

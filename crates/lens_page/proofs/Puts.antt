@@ -1,5 +1,6 @@
 -- A text that is put before others.
-use Rattle.{std.specs.Io.KnownBytes.Appends, tte_forms.proofs.{Puts.{PutsLines-fails, PutsLines-more, PutsLines-none}, frames.Frames.Gives-behind}}
+use Rattle.std.specs.Io.KnownBytes.{Appends}
+use Rattle.tte_forms.proofs.{Puts.{PutsLines-fails, PutsLines-more, PutsLines-none}, frames.Frames.Gives-behind}
 use Rattle.std.proofs.Common.{◌≡◌, List, inl, inr, refl, ℕ}
 use Rattle.tte_forms.specs.{Answering.{Answer, Gives, with_line}, Putting.Shown, declared.status.Status.{Status, TheVariants.WriteFault}}
 use Rattle.tte_io.specs.{Faults.next_count, Told.AppendsFront}

@@ -1,17 +1,36 @@
--- What the messages of a file ask for may be asked of the network.
-use Rattle.lens_plan.proofs.Ends.{end_is}
-use Rattle.lens_plan.specs.messages.{Lines.{is_passed, line_limit, lines_of, messages_from, messages_read, refused, with_message}, Message.{Message, gives_id, id_is_taken, message_of, name_is_taken}}
-use Rattle.lens_plan.specs.messages.Reading.{ethertype, go_on, head, id, message_read, message_reader, name, name_read, new_id, new_receiver, receivers, sender, some_receivers, timing}
-use Rattle.lens_plan.specs.messages.{Steps.{◌>>=◌, Read, Reader, and_then, begins_with, behind_key, fixed, give, next_word, optional, outcome, some_read, with_rest}, Values.{at_least, end_system_spelled, is_end, is_name_text, number_between, period_spelled}}
-use Rattle.lens_plan.specs.messages.Words.{end_system, number, period, time}
-use Rattle.lens_plan.specs.declared.messages.{reading.{Head.Head, Timing.Timing}, refusal.{MessageRefusal.MessageRefusal, RefusedLine.RefusedLine}}
-use Rattle.lens_plan.specs.declared.messages.refusal.MessageRefusal.TheVariants.{Long, Name, Number, Taken, Twice}
-use Rattle.net_plan.specs.{Places.IsEndSystem, declared.{ids.DeviceId.DeviceId, network.Network.Network, tables.VirtualLink.VirtualLink}}
-use Rattle.std.proofs.Common.{◌%◌, ◌&&◌, ◌++◌, ◌+◌, ◌-◌, ◌<◌, ◌==◌, ◌||◌, ◌∙◌, ◌∷◌, ◌≡◌, ◌≢◌, ◌≤◌, ◌⊎◌, Bool, Err, List, None, Ok, Option, Result, Some, [], ap, arith, cond, false, inl, inr, length, nat_lt, refl, subst, suc, sym, true, zero, ℕ}
-use Rattle.std.proofs.lemmas.{Bool.{Decides.nat_tests, eq-eqb, eqb-true, false≢true, or_parts}, List.{FromFn.{get_or-range_with_len, length-range_with_len}, length-append}, Option.{same_Some, slice_get-get_or, slice_get_within}, Slice.Eq.bytes_eq-Decides}
-use Rattle.std.specs.{Fmt.{decimal}, List.{Contains, list_all, list_any, range_with_len}, Option.{ok_or, option_and_then, option_map_or, unwrap_or}, Prelude.{IfSome, bytes_eq, codes, get_or, nat_le, not, slice_get}, Str.Parse.digits_value}
-use Rattle.tte_units.proofs.general_lemmas.{Bools.{both_left, both_right}, Lists.pushed}
+-- What messages and the receivers of their lines ask for may be asked of the network.
+use Rattle.std.proofs.Common
+use Common.{◌%◌, ◌&&◌, ◌++◌, ◌+◌, ◌-◌, ◌<◌, ◌==◌, ◌||◌, ◌∙◌, ◌∷◌, ◌≡◌, ◌≢◌, ◌≤◌, ◌⊎◌, Bool, Err, List, None, Ok, Option}
+use Common.{Result, Some, [], ap, arith, cond, false, inl, inr, length, nat_lt, refl, subst, suc, sym, true, zero, ℕ}
+use Rattle.std.proofs.lemmas.{Bool.{Decides.nat_tests, eq-eqb, eqb-true, false≢true, or_parts}}
+use Rattle.std.proofs.lemmas.{List.{FromFn.{get_or-range_with_len, length-range_with_len}, length-append}}
+use Rattle.std.proofs.lemmas.{Option.{same_Some, slice_get-get_or, slice_get_within}, Slice.Eq.bytes_eq-Decides}
+use Rattle.std.specs.{Fmt.decimal, List.{Contains, list_all, list_any, range_with_len}}
+use Rattle.std.specs.{Option.{ok_or, option_and_then, option_map_or, unwrap_or}}
+use Rattle.std.specs.{Prelude.{IfSome, bytes_eq, codes, get_or, nat_le, not, slice_get}, Str.Parse.digits_value}
+use Rattle.lens_plan.{proofs.Courses.end_is}
+use Rattle.lens_plan.specs.declared.messages.{reading.{Head.Head, Timing.Timing}}
+use Rattle.lens_plan.specs.declared.messages.refusal.{RefusedLine.RefusedLine}
+use Rattle.lens_plan.specs.declared.messages.refusal.MessageRefusal.{MessageRefusal}
+use Rattle.lens_plan.specs.declared.messages.refusal.MessageRefusal.{TheVariants.{Long, Name, Number, Taken, Twice}}
+use Rattle.lens_plan.specs.messages.{Message.{Message, gives_id, id_is_taken, message_of, name_is_taken}}
+use Rattle.lens_plan.specs.messages.{Words.{end_system, number, period, time}}
+use Rattle.lens_plan.specs.messages.Lines
+use Lines.{is_passed, line_limit, lines_of, messages_from, messages_read, refused, with_message}
+use Rattle.lens_plan.specs.messages.Reading
+use Reading.{ethertype, go_on, head, id, message_read, message_reader, name, name_read, new_id, new_receiver, receiver}
+use Reading.{receivers, sender, some_receivers, timing}
+use Rattle.lens_plan.specs.messages.Steps
+use Steps.{◌>>=◌, Read, Reader, and_then, begins_with, behind_key, fixed, give, next_word, optional, outcome, some_read}
+use Steps.{with_rest}
+use Rattle.lens_plan.specs.messages.Values
+use Values.{at_least, end_system_spelled, is_end, is_name_text, number_between, period_spelled}
+use Rattle.net_plan.specs.{Places.IsEndSystem}
+use Rattle.net_plan.specs.{declared.{ids.DeviceId.DeviceId, network.Network.Network, tables.VirtualLink.VirtualLink}}
 use Rattle.trace_text.specs.{Names.device_spelled, Steps.{Words, words}}
+use Rattle.tte_units.proofs.general_lemmas.{Bools.{both_left, both_right}, Lists.pushed}
+
+-- ---- what the messages of a file ask for may be asked of the network
 
 or_cases : (a b : Bool) → (a || b) ≡ true → (a ≡ true) ⊎ (b ≡ true)
 or_cases true b is = inl refl
@@ -581,3 +600,59 @@ module _ (network : Network) where
 
   pub askable : (octets : List ℕ) (ms : List Message) → messages_read network octets ≡ Ok ms → AreAskable network ms
   askable octets ms read = all_from 1 [] (lines_of octets) ms (none_askable network) read
+
+-- ---- the receivers of a line, one after another
+
+-- what was read, and the words that it left
+device_read : DeviceId → Read (DeviceId × List (List ℕ)) → DeviceId
+device_read other (Ok step) = step.0
+device_read other (Err fault) = other
+
+words_left : List (List ℕ) → Read (DeviceId × List (List ℕ)) → List (List ℕ)
+words_left other (Ok step) = step.1
+words_left other (Err fault) = other
+
+-- the words behind one more receiver
+pub record IsNext (network : Network) (sender : DeviceId) (earlier : List DeviceId) (ws left : List (List ℕ)) (d : DeviceId) : Type 0 where
+  pub same : receivers network sender earlier ws ≡ receivers network sender (earlier ++ d ∷ []) left
+  pub fewer : length left < length ws
+
+next_by : (network : Network) (sender : DeviceId) (earlier : List DeviceId) (word : List ℕ) (ws left : List (List ℕ)) (d : DeviceId) (r : Read DeviceId)
+    → new_receiver sender earlier (end_system_spelled network word) ≡ r → with_rest ws r ≡ Ok (d, left) → IsNext network sender earlier (word ∷ ws) left d
+unfolding device_read words_left
+next_by network sender earlier word ws left d (Ok e) is read =
+    let device : e ≡ d = ap (device_read e) read in
+    let rest : ws ≡ left = ap (words_left ws) read in
+    record {
+      same = rw (is, device, rest) refl;
+      fewer = omega (arith, ap length rest);
+    }
+next_by network sender earlier word ws left d (Err f) is read = absurd cc
+
+pub receivers_next : (network : Network) (sender : DeviceId) (earlier : List DeviceId) (ws left : List (List ℕ)) (d : DeviceId)
+    → receiver network sender earlier ws ≡ Ok (d, left) → IsNext network sender earlier ws left d
+unfolding receiver
+receivers_next network sender earlier [] left d read = absurd cc
+receivers_next network sender earlier (word ∷ ws) left d read =
+    next_by network sender earlier word ws left d (new_receiver sender earlier (end_system_spelled network word)) refl read
+
+stops_by : (network : Network) (sender : DeviceId) (earlier : List DeviceId) (word : List ℕ) (ws : List (List ℕ)) (f : MessageRefusal) (r : Read DeviceId)
+    → new_receiver sender earlier (end_system_spelled network word) ≡ r → with_rest ws r ≡ Err f
+    → receivers network sender earlier (word ∷ ws) ≡ Err f
+stops_by network sender earlier word ws f (Ok e) is read = absurd cc
+stops_by network sender earlier word ws f (Err g) is read =
+    let same : g ≡ f = cc in
+    rw (is, same) refl
+
+pub receivers_stop : (network : Network) (sender : DeviceId) (earlier : List DeviceId) (ws : List (List ℕ)) (f : MessageRefusal)
+    → (ws ≡ [] → ⊥) → receiver network sender earlier ws ≡ Err f → receivers network sender earlier ws ≡ Err f
+unfolding receiver
+receivers_stop network sender earlier [] f some read = absurd (some refl)
+receivers_stop network sender earlier (word ∷ ws) f some read =
+    stops_by network sender earlier word ws f (new_receiver sender earlier (end_system_spelled network word)) refl read
+
+-- where there is a word, the receivers are those behind none
+pub receivers_first : (network : Network) (sender : DeviceId) (ws : List (List ℕ)) → (ws ≡ [] → ⊥)
+    → some_receivers network sender ws ≡ receivers network sender [] ws
+receivers_first network sender [] some = absurd (some refl)
+receivers_first network sender (word ∷ ws) some = refl

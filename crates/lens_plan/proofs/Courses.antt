@@ -1,16 +1,30 @@
--- The rows of a message that is placed lead from its sender by the ways of the trees.
-use Rattle.lens_plan.proofs.{PlacedWays.{after, after_more}, SameAttempts.{AreAlike, way_rows_one}, WayLinks.{cut, none_down, none_up, on_behind, on_first, rest_of, way_down, way_up}}
+-- The rows of messages that are placed, from their first attempts, and the courses by which they lead.
+use Rattle.std.{specs.{List.{All, Contains}, Option.option_map_or}}
+use Rattle.std.proofs.Common
+use Common.{◌++◌, ◌+◌, ◌<◌, ◌∙◌, ◌∷◌, ◌≡◌, ◌≤◌, ◌⊎◌, IsSomeAnd, List, None, Option, Some, [], ap, append_assoc, arith}
+use Common.{false, get_or, inl, inr, length, refl, slice_get, subst, suc, sym, true, zero, ℕ}
+use Rattle.std.proofs.lemmas.{Bool.{cases_Bool, false≢true}}
+use Rattle.std.proofs.lemmas.List.{append-nil, length-append}
+use Rattle.std.proofs.lemmas.List.Elements.{All-append, All-cons, All-nil, Contains-append_left, Contains-append_right}
+use Rattle.lens_plan.proofs.{Attempts.{AreAlike, after, after_more, way_rows_one}}
+use Rattle.lens_plan.proofs.{Leading.{cut, none_down, none_up, on_behind, on_first, rest_of, way_down, way_up}}
+use Rattle.lens_plan.specs.{messages.{Message.Message, Values.is_end}}
+use Rattle.lens_plan.specs.declared.places.{best.Attempt.Attempt, offsets.Taken.Taken}
 use Rattle.lens_plan.specs.declared.places.{placing.{Placed.Placed, Trial.Trial}, ways.Hop.Hop}
-use Rattle.lens_plan.specs.places.{Offsets.StandsClear, Placing.{IsPlacedAt, IsPlacedWay, end_of, slot_of}, Ways.{down_hops, hop_by, is_on, up_hops}}
-use Rattle.net_plan.proofs.Trees.{followed, paths_are_unique}
-use Rattle.net_plan.specs.{Bounds.gamma_of, Paths.{IsPath, IsTree}, Places.{IsCmOf, IsEndSystem, IsSwitchOf, device_at, is_end_system, link_at}}
-use Rattle.net_plan.specs.declared.{ids.{DeviceId.DeviceId, LinkId.LinkId}, network.Network.Network, tables.{Device.Device, Link.Link}}
-use Rattle.net_plan.specs.declared.tables.{Role.{Role, TheVariants.Cm}, Way.{Way, TheVariants.{Down, Up}}}
-use Rattle.schedule_tables.specs.Entries.{source_by, target_by}
-use Rattle.std.proofs.Common.{◌++◌, ◌+◌, ◌<◌, ◌∙◌, ◌∷◌, ◌≡◌, ◌≤◌, ◌⊎◌, List, Some, [], ap, append_assoc, arith, false, get_or, inl, inr, length, refl, subst, suc, sym, true, zero, ℕ}
-use Rattle.std.proofs.lemmas.{Bool.{cases_Bool, false≢true}, List.{Elements.{All-append, All-cons, All-nil, Contains-append_left, Contains-append_right}, append-nil, length-append}}
-use Rattle.std.specs.List.{All, Contains}
-use Rattle.tte_units.{proofs.general_lemmas.Options.{at_known, closed, opened, some_same}, specs.declared.frames.channel.Channel.Channel}
+use Rattle.lens_plan.specs.places.{Fitting.{HasPlace, HavePlaces}, Offsets.StandsClear}
+use Rattle.lens_plan.specs.places.{Placing.{IsPlacedAt, IsPlacedWay, end_of, slot_of}, There.{AreFirst, taken_by}}
+use Rattle.lens_plan.specs.places.{Ways.{down_hops, hop_by, is_on, up_hops}}
+use Rattle.net_plan.{proofs.Trees.{followed, paths_are_unique}}
+use Rattle.net_plan.specs.{Bounds.gamma_of, Paths.{IsPath, IsTree}}
+use Rattle.net_plan.specs.{Places.{IsCmOf, IsEndSystem, IsSwitchOf, device_at, is_end_system, link_at}}
+use Rattle.net_plan.specs.declared.{ids.{DeviceId.DeviceId, LinkId.LinkId}, network.Network.Network}
+use Rattle.net_plan.specs.declared.tables.{Device.Device, Link.Link, Role.{Role, TheVariants.Cm}}
+use Rattle.net_plan.specs.declared.tables.{Way.{TheVariants.{Down, Up}, Way}}
+use Rattle.schedule_tables.specs.{Entries.{IsEntry, source_by, target_by}, declared.entry.Entry.Entry}
+use Rattle.tte_units.{proofs.general_lemmas.{Lists.pushed, Options.{at_known, closed, opened, some_same}}}
+use Rattle.tte_units.{specs.declared.frames.channel.Channel.Channel}
+
+-- ---- the rows of a message that is placed lead from its sender by the ways of the trees
 
 -- ---- lists by their ends
 
@@ -471,3 +485,44 @@ module _ (network : Network) (trees : HasTrees network) (channel : Channel) wher
                         (λ same. end_no_switch (subst (IsSwitchOf network channel) (source ∙ same) behind.6)) s.source it.3)
                   ])
             ]
+
+-- ---- a device that is tested to be an end system is one
+
+end_by : (o : Option Device) → option_map_or (λ d. is_end_system d.role) o false ≡ true → IsSomeAnd o (λ d. is_end_system d.role ≡ true)
+end_by None e = absurd (false≢true e)
+end_by (Some d) e = e
+
+pub end_is : (network : Network) (device : DeviceId) → is_end network device ≡ true → IsEndSystem network device
+end_is network device e = end_by (device_at network device) e
+
+-- ---- the first attempts of messages, one after another
+
+pub places_more : {network : Network} {rows : List Taken} {ms : List Message} {n : ℕ} {old : List Attempt}
+    (new : List Attempt) {m : Message} {a : Attempt} → HavePlaces network rows ms n old → slice_get ms n ≡ Some m
+    → HasPlace network rows m a → new ≡ old ++ a ∷ [] → HavePlaces network rows ms (n + 1) new
+places_more {network} {rows} {ms} {old} new {m} {a} before there has more = record {
+  counted = let parts = ap length more in let all = length-append old (a ∷ []) in let counted = before.counted in omega (arith, parts, all, counted);
+  each = λ k b at.
+      elim (pushed old a b k (subst (λ (bs : List Attempt). slice_get bs k ≡ Some b) more at)) [
+        | inl earlier ↦ before.each k b earlier
+        | inr last ↦ (
+          m,
+          subst (λ (j : ℕ). slice_get ms j ≡ Some m) (sym (last.0 ∙ before.counted)) there,
+          subst (HasPlace network rows m) last.1 has,
+        )
+      ];
+}
+
+-- ---- the rows that a network has, one after another
+
+pub rows_more : {network : Network} {n : ℕ} {rows : List Taken} (new : List Taken) {entry : Entry} (row : Taken)
+    → AreFirst network n rows → IsEntry network n entry → row ≡ taken_by entry → new ≡ rows ++ row ∷ []
+    → AreFirst network (n + 1) new
+rows_more {network} {rows} new {entry} row before is made more = record {
+  counted = let parts = ap length more in let all = length-append rows (row ∷ []) in let old = before.counted in omega (arith, parts, all, old);
+  each = λ place at there.
+      elim (pushed rows row at place (subst (λ (rs : List Taken). slice_get rs place ≡ Some at) more there)) [
+        | inl old ↦ before.each place at old
+        | inr last ↦ (entry, subst (λ k. IsEntry network k entry) (sym (last.0 ∙ before.counted)) is, sym last.1 ∙ made)
+      ];
+}

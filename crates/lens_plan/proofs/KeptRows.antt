@@ -1,8 +1,11 @@
 -- The rules that the rows of a planned network keep.
-use Rattle.lens_plan.proofs.{Courses.{not_to_sender}, Early.limit_by, Leading.{no_end, no_switch, one_channel, relay_is}}
-use Rattle.lens_plan.proofs.PlannedEntries.{HasEntry, IsNew, IsSound, course, course_at, entry_of, entry_there, ground_of, item, link_no, offset_is, old_there, old_vl, planned, seat_of, sender_is, source_is, target_is, vl_no, way_is}
-use Rattle.lens_plan.proofs.PlannedRows.{base, each_there, in_links, in_order, of_items, parts_at, row_at, vl_at}
-use Rattle.lens_plan.proofs.Seats.{ItsCourse, by_link, by_target, first_of, its_courses, last_of, trial_by}
+use Rattle.lens_plan.proofs.{Attempts.limit_by, Courses.not_to_sender}
+use Rattle.lens_plan.proofs.{Leading.{no_end, no_switch, one_channel, relay_is}}
+use Rattle.lens_plan.proofs.{Serving.{ItsCourse, by_link, by_target, first_of, its_courses, last_of, trial_by}}
+use Rattle.lens_plan.proofs.PlannedRows.{HasEntry, IsNew, IsSound, base, course, course_at, each_there, entry_of}
+use Rattle.lens_plan.proofs.PlannedRows.{entry_there, ground_of, in_links, in_order, item, link_no, of_items, offset_is}
+use Rattle.lens_plan.proofs.PlannedRows.{old_there, old_vl, parts_at, planned, row_at, seat_of, sender_is, source_is}
+use Rattle.lens_plan.proofs.PlannedRows.{target_is, vl_at, vl_no, way_is}
 use Rattle.lens_plan.specs.declared.places.{best.Attempt.Attempt, offsets.Taken.Taken, placing.{Placed.Placed}}
 use Rattle.lens_plan.specs.{joining.Planned.{rows_from, vls_of}, messages.{Message.Message}}
 use Rattle.lens_plan.specs.places.{Filling.taken_of, Offsets.{Hits, Meets, ends_at}, Placing.{IsOrdered, delay_on, port_on, slot_of}, Scoring.{is_last, limit_of, schedule_end}, Spacing.IsPhaseBy, There.taken_by, Trying.start_of}

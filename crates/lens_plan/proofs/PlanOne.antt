@@ -1,15 +1,158 @@
--- A plan of messages is one.
-use Rattle.lens_plan.proofs.{Filled.within_found, Ordered.{pairs_head, pairs_tail}, Orders.order_moved, SameAttempts.behind_one}
-use Rattle.lens_plan.specs.declared.places.{best.Attempt.Attempt, filling.Misfit.Misfit, offsets.Taken.Taken, placing.Placed.Placed, scoring.Score.Score}
-use Rattle.lens_plan.specs.{messages.Message.Message, places.{Filling.{ArePlaced, IsMisfit, IsOrder, rows_of, taken_of}, Fitting.{HasPlace, HavePlaces, IsBestBehind}}}
-use Rattle.lens_plan.specs.places.{Moving.{ArePlanned, IsMoved, IsReached}, Ordering.{ComesBefore, IsByRoom, room_of, with_first}, Planning.IsPlan, Same.IsSameAttempt}
-use Rattle.lens_plan.specs.places.There.{AreThere, taken_by}
-use Rattle.net_plan.specs.{Paths.IsTree, declared.network.Network.Network}
-use Rattle.schedule_tables.{proofs.EntryLemmas.one_entry}
-use Rattle.std.proofs.Common.{◌++◌, ◌+◌, ◌<◌, ◌∙◌, ◌∷◌, ◌≡◌, ◌⊎◌, List, None, Option, Some, [], ap, arith, get_or, inl, inr, length, map, refl, slice_get, subst, suc, sym, take, zero, ℕ}
-use Rattle.std.proofs.lemmas.{Bool.cases_lt, List.{Elements.{All-cons, All-nil}, FromFn.{get_or-range_with_len, length-range_with_len}, Sorted.{All-permutation, Contains-permutation, IsPermutation-sym, IsPermutation-trans}}, Option.{get_or_from_slice_get, slice_get-get_or, slice_get_past}}
-use Rattle.std.{proofs.Math.Seq.take-length, specs.Option.option_map_or}
-use Rattle.std.specs.List.{All, AllPairs, AllZip, Contains, Sorted.IsPermutation, range_with_len}
+-- A plan of messages is one, move by move, and so is why there is none.
+use Rattle.std.proofs.{Math.Seq.take-length}
+use Rattle.std.proofs.Common
+use Common.{◌++◌, ◌+◌, ◌<◌, ◌∙◌, ◌∷◌, ◌≡◌, ◌≢◌, ◌≤◌, ◌⊎◌, List, None, Option, Some, [], ap, arith, get_or, inl, inr}
+use Common.{length, map, refl, set, slice_get, subst, suc, sym, take, zero, ℕ}
+use Rattle.std.proofs.lemmas.{Bool.cases_lt}
+use Rattle.std.proofs.lemmas.List.{Elements.{All-cons, All-head, All-nil, All-tail}}
+use Rattle.std.proofs.lemmas.List.{FromFn.{get_or-range_with_len, length-range_with_len}, get_or-take, get_or_default}
+use Rattle.std.proofs.lemmas.List.{length-take, take_more}
+use Rattle.std.proofs.lemmas.List.Sorted.{All-permutation, Contains-permutation, IsPermutation-sym, IsPermutation-trans}
+use Rattle.std.proofs.lemmas.Option.{get_or_from_slice_get, none-some, slice_get-get_or, slice_get_cases}
+use Rattle.std.proofs.lemmas.Option.{slice_get_past}
+use Rattle.std.specs.{List.{All, AllPairs, AllZip, Contains, Sorted.IsPermutation, range_with_len}}
+use Rattle.std.specs.{Option.option_map_or}
+use Rattle.lens_plan.proofs.{Attempts.{behind_one, way_one}, Ordered.{pairs_head, pairs_tail}}
+use Rattle.lens_plan.proofs.{Orders.{apart, order_moved}}
+use Rattle.lens_plan.specs.{messages.Message.Message}
+use Rattle.lens_plan.specs.declared.places.{best.Attempt.Attempt, filling.Misfit.Misfit}
+use Rattle.lens_plan.specs.declared.places.{limits.Excess.{Excess, TheVariants.{Rows, RowsOf, VirtualLinks}}}
+use Rattle.lens_plan.specs.declared.places.{offsets.Taken.Taken, placing.Placed.Placed, planning.NoPlan.NoPlan}
+use Rattle.lens_plan.specs.declared.places.{scoring.Score.Score, ways.Hop.Hop}
+use Rattle.lens_plan.specs.places.{Filling.{ArePlaced, IsFilling, IsMisfit, IsOrder, rows_of, taken_of}}
+use Rattle.lens_plan.specs.places.{Fitting.{HasPlace, HavePlaces, IsAsked, IsBestBehind, IsUnfit}}
+use Rattle.lens_plan.specs.places.{Moving.{ArePlanned, IsMoved, IsReached, IsUnplaced}}
+use Rattle.lens_plan.specs.places.{Ordering.{ComesBefore, IsByRoom, room_of, with_first}, Planning.{IsNoPlan, IsPlan}}
+use Rattle.lens_plan.specs.places.{Same.{IsSameAttempt, IsSameNoPlan}, There.{AreThere, taken_by}}
+use Rattle.lens_plan.specs.places.Limits
+use Limits.{AreHops, AreWays, IsCrowded, IsExcess, IsWithinLimits, once, rows_from, rows_wanted}
+use Rattle.net_plan.specs.{Paths.IsTree, declared.{ids.DeviceId.DeviceId, network.Network.Network}}
+use Rattle.schedule_tables.proofs.SlotLemmas.{one_entry}
+use Rattle.tte_units.specs.declared.frames.channel.Channel.TheVariants.{A, B}
+use Rattle.lens_plan.specs.declared.places.planning.NoPlan.TheVariants as plans
+
+-- ---- one more message placed
+
+placed_more : {network : Network} (ms : List Message) (attempts : List Attempt) (rows : List Taken)
+    {now : List Taken} (order : List ℕ) (place : ℕ) {m : Message} {a : Attempt}
+    → ArePlaced network ms attempts rows order now → slice_get ms place ≡ Some m → slice_get attempts place ≡ Some a
+    → HasPlace network now m a → ArePlaced network ms attempts rows (order ++ place ∷ []) (now ++ rows_of network m a)
+placed_more {network} ms attempts rows [] place {m} {a} same there at has =
+    (m, a, there, at, subst (λ ts. HasPlace network ts m a) same has, ap (λ (ts : List Taken). ts ++ rows_of network m a) same)
+placed_more {network} ms attempts rows {now} (first ∷ order) place {m} {a} (n, b, is, by, its, rest) there at has =
+    (n, b, is, by, its, placed_more {network = network} ms attempts (rows ++ rows_of network n b) {now = now} order place {m = m} {a = a} rest there at has)
+
+-- other attempts do not matter
+placed_same : (network : Network) (ms : List Message) (old new : List Attempt) (rows now : List Taken) (order : List ℕ)
+    → All (λ place. slice_get new place ≡ slice_get old place) order → ArePlaced network ms old rows order now → ArePlaced network ms new rows order now
+placed_same network ms old new rows now [] same placed = placed
+placed_same network ms old new rows now (place ∷ order) same (m, a, there, at, has, rest) = (
+  m,
+  a,
+  there,
+  All-head (λ p. slice_get new p ≡ slice_get old p) place order same ∙ at,
+  has,
+  placed_same network ms old new (rows ++ rows_of network m a) now order (All-tail (λ p. slice_get new p ≡ slice_get old p) place order same) rest,
+)
+
+-- ---- an attempt is set
+
+set_here : (attempts : List Attempt) (place : ℕ) (a : Attempt) → place < length attempts → slice_get (set attempts place a) place ≡ Some a
+set_here [] place a within = absurd (omega (arith, within))
+set_here (b ∷ attempts) zero a within = refl
+set_here (b ∷ attempts) (suc place) a within = set_here attempts place a (omega (arith, within))
+
+set_elsewhere : (attempts : List Attempt) (place other : ℕ) (a : Attempt) → other ≢ place
+    → slice_get (set attempts place a) other ≡ slice_get attempts other
+set_elsewhere [] place other a not = refl
+set_elsewhere (b ∷ attempts) zero zero a not = absurd (not refl)
+set_elsewhere (b ∷ attempts) zero (suc other) a not = refl
+set_elsewhere (b ∷ attempts) (suc place) zero a not = refl
+set_elsewhere (b ∷ attempts) (suc place) (suc other) a not = set_elsewhere attempts place other a (λ same. not (ap suc same))
+
+-- the message of this turn is placed behind those of the turns before
+pub placed_next : {network : Network} (ms : List Message) (old new : List Attempt) (rows : List Taken)
+    {now : List Taken} (taken : List Taken) (order : List ℕ) (turn place : ℕ) {m : Message} {a : Attempt}
+    → IsOrder (length ms) order → turn < length order → place ≡ get_or order turn place → place < length old
+    → ArePlaced network ms old rows (take turn order) now → slice_get ms place ≡ Some m → HasPlace network now m a
+    → new ≡ set old place a → taken ≡ now ++ rows_of network m a
+    → ArePlaced network ms new rows (take (turn + 1) order) taken
+placed_next {network} ms old new rows {now} taken order turn place {m} {a} is within at here before there has made
+    more =
+    let earlier : All (λ p. slice_get (set old place a) p ≡ slice_get old p) (take turn order) =
+    (λ k d less.
+    let short = length-take turn order in
+    let few : k < turn = omega (arith, less, short, within) in
+    subst (λ (p : ℕ). slice_get (set old place a) p ≡ slice_get old p) (sym (get_or-take turn order k d few))
+    (set_elsewhere old place (get_or order k d) a (λ same. apart (length ms) order is k turn d few within (same ∙ at ∙ get_or_default order turn place d within)))) in
+    let next : take (turn + 1) order ≡ take turn order ++ place ∷ [] =
+    take_more order turn place within ∙ ap (λ (p : ℕ). take turn order ++ p ∷ []) (sym at) in
+    subst (λ bs. ArePlaced network ms bs rows (take (turn + 1) order) taken) (sym made)
+    (subst (λ ts. ArePlaced network ms (set old place a) rows (take (turn + 1) order) ts) (sym more)
+    (subst (λ xs. ArePlaced network ms (set old place a) rows xs (now ++ rows_of network m a)) (sym next)
+    (placed_more ms (set old place a) rows (take turn order) place
+    (placed_same network ms old (set old place a) rows now (take turn order) earlier before) there (set_here old place a here) has)))
+
+-- what is found in a list stands within it
+pub within_found : {X : Type 0} (xs : List X) (i : ℕ) (x : X) → slice_get xs i ≡ Some x → i < length xs
+within_found xs i x found =
+    elim (slice_get_cases xs i).1 [
+      | inl is ↦ is.1
+      | inr past ↦ absurd (none-some x (sym past.1 ∙ found))
+    ]
+
+-- a message of those that are asked is asked
+pub asked_at : (network : Network) (ms : List Message) (place : ℕ) (m : Message) → All (IsAsked network) ms → slice_get ms place ≡ Some m → IsAsked network m
+asked_at network ms place m all there =
+    subst (IsAsked network) (get_or_from_slice_get ms place m m there) (all place m (within_found ms place m there))
+
+-- ---- one more move
+
+module _ (network : Network) (ms : List Message) (there : List Taken) where
+  -- what a filling that found a misfit says, where its order was read from another list
+  pub unfit_by : (seen order : List ℕ) (attempts : List Attempt) (found : Option Misfit) (misfit : Misfit)
+      → seen ≡ order → found ≡ Some misfit → IsFilling network ms there seen attempts found
+      → IsMisfit network ms there order misfit
+  unfit_by seen order attempts found misfit same is filling =
+      subst (λ o. IsMisfit network ms there o misfit) same
+      (subst (IsFilling network ms there seen attempts) is filling)
+
+  -- the message of the misfit's turn is at its place
+  pub place_at_turn : {order : List ℕ} {misfit : Misfit} (unfit : IsMisfit network ms there order misfit) (d : ℕ)
+      → get_or order misfit.turn d ≡ unfit.place
+  place_at_turn {order} {misfit} unfit d = get_or_from_slice_get order misfit.turn unfit.place d unfit.here
+
+  pub turn_within : {order : List ℕ} {misfit : Misfit} → IsMisfit network ms there order misfit
+      → misfit.turn < length order
+  turn_within {order} {misfit} unfit = within_found order misfit.turn unfit.place unfit.here
+
+  pub reached_more : {moves : ℕ} {order : List ℕ} (new : List ℕ) {misfit : Misfit}
+      → IsReached network ms there moves order → IsMisfit network ms there order misfit
+      → new ≡ with_first misfit.turn (get_or order misfit.turn 0) order → IsReached network ms there (moves + 1) new
+  reached_more {moves} {order} new {misfit} before unfit is = record {
+    attempts = before.attempts;
+    have = before.have;
+    first = before.first;
+    by_room = before.by_room;
+    moved = subst (λ n. IsMoved network ms there before.first n new)
+        (let e : suc moves ≡ moves + 1 = omega arith in e) (
+          order,
+          misfit,
+          before.moved,
+          (unfit, is ∙ ap (λ p. with_first misfit.turn p order) (place_at_turn unfit 0)),
+        );
+  }
+
+  pub order_next : {order : List ℕ} (new : List ℕ) {misfit : Misfit} → IsOrder (length ms) order
+      → IsMisfit network ms there order misfit → new ≡ with_first misfit.turn (get_or order misfit.turn 0) order
+      → IsOrder (length ms) new
+  order_next {order} new {misfit} is unfit made =
+      let place = get_or order misfit.turn 0 in
+      subst (IsOrder (length ms)) (sym made)
+      (order_moved (length ms) order misfit.turn place is (turn_within unfit)
+      (place_at_turn unfit 0 ∙ sym (place_at_turn unfit place)))
+
+-- ---- a plan of messages is one
 
 -- ---- lists
 
@@ -17,7 +160,7 @@ abbrev found_or : {X : Type 0} → X → Option X → X
 found_or d None = d
 found_or d (Some x) = x
 
-pub some_one : {X : Type 0} (o : Option X) (x y : X) → o ≡ Some x → o ≡ Some y → x ≡ y
+some_one : {X : Type 0} (o : Option X) (x y : X) → o ≡ Some x → o ≡ Some y → x ≡ y
 some_one o x y one other = ap (found_or x) (sym one ∙ other)
 
 same_lists : {X : Type 0} (xs ys : List X) → length xs ≡ length ys → ((k : ℕ) (x : X) → slice_get xs k ≡ Some x → slice_get ys k ≡ Some x) → xs ≡ ys
@@ -33,7 +176,7 @@ there_of xs k d within = slice_get-get_or xs k d within
 
 -- ---- the rows that are there
 
-pub there_one : {network : Network} {one other : List Taken} → AreThere network one → AreThere network other
+there_one : {network : Network} {one other : List Taken} → AreThere network one → AreThere network other
     → one ≡ other
 there_one {network} {one} {other} are too =
     same_lists one other (are.counted ∙ sym too.counted)
@@ -102,7 +245,7 @@ pub record AreSameAt (ones others : List Attempt) (place : ℕ) : Type 0 where
   pub there : slice_get others place ≡ Some other
   pub same : IsSameAttempt one other
 
-pub found_in : {X : Type 0} (xs : List X) (k : ℕ) → k < length xs → (x : X) × (slice_get xs k ≡ Some x)
+found_in : {X : Type 0} (xs : List X) (k : ℕ) → k < length xs → (x : X) × (slice_get xs k ≡ Some x)
 found_in [] k within = absurd (omega (arith, within))
 found_in (x ∷ xs) zero within = (x, refl)
 found_in (x ∷ xs) (suc k) within = found_in xs k (omega (arith, within))
@@ -173,7 +316,7 @@ pub record PlacedAlike (ones others : List Attempt) (order : List ℕ) (taken ot
   pub each : All (AreSameAt ones others) order
 
 module _ (network : Network) (ms : List Message) (tree : IsTree network) where
-  pub placed_one : (ones others : List Attempt) (rows : List Taken) (order : List ℕ) (taken other : List Taken)
+  placed_one : (ones others : List Attempt) (rows : List Taken) (order : List ℕ) (taken other : List Taken)
       → ArePlaced network ms ones rows order taken → ArePlaced network ms others rows order other → PlacedAlike ones others order taken other
   placed_one ones others rows [] taken other one two = record { taken_is = one ∙ sym two; each = All-nil (AreSameAt ones others) }
   placed_one ones others rows (place ∷ order) taken other (m, a, there, at, has, rest) (n, b, also, too, have, more) =
@@ -249,7 +392,7 @@ module _ (network : Network) (ms : List Message) (tree : IsTree network) where
       clash other.attempts rows order x
       (turn_of other.attempts rows order y.turn x.turn other.taken other.before less (within_found order x.turn one.place one.here)) one
 
-  pub turns_one : (rows : List Taken) (order : List ℕ) (x y : Misfit) → IsMisfit network ms rows order x → IsMisfit network ms rows order y → x.turn ≡ y.turn
+  turns_one : (rows : List Taken) (order : List ℕ) (x y : Misfit) → IsMisfit network ms rows order x → IsMisfit network ms rows order y → x.turn ≡ y.turn
   turns_one rows order x y one other =
       elim (cases_lt x.turn y.turn) [
         | inl less ↦ absurd (no_earlier rows order x y one other less)
@@ -260,7 +403,7 @@ module _ (network : Network) (ms : List Message) (tree : IsTree network) where
       ]
 
   -- nor is there one where all have places
-  pub all_placed : (attempts : List Attempt) (rows : List Taken) (order : List ℕ) (taken : List Taken) (x : Misfit)
+  all_placed : (attempts : List Attempt) (rows : List Taken) (order : List ℕ) (taken : List Taken) (x : Misfit)
       → ArePlaced network ms attempts rows order taken → IsMisfit network ms rows order x → ⊥
   all_placed attempts rows order taken x placed misfit =
       let within = within_found order x.turn misfit.place misfit.here in
@@ -284,14 +427,14 @@ module _ (network : Network) (ms : List Message) (tree : IsTree network) where
       subst (λ os. (mine : IsMisfit network ms rows one x) → (yours : IsMisfit network ms rows os y) → with_first x.turn mine.place one ≡ with_first y.turn yours.place os) same
       (firsts_same rows one x y)
 
-  pub moved_one : (rows : List Taken) (first : List ℕ) (moves : ℕ) (one other : List ℕ) → IsMoved network ms rows first moves one
+  moved_one : (rows : List Taken) (first : List ℕ) (moves : ℕ) (one other : List ℕ) → IsMoved network ms rows first moves one
       → IsMoved network ms rows first moves other → one ≡ other
   moved_one rows first zero one other is too = is ∙ sym too
   moved_one rows first (suc moves) one other (e, x, before, (unfit, is)) (f, y, earlier, (misfit, too)) =
       is ∙ firsts_moved rows e f x y (moved_one rows first moves e f before earlier) unfit misfit ∙ sym too
 
   -- where there are more moves there is a misfit
-  pub misfit_of : (rows : List Taken) (first : List ℕ) (few many : ℕ) (one other : List ℕ) → few < many → IsMoved network ms rows first few one
+  misfit_of : (rows : List Taken) (first : List ℕ) (few many : ℕ) (one other : List ℕ) → few < many → IsMoved network ms rows first few one
       → IsMoved network ms rows first many other → (x : Misfit) × IsMisfit network ms rows one x
   misfit_of rows first few zero one other less is too = absurd (omega (arith, less))
   misfit_of rows first few (suc many) one other less is (e, x, before, (unfit, made)) =
@@ -321,7 +464,7 @@ module _ (network : Network) (ms : List Message) (tree : IsTree network) where
       order_one (length ms) one.have.counted other.have.counted
       (firsts_one tree one.have other.have) one.by_room other.by_room
 
-  pub moved_from : (there : List Taken) (n k : ℕ) (xs ys : List ℕ) (one : IsReached network ms there n xs) (other : IsReached network ms there k ys)
+  moved_from : (there : List Taken) (n k : ℕ) (xs ys : List ℕ) (one : IsReached network ms there n xs) (other : IsReached network ms there k ys)
       → IsMoved network ms there one.first k ys
   moved_from there n k xs ys one other =
       subst (λ os. IsMoved network ms there os k ys) (sym (firsts_of_reached there n k xs ys one other)) other.moved
@@ -389,3 +532,223 @@ pub plan_one : (network : Network) (ms : List Message) (ones others : List Attem
 plan_one network ms ones others tree (limits, (there, are, one)) (also, (seen, too, other)) =
     planned_one network ms tree there ones others one
     (subst (λ ts. ArePlanned network ms ts others) (there_one too are) other)
+
+-- ---- why there is no plan is one, and there is none where there is a plan
+
+module _ (network : Network) (tree : IsTree network) where
+  -- ---- the hops are one
+
+  ways_one : (sender : DeviceId) (receivers : List DeviceId) (hs is : List Hop) → AreWays network sender receivers hs
+      → AreWays network sender receivers is → hs ≡ is
+  ways_one sender [] hs is none also = none ∙ sym also
+  ways_one sender (receiver ∷ receivers) hs is (a, b, rest, on_a, on_b, ways, same) (c, d, others, at_a, at_b, also, too) =
+      same ∙ ap (λ (xs : List Hop). xs ++ (b ++ rest)) (way_one tree on_a at_a)
+      ∙ ap (λ (xs : List Hop). c ++ (xs ++ rest)) (way_one tree on_b at_b)
+      ∙ ap (λ (xs : List Hop). c ++ (d ++ xs)) (ways_one sender receivers rest others ways also) ∙ sym too
+
+  hops_one : (ms : List Message) (hs is : List Hop) → AreHops network ms hs → AreHops network ms is → hs ≡ is
+  hops_one [] hs is none also = none ∙ sym also
+  hops_one (m ∷ ms) hs is (ways, rest, are, hops, same) (others, more, too, also, alike) =
+      same ∙ ap (λ ws. once network ws ++ rest) (ways_one m.sender m.receivers ways others are too)
+      ∙ ap (λ (xs : List Hop). once network others ++ xs) (hops_one ms rest more hops also) ∙ sym alike
+
+  -- ---- limits
+
+  module _ (ms : List Message) where
+    no_excess : (excess : Excess) → IsExcess network ms excess → IsWithinLimits network ms → ⊥
+    no_excess (VirtualLinks n) (is, more) within = let few = within.links in omega (arith, is, more, few)
+    no_excess (Rows n) many within =
+        let few = subst (λ hs. rows_wanted network hs ≤ 1024) (hops_one ms within.hops many.hops within.are many.are) within.rows in
+        let is = many.wants_is in
+        let more = many.more in
+        omega (arith, is, more, few)
+    no_excess (RowsOf device n) many within =
+        let few = subst (λ hs. rows_from network hs device ≤ 256) (hops_one ms within.hops many.hops within.are many.are)
+        (within.devices device many.crowded.there) in
+        let is = many.crowded.wants_is in
+        let more = many.crowded.more in
+        omega (arith, is, more, few)
+
+    -- no device before it is crowded
+    not_before : (one other : List Hop) (device later : DeviceId) (n k : ℕ) → one ≡ other → IsCrowded network one device n
+        → IsCrowded network other later k → device.0 < later.0 → ⊥
+    not_before one other device later n k same crowded also less =
+        let few = subst (λ hs. rows_from network hs device ≤ 256) (sym same) (also.first device less) in
+        let is = crowded.wants_is in
+        let more = crowded.more in
+        omega (arith, is, more, few)
+
+    devices_one : (one other : List Hop) (device later : DeviceId) (n k : ℕ) → one ≡ other → IsCrowded network one device n
+        → IsCrowded network other later k → device.0 ≡ later.0
+    devices_one one other device later n k same crowded also =
+        elim (cases_lt device.0 later.0) [
+          | inl less ↦ absurd (not_before one other device later n k same crowded also less)
+          | inr ge ↦ elim (cases_lt later.0 device.0) [
+            | inl less ↦ absurd (not_before other one later device k n (sym same) also crowded less)
+            | inr le ↦ omega (arith, ge, le)
+          ]
+        ]
+
+    crowded_one : (one other : List Hop) (device later : DeviceId) (n k : ℕ) → one ≡ other → IsCrowded network one device n
+        → IsCrowded network other later k → RowsOf device n ≡ RowsOf later k
+    crowded_one one other device later n k same crowded also =
+        let id : device.0 ≡ later.0 = devices_one one other device later n k same crowded also in
+        let count : n ≡ k =
+        crowded.wants_is ∙ ap (λ hs. rows_from network hs device) same
+        ∙ ap (λ (d : ℕ). rows_from network other (record { 0 = d })) id ∙ sym also.wants_is in
+        ap (λ (d : ℕ). RowsOf (record { 0 = d }) n) id ∙ ap (λ (m : ℕ). RowsOf later m) count
+
+    excess_one : (one other : Excess) → IsExcess network ms one → IsExcess network ms other → one ≡ other
+    excess_one (VirtualLinks n) (VirtualLinks k) (is, more) (too, also) = ap (λ (m : ℕ). VirtualLinks m) (is ∙ sym too)
+    excess_one (VirtualLinks n) (Rows k) (is, more) many = let few = many.links in absurd (omega (arith, is, more, few))
+    excess_one (VirtualLinks n) (RowsOf device k) (is, more) many = let few = many.links in absurd (omega (arith, is, more, few))
+    excess_one (Rows n) (VirtualLinks k) many (is, more) = let few = many.links in absurd (omega (arith, is, more, few))
+    excess_one (RowsOf device n) (VirtualLinks k) many (is, more) = let few = many.links in absurd (omega (arith, is, more, few))
+    excess_one (Rows n) (Rows k) many also =
+        ap (λ (m : ℕ). Rows m) (many.wants_is ∙ ap (λ hs. rows_wanted network hs) (hops_one ms many.hops also.hops many.are also.are) ∙ sym also.wants_is)
+    excess_one (Rows n) (RowsOf device k) many also =
+        let few = subst (λ hs. rows_wanted network hs ≤ 1024) (hops_one ms also.hops many.hops also.are many.are) also.rows in
+        let is = many.wants_is in
+        let more = many.more in
+        absurd (omega (arith, is, more, few))
+    excess_one (RowsOf device k) (Rows n) also many =
+        let few = subst (λ hs. rows_wanted network hs ≤ 1024) (hops_one ms also.hops many.hops also.are many.are) also.rows in
+        let is = many.wants_is in
+        let more = many.more in
+        absurd (omega (arith, is, more, few))
+    excess_one (RowsOf device n) (RowsOf later k) many also =
+        crowded_one many.hops also.hops device later n k (hops_one ms many.hops also.hops many.are also.are) many.crowded also.crowded
+
+    -- ---- behind the rows that are there
+
+    -- a message that is short has no place there
+    no_first : (there : List Taken) (count turn : ℕ) (attempts : List Attempt) (a : Attempt) → HavePlaces network there ms count attempts → turn < count
+        → IsUnfit network there ms turn a → ⊥
+    no_first there count turn attempts a have less unfit =
+        let size = have.counted in
+        let found = found_in attempts turn (omega (arith, size, less)) in
+        let mine = have.each turn found.0 found.1 in
+        let message : mine.0 ≡ unfit.message = some_one (slice_get ms turn) mine.0 unfit.message mine.1 unfit.there in
+        let same = behind_one network there unfit.message found.0 a tree (subst (λ m. IsBestBehind network there m found.0) message mine.2.best)
+        unfit.best in
+        let none = mine.2.fits in
+        let some = unfit.short in
+        let short : found.0.score.short ≡ a.score.short = ap (λ (s : Score). s.short) same.score in
+        omega (arith, none, some, short)
+
+    unfit_turns : (there : List Taken) (turn other : ℕ) (a b : Attempt) → IsUnfit network there ms turn a → IsUnfit network there ms other b → turn ≡ other
+    unfit_turns there turn other a b one two =
+        elim (cases_lt turn other) [
+          | inl less ↦ absurd (no_first there other turn two.attempts a two.before less one)
+          | inr ge ↦ elim (cases_lt other turn) [
+            | inl less ↦ absurd (no_first there turn other one.attempts b one.before less two)
+            | inr le ↦ omega (arith, ge, le)
+          ]
+        ]
+
+    unfit_one : (there : List Taken) (turn other : ℕ) (a b : Attempt) → IsUnfit network there ms turn a → IsUnfit network there ms other b
+        → (turn ≡ other) × IsSameAttempt a b
+    unfit_one there turn other a b one two =
+        let same = unfit_turns there turn other a b one two in
+        let message : one.message ≡ two.message =
+        some_one (slice_get ms other) one.message two.message (subst (λ (n : ℕ). slice_get ms n ≡ Some one.message) same one.there) two.there in
+        (same, behind_one network there two.message a b tree (subst (λ m. IsBestBehind network there m a) message one.best) two.best)
+
+    no_reached : (there : List Taken) (moves turn : ℕ) (order : List ℕ) (a : Attempt) → IsReached network ms there moves order
+        → IsUnfit network there ms turn a → ⊥
+    no_reached there moves turn order a reached unfit =
+        no_first there (length ms) turn reached.attempts a reached.have (within_found ms turn unfit.message unfit.there) unfit
+
+    -- ---- in the orders
+
+    misfits_one : (there : List Taken) (one other : List ℕ) (x y : Misfit) → one ≡ other → (mine : IsMisfit network ms there one x)
+        → (yours : IsMisfit network ms there other y) → (mine.place ≡ yours.place) × IsSameAttempt x.attempt y.attempt
+    misfits_one there one other x y same =
+        subst (λ os. (mine : IsMisfit network ms there one x) → (yours : IsMisfit network ms there os y)
+        → (mine.place ≡ yours.place) × IsSameAttempt x.attempt y.attempt) same
+        (λ mine yours.
+        let turn = turns_one network ms tree there one x y mine yours in
+        let place : mine.place ≡ yours.place =
+        some_one (slice_get one y.turn) mine.place yours.place (subst (λ (n : ℕ). slice_get one n ≡ Some mine.place) turn mine.here) yours.here in
+        let message : mine.message ≡ yours.message =
+        some_one (slice_get ms yours.place) mine.message yours.message (subst (λ (p : ℕ). slice_get ms p ≡ Some mine.message) place mine.there) yours.there in
+        let taken : mine.taken ≡ yours.taken =
+        (placed_one network ms tree mine.attempts yours.attempts there (take y.turn one) mine.taken yours.taken
+        (subst (λ (n : ℕ). ArePlaced network ms mine.attempts there (take n one) mine.taken) turn mine.before) yours.before).taken_is in (
+          place,
+          behind_one network yours.taken yours.message x.attempt y.attempt tree
+              (subst (λ m. IsBestBehind network yours.taken m x.attempt) message
+              (subst (λ ts. IsBestBehind network ts mine.message x.attempt) taken mine.best)) yours.best,
+        ))
+
+    unplaced_one : (there : List Taken) (place other : ℕ) (a b : Attempt) → IsUnplaced network ms there place a → IsUnplaced network ms there other b
+        → (place ≡ other) × IsSameAttempt a b
+    unplaced_one there place other a b one two =
+        let order : one.order ≡ two.order =
+        moved_one network ms tree there one.reached.first 512 one.order two.order one.reached.moved
+        (moved_from network ms tree there 512 512 one.order two.order one.reached two.reached) in
+        let same = misfits_one there one.order two.order one.misfit two.misfit order one.unfit two.unfit in (
+          one.place_is ∙ same.0 ∙ sym two.place_is,
+          subst (λ c. IsSameAttempt c b) (sym one.attempt_is)
+              (subst (λ c. IsSameAttempt one.misfit.attempt c) (sym two.attempt_is) same.1),
+        )
+
+    -- where all have places in some order, none is told in the last one
+    no_unplaced : (there : List Taken) (attempts : List Attempt) (place : ℕ) (a : Attempt) → ArePlanned network ms there attempts
+        → IsUnplaced network ms there place a → ⊥
+    no_unplaced there attempts place a planned un =
+        let moved = moved_from network ms tree there planned.moves 512 planned.order un.order planned.reached un.reached in
+        elim (cases_lt planned.moves 512) [
+          | inl less ↦
+              let found = misfit_of network ms tree there planned.reached.first planned.moves 512 planned.order un.order less planned.reached.moved moved in
+              all_placed network ms tree attempts there planned.order planned.taken found.0 planned.placed found.1
+          | inr ge ↦
+              let few = planned.few in
+              let last : 512 ≡ planned.moves = omega (arith, few, ge) in
+              let order : un.order ≡ planned.order =
+              moved_one network ms tree there planned.reached.first planned.moves un.order planned.order
+              (subst (λ n. IsMoved network ms there planned.reached.first n un.order) last moved) planned.reached.moved in
+              all_placed network ms tree attempts there planned.order planned.taken un.misfit planned.placed
+              (subst (λ os. IsMisfit network ms there os un.misfit) order un.unfit)
+        ]
+
+-- what is said of the rows that are there
+at_there : {network : Network} {one other : List Taken} (Holds : List Taken → Type 0) → AreThere network one
+    → AreThere network other → Holds other → Holds one
+at_there Holds are too holds = subst Holds (there_one too are) holds
+
+module _ (network : Network) (ms : List Message) where
+  pub none_one : (one other : NoPlan) → IsTree network → IsNoPlan network ms one → IsNoPlan network ms other
+      → IsSameNoPlan one other
+  none_one plans.OutOfMemory other tree none also = tt
+  none_one (plans.Excess e) plans.OutOfMemory tree none also = tt
+  none_one (plans.Impossible p a) plans.OutOfMemory tree none also = tt
+  none_one (plans.Unplaced p a) plans.OutOfMemory tree none also = tt
+  none_one (plans.Excess e) (plans.Excess f) tree none also = excess_one network tree ms e f none also
+  none_one (plans.Excess e) (plans.Impossible p a) tree none also = absurd (no_excess network tree ms e none also.0)
+  none_one (plans.Excess e) (plans.Unplaced p a) tree none also = absurd (no_excess network tree ms e none also.0)
+  none_one (plans.Impossible p a) (plans.Excess e) tree none also = absurd (no_excess network tree ms e also none.0)
+  none_one (plans.Unplaced p a) (plans.Excess e) tree none also = absurd (no_excess network tree ms e also none.0)
+  none_one (plans.Impossible p a) (plans.Impossible q b) tree (within, (there, are, unfit)) (too, (seen, also, other)) =
+      unfit_one network tree ms there p q a b unfit
+      (at_there (λ (ts : List Taken). IsUnfit network ts ms q b) are also other)
+  none_one (plans.Impossible p a) (plans.Unplaced q b) tree (within, (there, are, unfit)) (too, (seen, also, un)) =
+      let it = at_there (λ (ts : List Taken). IsUnplaced network ms ts q b) are also un in
+      absurd (no_reached network tree ms there 512 p it.order a it.reached unfit)
+  none_one (plans.Unplaced q b) (plans.Impossible p a) tree (too, (seen, also, un)) (within, (there, are, unfit)) =
+      let it = at_there (λ (ts : List Taken). IsUnplaced network ms ts q b) are also un in
+      absurd (no_reached network tree ms there 512 p it.order a it.reached unfit)
+  none_one (plans.Unplaced p a) (plans.Unplaced q b) tree (within, (there, are, un)) (too, (seen, also, other)) =
+      unplaced_one network tree ms there p q a b un
+      (at_there (λ (ts : List Taken). IsUnplaced network ms ts q b) are also other)
+
+  pub plan_or_none : (attempts : List Attempt) (why : NoPlan) → IsTree network → IsPlan network ms attempts
+      → IsNoPlan network ms why → why ≡ plans.OutOfMemory
+  plan_or_none attempts plans.OutOfMemory tree plan none = refl
+  plan_or_none attempts (plans.Excess e) tree plan none = absurd (no_excess network tree ms e none plan.0)
+  plan_or_none attempts (plans.Impossible p a) tree (within, (there, are, planned)) (too, (seen, also, unfit)) =
+      let it = at_there (λ (ts : List Taken). IsUnfit network ts ms p a) are also unfit in
+      absurd (no_reached network tree ms there planned.moves p planned.order a planned.reached it)
+  plan_or_none attempts (plans.Unplaced p a) tree (within, (there, are, planned)) (too, (seen, also, un)) =
+      let it = at_there (λ (ts : List Taken). IsUnplaced network ms ts p a) are also un in
+      absurd (no_unplaced network tree ms there attempts p a planned it)

@@ -1,10 +1,5 @@
 pub mod NextParts
-pub mod PathLinks
+pub mod LawProofs
 pub mod LaneLists
-pub mod TwigLists
-pub mod OneAnswer
 pub mod Joins
 pub mod Bounds
-pub mod LawProofs
-pub mod Limits
-pub mod Shown

@@ -1,10 +1,5 @@
 pub mod Texts
 pub mod Rounding
 pub mod Shares
-pub mod Inserted
 pub mod Loaded
-pub mod Falling
-pub mod Going
-pub mod Weighing
-pub mod Told
-pub mod OneAnswer
+pub mod Sheets

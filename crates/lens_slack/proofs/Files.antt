@@ -1,7 +1,8 @@
 -- The answer for a source of a network file.
 use Rattle.{lens_slack.specs.Answer.IsFileAnswer, tte_forms.specs.Putting.{PutsNone, Shown}}
 use Rattle.{net_plan.specs.declared.network.Network.Network, tte_forms.specs.{declared.status.Status.Status, networks.NetworkLine.file_reason}}
-use Rattle.{std.proofs.Common.{◌≡◌, ◌⊎◌, List, Option, inl, inr, refl, ℕ}, tte_forms.proofs.{Octets.for_more, OneAnswers.{answer_widened, unput_answer}}}
+use Rattle.std.proofs.Common.{◌≡◌, ◌⊎◌, List, Option, inl, inr, refl, ℕ}
+use Rattle.tte_forms.proofs.{Octets.for_more, Puts.{answer_widened, unput_answer}}
 use Rattle.tte_forms.specs.{Answering.{Answer, AnswersOne, ForOctets, Gives, GivesAnswer}, networks.Accepting.{MeansNetwork, refused_answer, too_long_answer}}
 use Rattle.tte_forms.specs.{declared.{accepting.NoNetwork.NoNetwork, status.Status.TheVariants.WriteFault}, networks.NoNetworks.{IsUnread, no_network_answer}}
 use Rattle.tte_forms.specs.declared.accepting.NoNetwork.TheVariants as causes

@@ -2,11 +2,8 @@ pub mod Greatests
 pub mod SamePlan
 pub mod SameShape
 pub mod Drift
-pub mod Links
-pub mod Suffice
 pub mod Leasts
-pub mod Keeping
-pub mod Ranged
+pub mod Suffice
 pub mod OneLeast
 pub mod Rooms
 pub mod Late

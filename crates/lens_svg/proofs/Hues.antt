@@ -1,5 +1,5 @@
 -- The hue of a mark is that of its record, which is that of the record that it comes from.
-use Rattle.lens_svg.proofs.Arrows.{drawn_behind, drawn_within}
+use Rattle.lens_svg.proofs.Painting.{drawn_behind, drawn_within}
 use Rattle.lens_svg.specs.Laws.{HuesComeFromCauses, MarksHaveHues, NeverFall, NumbersFollow, hues_of}
 use Rattle.lens_svg.specs.{Layout.moved, Plan.Plan, Sketching.{begun, hue_of, hues_with, mark_of, moment, plan_behind, side_in, took, took_at}}
 use Rattle.lens_svg.specs.declared.{layout.Side.{Side, TheVariants.{Before, Behind, Passed, Within}}, mark.{Hue.Hue, Mark.Mark}}

@@ -1,9 +1,7 @@
-pub mod ShortNotes
+pub mod NoteTexts
 pub mod Order
-pub mod Arrows
-pub mod Hues
 pub mod Painting
-pub mod Plain
+pub mod Hues
 pub mod Folds
 pub mod Windows
 pub mod TitleTexts

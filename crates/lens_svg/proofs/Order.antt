@@ -1,5 +1,5 @@
 -- The marks of a picture that fits stand in the order of their instants, and those of one instant and row side by side.
-use Rattle.lens_svg.proofs.Arrows.{drawn_within}
+use Rattle.lens_svg.proofs.Painting.{drawn_within}
 use Rattle.lens_svg.specs.{Laws.{AreApart, KeepsOrder, NeverFall, StandsLeft}, Sketching.{begun, drawn, mark_of, moment, plan_behind, plan_of, side_in, took, took_at}}
 use Rattle.lens_svg.specs.Layout.{IsOnPaper, capped, clamped, gap, moved, pen_at, reached, stand, widest, width_of}
 use Rattle.lens_svg.specs.{Bodies.seat_of, Sketching.{last_in, no_marks_in, with_at}, declared.layout.Side.{Side, TheVariants.{Before, Behind, Passed, Within}}}

@@ -2,13 +2,15 @@
 use Rattle.{audit_devices.specs.Keeping.records_before, sync_state.specs.membership.Members.count_of, tte_units.specs.declared.units.Units.Units}
 use Rattle.{audit_law.specs.law.CorrectionNumbers.{heard_since_point, points_come}, run_law.specs.records.Happenings.{Happening, happenings, numbered, time_of}}
 use Rattle.{audit_law.specs.law.CorrectionPoints.IsPointOf, net_plan.specs.declared.{ids.DeviceId.DeviceId, network.Network.Network}}
-use Rattle.{lens_why.proofs.{BestFrames.summarized, Naming.earlier_by}, run_law.proofs.records.Members.in_kept, tte_reports.specs.Reports.IsReportOf}
+use Rattle.lens_why.proofs.{Grounded.earlier_by, LastRecords.summarized}
+use Rattle.run_law.{proofs.{law.FirstDeliveries.{founded_at, in_filter}, records.Members.in_kept}}
+use Rattle.run_law.{specs.{device.LocalClocks.changes_adjustment, records.Order.{IsBefore, IsIn, is_before}}}
+use Rattle.tte_reports.specs.Reports.{IsReportOf}
 use Rattle.lens_why.specs.Corrections.{channel_ground, clique_ground, corrected_ground, heard_at_point, said_by, told_by, told_on, value_of}
 use Rattle.{lens_why.specs.{Grounds.ground_by, declared.seeking.Sought.TheVariants.Frame}, run_law.specs.records.Ranks.{key, members_in, place_of, rank}}
 use Rattle.lens_why.specs.{Laws.{BestAreThere, best_number, told_in, told_number}, Seeking.{is_channel, is_frame, is_hearing_of, is_sought, last_sought}}
 use Rattle.{run_law.specs.control.Corrections.hearing_by, sync_state.specs.membership.Hearing.within_on}
 use Rattle.audit_sweep.specs.Indexing.{before_corrections}
-use Rattle.run_law.{proofs.law.FirstPlaces.{founded_at, in_filter}, specs.{device.LocalClocks.changes_adjustment, records.Order.{IsBefore, IsIn, is_before}}}
 use Rattle.{run_law.proofs.records.Order.{before_is, given_of, has_passed, in_drop, is_there}, sync_state.specs.declared.membership.frame.HeardFrame.HeardFrame}
 use Rattle.run_law.{proofs.runs.Places.{in_parts, in_right}, specs.{declared.note.{Note.Note, NoteBody.NoteBody}, device.States.adjustment_before}}
 use Rattle.{run_law.specs.scenario.Scenarios.Scenario, std.proofs.{Common.{subst, sym, true, ℕ, ℤ}, lemmas.{Bool.{and_from, eq-eqb}, Int.ints}}}

@@ -1,16 +1,91 @@
--- The lines of a chain put one record after another.
-use Rattle.lens_why.{proofs.Chains.{Along, along_both, along_more, along_there, none_at_zero, whole_of}, specs.Lines.{chain_lines, record_lines, told_lines}}
-use Rattle.{lens_why.proofs.Notes.{founded_of, happening_at, none_there, note_in, note_numbered, note_of, number_of}, lens_why.specs.Records.IsTimely}
-use Rattle.{lens_why.proofs.Comings.{IsNoneOrThere, comes_from_earlier}, std.specs.Prelude.option_map}
-use Rattle.lens_why.{proofs.Timely.timely_in, specs.{Answer.{IsWhyAnswer, chain_answer}, Records.ComesFrom}}
-use Rattle.{report_text.specs.Ranges.IsNoteOf, tte_reports.specs.Places.note_at}
-use Rattle.{lens_why.specs.{Grounds.ground_of}, std.proofs.lemmas.List.append-nil, tte_audit.specs.{Named.IsNamed, Report.scenario_of}}
-use Rattle.{lens_why.specs.declared.ground.Ground.Ground, net_plan.specs.declared.network.Network.Network, tte_reports.proofs.Reports.{one_end, one_notes}}
-use Rattle.{run_law.specs.{declared.note.Note.Note, records.Causes.cause_of}, std.proofs.lemmas.Grind.flat_map-append, tte_reports.specs.Reports.IsReportOf}
-use Rattle.{run_law.specs.records.Happenings.{Happening, happenings, numbered}, tte_forms.specs.declared.status.Status.{Status, TheVariants.{Done, WriteFault}}}
-use Rattle.{run_law.specs.scenario.Scenarios.Scenario, tte_forms.specs.Answering.{Ends, GivesAnswer}, tte_units.specs.declared.units.Units.Units}
-use Rattle.std.proofs.Common.{◌++◌, ◌<◌, ◌∙◌, ◌∷◌, ◌≡◌, List, None, Option, Some, [], ap, append_assoc, arith, inl, inr, refl, subst, sym, ℕ}
-use Rattle.tte_forms.{proofs.Puts.{Ends-gives, PutFails-behind, PutFails-more, PutsLines-append, PutsLines-none}, specs.Putting.{PutFails, PutsLines, Shown}}
+-- The lines of a chain, put record by record with their grounds, at the times of the report.
+use Rattle.std.{specs.{Io.KnownBytes.Appends, Prelude.{if◌then◌else◌, option_map, slice_get}}}
+use Rattle.std.proofs.{lemmas.{Grind.flat_map-append, List.append-nil}}
+use Rattle.std.proofs.Common
+use Common.{◌++◌, ◌<◌, ◌∙◌, ◌∷◌, ◌≡◌, Bool, List, None, Option, Some, [], ap, append_assoc, arith, false, inl, inr}
+use Common.{length, refl, subst, sym, true, ℕ}
+use Rattle.lens_why.proofs.{Chains.{Along, along_both, along_more, along_there, none_at_zero, whole_of}}
+use Rattle.lens_why.proofs.{Comings.{IsNoneOrThere, comes_from_earlier}}
+use Rattle.lens_why.proofs.{Cutting.{founded_of, happening_at, none_there, note_in, note_numbered, note_of, number_of}}
+use Rattle.lens_why.specs.{Answer.{IsWhyAnswer, chain_answer}, Grounds.ground_of}
+use Rattle.lens_why.specs.{Lines.{chain_lines, ground_line, is_told, record_lines, told_lines}}
+use Rattle.lens_why.specs.{Records.{ComesFrom, IsTimely}, declared.ground.Ground.Ground}
+use Rattle.net_plan.specs.declared.network.Network.{Network}
+use Rattle.report_text.specs.{NoteLine.note_line, Ranges.IsNoteOf}
+use Rattle.run_law.{proofs.{law.FirstDeliveries.at_length, runs.Places.parted}}
+use Rattle.run_law.specs.{declared.note.Note.Note, scenario.Scenarios.Scenario}
+use Rattle.run_law.specs.records.{Causes.cause_of, Happenings.{Happening, happening, happenings, numbered}, Order.IsIn}
+use Rattle.tte_audit.{proofs.ReportText.happening_there, specs.{Named.IsNamed, Report.scenario_of}}
+use Rattle.tte_forms.proofs.Puts
+use Puts.{Ends-gives, PutFails-behind, PutFails-more, PutsLines-append, PutsLines-fails, PutsLines-more, PutsLines-none}
+use Rattle.tte_forms.specs.{Answering.{Ends, GivesAnswer}, Putting.{PutFails, PutsLines, Shown}}
+use Rattle.tte_forms.specs.{declared.status.Status.{Status, TheVariants.{Done, WriteFault}}}
+use Rattle.tte_io.specs.{Faults.next_count, Told.AppendsFront}
+use Rattle.tte_reports.{proofs.Reports.{end_soon, none_later, one_end, one_notes}}
+use Rattle.tte_reports.{specs.{Places.note_at, Reports.IsReportOf}}
+use Rattle.tte_units.{proofs.general_lemmas.Lists.in_all, specs.declared.units.Units.Units}
+
+-- ---- the lines of a record and of its ground put
+
+module _ (network : Network) (note : Note) (said : Ground) where
+  abbrev line : List ℕ
+  line = note_line network note
+
+  -- the lines, where the ground is told or not
+  abbrev lines_by : Bool → List (List ℕ)
+  lines_by told = line ∷ (if told then ground_line said ∷ [] else [])
+
+  -- the put of the record's line failed
+  pub put_none : (old new : Shown) → AppendsFront old.written new.written line → new.puts ≡ next_count old.puts
+      → PutFails (told_lines network note said) old new
+  put_none old new front counted = PutsLines-fails line (if is_told said then ground_line said ∷ [] else []) new (PutsLines-none old) front counted
+
+  one_line : (old new : Shown) → Appends old.written new.written line → new.puts ≡ next_count old.puts → PutsLines (line ∷ []) old new
+  one_line old new whole counted = PutsLines-more line new (PutsLines-none old) whole counted
+
+  -- it was put, and the ground says nothing
+  pub put_alone : (old new : Shown) → is_told said ≡ false → Appends old.written new.written line → new.puts ≡ next_count old.puts
+      → PutsLines (told_lines network note said) old new
+  put_alone old new silent whole counted = subst (λ b. PutsLines (lines_by b) old new) (sym silent) (one_line old new whole counted)
+
+  -- both were put
+  pub put_both : (old mid new : Shown) → is_told said ≡ true → Appends old.written mid.written line → mid.puts ≡ next_count old.puts
+      → Appends mid.written new.written (ground_line said) → new.puts ≡ next_count mid.puts → PutsLines (told_lines network note said) old new
+  put_both old mid new told whole counted more again =
+      subst (λ b. PutsLines (lines_by b) old new) (sym told)
+      (PutsLines-more (ground_line said) new (one_line old mid whole counted) more again)
+
+  -- the put of the ground's line failed
+  pub put_half : (old mid new : Shown) → is_told said ≡ true → Appends old.written mid.written line → mid.puts ≡ next_count old.puts
+      → AppendsFront mid.written new.written (ground_line said) → new.puts ≡ next_count mid.puts → PutFails (told_lines network note said) old new
+  put_half old mid new told whole counted front again =
+      subst (λ b. PutFails (lines_by b) old new) (sym told)
+      (PutsLines-fails (ground_line said) [] new (one_line old mid whole counted) front again)
+
+-- ---- the times of the records of a report
+
+module _ {network : Network} {octets : List ℕ} {notes : List Note} {end : Units}
+    (of : IsReportOf network octets notes end) where
+  -- each record of a report is of a time that clocks have
+  timely_at : (gone behind : List Note) (note : Note) → notes ≡ gone ++ note ∷ behind → IsTimely network note
+  timely_at gone behind note parts =
+      let own = happening network (happenings network gone) note in
+      let there = happening_there network notes gone behind note parts in
+      let early = none_later network octets notes end of gone behind note parts in
+      let last = end_soon network octets notes end of in
+      let found : slice_get notes (length gone) ≡ Some note =
+      subst (λ (ns : List Note). slice_get ns (length gone) ≡ Some note) (sym parts) (at_length gone behind note) in
+      record {
+        of_network = in_all (IsNoteOf network) notes (length gone) note of.events.text.records.of_network found;
+        begun = (of.run.founded (happenings network gone) there.0 own there.1).1.begun;
+        soon = omega (arith, early, last);
+      }
+
+  pub timely_in : (note : Note) → IsIn note notes → IsTimely network note
+  timely_in note i =
+      let at = parted note notes i in timely_at at.0 at.1 note at.2
+
+-- ---- the lines of a chain put one record after another
 
 -- the lines of the records of a chain up to the one that is at hand were put
 pub record IsToldTo (network : Network) (octets : List ℕ) (first note : Note) (old now : Shown) : Type 0 where

@@ -2,10 +2,5 @@ pub mod Bearing
 pub mod Padded
 pub mod Amounts
 pub mod Trees
-pub mod Greatest
-pub mod Shape
-pub mod Beta
-pub mod Found
 pub mod SameIds
-pub mod TableFacts
 pub mod InRange

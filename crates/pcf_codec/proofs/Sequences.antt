@@ -1,5 +1,7 @@
 -- The frames of a stream, in pieces.
-use Rattle.{pcf_codec.proofs.Outcomes.is_spelling, std.proofs.lemmas.Bool.{cases_lt, le-ltb, lt-ltb}, tte_units.specs.declared.frames.pcf.Pcf.Pcf}
+use Rattle.std.proofs.lemmas.Bool.{cases_lt, le-ltb, lt-ltb}
+use Rattle.pcf_codec.proofs.Spellings.{is_spelling}
+use Rattle.tte_units.specs.declared.frames.pcf.Pcf.{Pcf}
 use Rattle.pcf_codec.specs.{Decoding.decoded, Sequence.{IsLongestFront, IsRefusedFrame, IsUnfinished, SpellsAll}, declared.refusal.PcfRefusal.PcfRefusal}
 use Rattle.pcf_codec.specs.{Reading.{Reading, Reads, fed, holding, judgement_of, reading_of, refused, taken_of, waiting}, Spelling.{Spells, pcf_length}}
 use Rattle.std.proofs.Common.{◌*◌, ◌++◌, ◌+◌, ◌-◌, ◌∙◌, ◌∷◌, ◌≡◌, ◌≤◌, Err, List, Ok, Result, [], ap, append_assoc, arith, drop, inl, inr, length}

@@ -2,6 +2,4 @@
 pub mod Readings
 pub mod Anchored
 pub mod Epochs
-pub mod Numbers
-pub mod Joiners
-pub mod Unchanged
+pub mod OldDevices

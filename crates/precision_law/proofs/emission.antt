@@ -1,6 +1,4 @@
 -- The compression master of the sound channel sends one frame of the cycle, with all first masters.
-pub mod Senders
-pub mod Aimed
-pub mod Gathered
 pub mod SoundMaster
+pub mod Aimed
 pub mod WholeMaster

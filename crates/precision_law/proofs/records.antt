@@ -2,9 +2,6 @@
 pub mod Times
 pub mod Views
 pub mod RunViews
-pub mod Cutting
 pub mod Behind
 pub mod Points
 pub mod Judged
-pub mod Due
-pub mod Recorded

@@ -1,13 +1,8 @@
 -- One frame: it goes from link to link, takes dmax, and is permanent; the sound channel delivers it.
 pub mod Links
-pub mod Paths
 pub mod Travels
 pub mod Upward
 pub mod Legs
-pub mod Ascents
-pub mod Descents
 pub mod Gates
 pub mod Sound
-pub mod SoundLinks
-pub mod SoundUp
-pub mod SoundDown
+pub mod SoundChannel

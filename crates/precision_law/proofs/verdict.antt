@@ -1,3 +1,2 @@
 -- So each firm device is corrected at its correction point, by a frame that all share.
-pub mod HeardOutside
-pub mod FirmDevices
+pub mod CorrectionPoints

@@ -4,7 +4,5 @@ pub mod Texts
 pub mod Visible
 pub mod Lines
 pub mod SameWords
-pub mod SameBodies
 pub mod SameReports
-pub mod Short
 pub mod Counting

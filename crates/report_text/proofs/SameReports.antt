@@ -2,9 +2,11 @@
 use Rattle.{net_plan.specs.Ranges.IsInRange, tte_io.specs.Line.lf}
 use Rattle.{net_plan.specs.declared.network.Network.Network, std.proofs.lemmas.List.Elements.{All-head, All-tail}, tte_units.specs.declared.units.Units.Units}
 use Rattle.report_text.{proofs.Characters.{IsVisible, decimal_visible}, specs.NoteLine.{body_text, body_words, note_text, report_of}}
-use Rattle.report_text.{proofs.{SameBodies.{IsPrintable, same_body}, SameWords.{IsNamedApart, same_units}}, specs.Ranges.{IsNoteInRange, IsNoteOf}}
+use Rattle.report_text.{specs.Ranges.{IsNoteInRange, IsNoteOf}}
+use Rattle.report_text.proofs.{SameWords.{IsNamedApart, IsPrintable, same_body, same_units}}
+use Rattle.report_text.proofs.{Visible.{body_visible, units_visible}}
+use Rattle.report_text.proofs.Texts.{IsUnbroken, is_lf, line_unbroken, unbroken_spaced, visible_unbroken, visible_word}
 use Rattle.{report_text.{proofs.Splits.{IsSplit, split_once}, specs.Laws.{AreOfNetwork, OneReport}}, run_law.specs.declared.note.{Note.Note, NoteBody.NoteBody}}
-use Rattle.report_text.proofs.{Texts.{IsUnbroken, is_lf, line_unbroken, unbroken_spaced, visible_unbroken, visible_word}, Visible.{body_visible, units_visible}}
 use Rattle.std.{proofs.Common.{◌++◌, ◌∙◌, ◌∷◌, ◌≡◌, List, [], ap, append_assoc, arith, length, length-append, refl, subst, sym, ℕ}, specs.List.concat}
 use Rattle.{std.{proofs.lemmas.Fmt.decimal_injective, specs.{Fmt.signed_decimal, Prelude.{codes, decimal}}}, trace_text.specs.Steps.{is_space, space}}
 

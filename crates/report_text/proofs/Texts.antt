@@ -1,7 +1,8 @@
 -- Texts that no LF breaks, and lines of visible words.
 use Rattle.{report_text.proofs.{Characters.{IsVisible, is_visible}, Splits.NonePasses}, trace_text.specs.Steps.{Words, is_space, space, words}}
 use Rattle.std.proofs.{Common.{◌++◌, ◌∷◌, ◌≡◌, Bool, List, [], arith, false, refl, true, ℕ}, lemmas.List.Elements.{All-append, All-cons, All-weaker}}
-use Rattle.{std.{proofs.lemmas.Bool.{Decides.nat_tests}, specs.Prelude.{◌==◌, ⊤}}, trace_text.proofs.Joining.{AreWords, words_joined}}
+use Rattle.std.{proofs.lemmas.Bool.Decides.nat_tests, specs.Prelude.{◌==◌, ⊤}}
+use Rattle.trace_text.proofs.Splitting.{AreWords, words_joined}
 use Rattle.{std.specs.List.join_with_byte, tte_io.specs.Line.lf}
 
 -- the octet is LF

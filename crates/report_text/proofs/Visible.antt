@@ -1,22 +1,105 @@
--- The words of records are visible.
-use Rattle.net_plan.specs.{Belonging.{HasDevice, HasLink, HasVl, IsOfNetwork, device_name, link_name, vl_name}, declared.tables.Way.TheVariants.{Down, Up}}
-use Rattle.{net_plan.specs.Ranges.{IsDeviceInRange, IsInRange, IsLinkInRange, IsVlInRange}, run_law.specs.declared.judgement.{Judgement.Judgement, Why.Why}}
-use Rattle.{net_plan.specs.declared.{event.What.What, ids.{LinkId.LinkId, VlId.VlId}, tables.Way.Way}, tte_units.specs.declared.rates.Ppb.Ppb}
-use Rattle.{net_plan.specs.declared.ids.DeviceId.DeviceId, run_law.specs.declared.note.NoteBody.NoteBody, tte_units.proofs.general_lemmas.Lists.some_at}
-use Rattle.{net_plan.specs.declared.network.Network.Network, report_text.proofs.Texts.{AreOfLine, AreVisible}, run_law.specs.declared.judgement.Reason.Reason}
-use Rattle.report_text.proofs.Characters.{IsVisible, decimal_visible, hex_visible, is_visible, name_visible, octet_is_byte, signed_visible, visible_from_test}
-use Rattle.{report_text.proofs.Characters.word_is_bytes, sync_state.specs.declared.state.State.State, tte_units.specs.declared.units.Units.Units}
-use Rattle.{report_text.specs.NoteLine.body_words, trace_text.{proofs.WordsBack.in_list, specs.{EventLine.what_words, EventWords.way_text, Steps.Words}}}
-use Rattle.{report_text.specs.NoteWords.{judgement_text, reason_words, state_text, why_text}, trace_text.specs.Ranges.{IsRate, IsTime, IsWhatInRange}}
-use Rattle.report_text.specs.Ranges.{HasPassage, HasStream, IsBodyInRange, IsBodyOf, IsCount, IsReasonInRange, IsShortCount, IsSignedUnits}
-use Rattle.std.{proofs.Common.{◌<◌, ◌^◌, ◌∷◌, ◌≡◌, List, [], arith, length, refl, true, ℕ}, specs.Prelude.{◌≤ℤ◌, codes, decimal, neg_ℤ, negsuc, pos, ℤ}}
-use Rattle.std.{proofs.lemmas.Int.ints, specs.{Fmt.signed_decimal, Int.Signed.mag, List.list_all}}
+-- The words of records are visible, and those of names, numbers and events are short.
+use Rattle.std.proofs.{Common.{◌+◌, ◌<◌, ◌^◌, ◌∷◌, ◌≡◌, ◌≤◌, List, [], arith, length, length-append, refl, true, ℕ}}
+use Rattle.std.proofs.{lemmas.{Fmt.length_signed_le, Int.ints}}
+use Rattle.std.specs.{Fmt.signed_decimal, Int.Signed.mag, List.{join_with_byte, list_all}}
+use Rattle.std.specs.{Prelude.{◌≤ℤ◌, codes, decimal, neg_ℤ, negsuc, pos, ℤ}}
+use Rattle.hex.{proofs.HexLemmas.length-encode_with, specs.Hex.lower_digits}
+use Rattle.net_plan.specs.{Belonging.{HasDevice, HasLink, HasVl, IsOfNetwork, device_name, link_name, vl_name}}
+use Rattle.net_plan.specs.{Ranges.{IsDeviceInRange, IsInRange, IsLinkInRange, IsVlInRange}}
+use Rattle.net_plan.specs.declared.{event.What.What, ids.{DeviceId.DeviceId, LinkId.LinkId, VlId.VlId}}
+use Rattle.net_plan.specs.declared.{network.Network.Network, tables.Way.{TheVariants.{Down, Up}, Way}}
+use Rattle.report_text.proofs.{Texts.{AreOfLine, AreVisible}}
+use Rattle.report_text.proofs.Characters
+use Characters.{IsVisible, decimal_visible, hex_visible, is_visible, name_visible, octet_is_byte, signed_visible}
+use Characters.{visible_from_test, word_is_bytes}
+use Rattle.report_text.specs.{NoteLine.body_words, NoteWords.{judgement_text, reason_words, state_text, why_text}}
+use Rattle.report_text.specs.Ranges
+use Ranges.{HasPassage, HasStream, IsBodyInRange, IsBodyOf, IsCount, IsReasonInRange, IsShortCount, IsSignedUnits}
+use Rattle.run_law.specs.declared.{judgement.{Judgement.Judgement, Reason.Reason, Why.Why}, note.NoteBody.NoteBody}
+use Rattle.sync_state.specs.declared.state.State.{State}
+use Rattle.trace_text.{proofs.WordsBack.in_list}
+use Rattle.trace_text.specs.{EventLine.what_words, EventWords.way_text, Ranges.{IsRate, IsTime, IsWhatInRange}}
+use Rattle.trace_text.specs.{Steps.{Words, space}}
+use Rattle.tte_units.{proofs.general_lemmas.Lists.{in_all, some_at}, specs.declared.{rates.Ppb.Ppb, units.Units.Units}}
 use Rattle.net_plan.specs.declared.event.What.TheVariants as events
 use Rattle.run_law.specs.declared.judgement.Judgement.TheVariants as judgements
 use Rattle.run_law.specs.declared.judgement.Reason.TheVariants as reasons
 use Rattle.run_law.specs.declared.judgement.Why.TheVariants as whys
 use Rattle.run_law.specs.declared.note.NoteBody.TheVariants as bodies
 use Rattle.sync_state.specs.declared.state.State.TheVariants as states
+
+-- ---- the words of names, numbers and events are short
+
+-- ---- words
+
+-- how many octets the words have, with one more each
+unfoldable pub size : Words → ℕ
+size [] = 0
+size (w ∷ ws) = length w + (1 + size ws)
+
+-- joined they have no more
+pub joined_short : (ws : Words) → length (join_with_byte space ws) ≤ size ws
+unfolding size
+joined_short [] = omega arith
+joined_short (w ∷ []) = omega arith
+joined_short (w ∷ v ∷ ws) =
+    let rest = joined_short (v ∷ ws) in
+    omega (arith, length-append w (space ∷ join_with_byte space (v ∷ ws)))
+
+-- ---- one word
+
+pub device_short : (network : Network) (d : DeviceId) → IsInRange network → HasDevice network d → length (device_name network d) ≤ 16
+device_short network d range of_network =
+    let at = some_at network.device d.0 of_network in
+    rw at.1 (in_all IsDeviceInRange network.device d.0 at.0 range.devices at.1).name.short
+
+pub link_short : (network : Network) (l : LinkId) → IsInRange network → HasLink network l → length (link_name network l) ≤ 16
+link_short network l range of_network =
+    let at = some_at network.link l.0 of_network in
+    rw at.1 (in_all (IsLinkInRange network) network.link l.0 at.0 range.links at.1).name.short
+
+pub way_short : (way : Way) → length (way_text way) ≤ 4
+way_short Up = omega arith
+way_short Down = omega arith
+
+-- a signed number of a trace
+pub number_short : (z : ℤ) → neg_ℤ (pos (2 ^ 60)) ≤ℤ z → z ≤ℤ pos (2 ^ 60) → length (signed_decimal z) ≤ 20
+number_short (pos n) least most = length_signed_le 19 (pos n) (omega (arith, ints)) (omega (arith, ints))
+number_short (negsuc n) least most = length_signed_le 19 (negsuc n) (omega (arith, ints)) (omega (arith, ints))
+
+pub time_short : (time : Units) → IsTime time → length (signed_decimal time.0) ≤ 20
+time_short time h = number_short time.0 (omega (arith, ints, h.least)) (omega (arith, ints, h.most))
+
+pub rate_short : (rate : Ppb) → IsRate rate → length (signed_decimal rate.0) ≤ 20
+rate_short rate h = number_short rate.0 (omega (arith, ints, h.least)) (omega (arith, ints, h.most))
+
+-- ---- the words of an event
+
+pub what_short : (network : Network) (what : What) → IsInRange network → IsOfNetwork network what → IsWhatInRange what → size (what_words network what) ≤ 3060
+unfolding size
+what_short network (events.Rate d r) range of_network h =
+    let name = device_short network d range of_network in let number = rate_short r h in omega arith
+what_short network (events.Wire l w u) range of_network h =
+    let name = link_short network l range of_network in
+    let way = way_short w in let number = time_short u h in omega arith
+what_short network (events.Hold l w u) range of_network h =
+    let name = link_short network l range of_network in
+    let way = way_short w in let number = time_short u h in omega arith
+what_short network (events.Cut l w) range of_network h =
+    let name = link_short network l range of_network in let way = way_short w in omega arith
+what_short network (events.Heal l w) range of_network h =
+    let name = link_short network l range of_network in let way = way_short w in omega arith
+what_short network (events.On d) range of_network h = let name = device_short network d range of_network in omega arith
+what_short network (events.Break d) range of_network h = let name = device_short network d range of_network in
+    omega arith
+what_short network (events.Send l o) range of_network h =
+    let name = link_short network l range of_network in
+    let digits = length-encode_with lower_digits o in
+    let most = h.most in
+    omega arith
+what_short network events.End range of_network h = omega arith
+
+-- ---- the words of records are visible
 
 -- ---- names and numbers
 

@@ -1,5 +1,6 @@
 -- What holds at places, among which are those of all elements that matter, said of the list.
-use Rattle.{schedule_checker.proofs.Selection.{Each, Holds, all_of_below, all_of_each, below_of_all, each_of_all}, std.proofs.lemmas.Bool.Decides.Decides-like}
+use Rattle.std.proofs.lemmas.Bool.Decides.{Decides-like}
+use Rattle.schedule_checker.proofs.Elements.{Each, Holds, all_of_below, all_of_each, below_of_all, each_of_all}
 use Rattle.{std.proofs.Common.{◌<◌, ◌≡◌, Bool, List, None, Option, Some, refl, ℕ}, tte_units.proofs.general_lemmas.Options.{closed, opened}}
 use Rattle.std.{proofs.lemmas.Option.slice_get-get_or, specs.{Bool.Decides, List.{All, Contains, slice_get}, Prelude.{IfSome, IsSomeAnd, take}}}
 

@@ -1,8 +1,3 @@
-pub mod EntryLemmas
-pub mod Margins
-pub mod RowLemmas
 pub mod SlotLemmas
-pub mod OrderLemmas
+pub mod Margins
 pub mod Search
-pub mod NextLemmas
-pub mod Entries

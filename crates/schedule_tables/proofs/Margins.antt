@@ -1,16 +1,105 @@
--- The rules of a network's times leave the margins.
-use Rattle.{net_plan.specs.{Bounds.IsBeta, Rules.{KeepsShapeRules, RulesGiveTrees}}, tte_units.proofs.general_lemmas.{Lists.in_all, Options.{closed, opened}}}
-use Rattle.net_plan.specs.{Paths.{IsPath, IsTree, IsUplink}, declared.{ids.{DeviceId.DeviceId, LinkId.LinkId}, network.Network.Network}}
-use Rattle.net_plan.specs.{Places.{IsDeviceOf, IsSwitchOf, device_at, is_end_system, is_master, link_at}, Ranges.{IsInRange, IsWithin}}
-use Rattle.{net_plan.specs.declared.tables.Link.Link, std.{proofs.lemmas.Bool.false≢true, specs.{List.{All, filter}}}}
-use Rattle.{net_plan.specs.declared.tables.Role.{Role, TheVariants.{Client, Cm, Master, Relay}}, tte_units.specs.declared.frames.channel.Channel.TheVariants.A}
-use Rattle.schedule_tables.specs.Delays.{CorrectionFits, ErrorsSettle, PrecisionFits, ScheduleFits, delay_by, delay_of, pcf_port_time}
-use Rattle.schedule_tables.specs.{Margins.{CycleHasRoom, DriftHasRoom, ErrorsAreSmall, PrecisionHasRoom, RulesGiveMargins, SettledHasRoom}, Rules.{KeepsBelow, KeepsRules}}
-use Rattle.schedule_tables.specs.declared.rule.Rule.TheVariants.{CompressionMasters, Connections, Correction, Delays, DevicesDiffer, Joints, Limits}
-use Rattle.schedule_tables.specs.declared.rule.Rule.TheVariants.{LinksDiffer, Masters, Precision, ScheduleStart, Settling}
-use Rattle.std.proofs.Common.{◌*◌, ◌+◌, ◌/◌, ◌^◌, ◌∙◌, ◌∷◌, ◌≡◌, ◌≤◌, ◌⊎◌, List, Some, [], ap, arith, get_or, inl, inr, pos, refl, suc, ℕ, ⊎_elim}
-use Rattle.{std.proofs.lemmas.{Int.ints, List.{Elements.All-weaker, Sums.sum_by-cons}, Option.slice_get-get_or}, tte_units.specs.declared.units.Units.Units}
-use Rattle.{std.specs.Prelude.{Bool, false, if◌then◌else◌, length, slice_get, true}, tte_units.specs.{Amount.amount, declared.frames.channel.Channel.Channel}}
+-- The entries of the schedule, and the margins that the rules of a network's times leave.
+use Rattle.std.proofs.{Math.Nat.{min-eq_left, min_comm, mod-mod}}
+use Rattle.std.proofs.Common
+use Common.{◌%◌, ◌*◌, ◌+◌, ◌-◌, ◌/◌, ◌<◌, ◌^◌, ◌∙◌, ◌∷◌, ◌≡◌, ◌≢◌, ◌≤◌, ◌⊎◌, List, None, Option, Some, [], ap, arith}
+use Common.{div-add-mod', get_or, inl, inr, min, pos, pow-add, pow_mono, pow_pos, refl, suc, sym, zero, ℕ, ⊎_elim}
+use Rattle.std.proofs.lemmas.{Bool.{cases_eq, cases_lt, false≢true}, Int.ints}
+use Rattle.std.proofs.lemmas.{List.{Elements.All-weaker, Sums.sum_by-cons}, Nat.{mod-mul-add, mod_below}}
+use Rattle.std.proofs.lemmas.{Option.slice_get-get_or}
+use Rattle.std.specs.{List.{All, Contains, filter}}
+use Rattle.std.specs.{Prelude.{if◌then◌else◌, Bool, false, length, option_and_then, option_map, slice_get, true}}
+use Rattle.net_plan.specs.{Bounds.IsBeta, Paths.{IsPath, IsTree, IsUplink}}
+use Rattle.net_plan.specs.{Places.{IsDeviceOf, IsSwitchOf, device_at, is_end_system, is_master, link_at}}
+use Rattle.net_plan.specs.{Ranges.{IsInRange, IsWithin}, Rules.{KeepsShapeRules, RulesGiveTrees}}
+use Rattle.net_plan.specs.declared.{ids.{DeviceId.DeviceId, LinkId.LinkId}, network.Network.Network}
+use Rattle.net_plan.specs.declared.tables.{Link.Link, Role.{Role, TheVariants.{Client, Cm, Master, Relay}}, Row.Row}
+use Rattle.net_plan.specs.declared.tables.{VirtualLink.VirtualLink}
+use Rattle.schedule_tables.specs.{Entries.{IsEntry, source_of}, Rules.{KeepsBelow, KeepsRules}, Schedule.Coincide}
+use Rattle.schedule_tables.specs.{Windows.OccursIn}
+use Rattle.schedule_tables.specs.Delays.{CorrectionFits, ErrorsSettle, PrecisionFits, ScheduleFits, delay_by, delay_of}
+use Rattle.schedule_tables.specs.Delays.{pcf_port_time}
+use Rattle.schedule_tables.specs.Margins
+use Margins.{CycleHasRoom, DriftHasRoom, ErrorsAreSmall, PrecisionHasRoom, RulesGiveMargins, SettledHasRoom}
+use Rattle.schedule_tables.specs.declared.{entry.Entry.Entry}
+use Rattle.schedule_tables.specs.declared.rule.Rule.TheVariants
+use TheVariants.{CompressionMasters, Connections, Correction, Delays, DevicesDiffer, Forwarding, Joints, Limits}
+use TheVariants.{LinksDiffer, Masters, Precision, ScheduleStart, Settling, Sources}
+use Rattle.tte_units.{proofs.general_lemmas.{Lists.{in_all, period_power}, Options.{closed, opened}}}
+use Rattle.tte_units.specs.{Amount.amount}
+use Rattle.tte_units.specs.{declared.{frames.channel.Channel.{Channel, TheVariants.A}, units.Units.Units}}
+
+-- ---- entries of the schedule
+
+-- an entry is made of its row, its virtual link and its link
+pub entry_by : (o : Option VirtualLink) (p : Option Link) (row : Row) (entry : Entry)
+    → option_and_then (λ vl. option_map (λ link. record { row = row; vl = vl; link = link }) p) o ≡ Some entry → (o ≡ Some entry.vl) × (p ≡ Some entry.link)
+    × (row ≡ entry.row)
+entry_by None p row entry e = absurd cc
+entry_by (Some vl) None row entry e = absurd cc
+entry_by (Some vl) (Some link) row entry e = grind arith
+
+-- two ids are one device's or not
+pub same_or_other : (d e : DeviceId) → (d ≡ e) ⊎ (d ≢ e)
+same_or_other d e = grind (arith, cases_eq)
+
+-- by the offset: a row that leaves its sender is in the schedule, and any other comes behind one that enters its source
+pub begun_below : {network : Network} (bound place : ℕ) (entry : Entry) → KeepsRules network
+    → IsEntry network place entry → amount entry.row.offset < bound
+    → amount network.tt_start ≤ amount entry.row.offset
+begun_below zero place entry keeps is below = absurd (omega arith)
+begun_below (suc bound) place entry keeps is below =
+    elim (same_or_other (source_of entry) entry.vl.sender) [
+      | inl sender ↦ (keeps Forwarding place).from_sender entry is sender
+      | inr not ↦ elim (keeps Sources place entry is) [
+        | inl sender ↦ absurd (not sender)
+        | inr other ↦
+            let k = other.1.0 in
+            let enters = other.1.2 in
+            let behind = (keeps Forwarding place).from_switch k enters.entry entry enters.is is (sym enters.same_vl) not enters.target in
+            let first = begun_below bound k enters.entry keeps enters.is (omega arith) in
+            omega arith
+      ]
+    ]
+
+-- a remainder by a multiple leaves the remainder
+pub mod_of_multiple : (n m c : ℕ) → 0 < c → n % (m * c) % c ≡ n % c
+mod_of_multiple n m c pos =
+    let r = n % (m * c) in
+    let one = div-add-mod' n (m * c) in
+    let two = div-add-mod' (n % (m * c)) c in
+    let whole : (n / (m * c) * m + r / c) * c + r % c ≡ n = omega arith in
+    sym (mod-mul-add (n / (m * c) * m + r / c) c (r % c) (mod_below r c pos)) ∙ (rw whole)
+
+-- a remainder by a power of two leaves that by a lesser one
+pub mod_of_powers : (n a b : ℕ) → b ≤ a → n % 2 ^ a % 2 ^ b ≡ n % 2 ^ b
+mod_of_powers n a b le =
+    let split : 2 ^ (a - b) * 2 ^ b ≡ 2 ^ a = sym (pow-add 2 (a - b) b) ∙ ap (λ k. 2 ^ k) (omega (arith, le)) in
+    rw split at (mod_of_multiple n (2 ^ (a - b)) (2 ^ b) (pow_pos b))
+
+-- the remainders of a number by two periods agree by the lesser one
+pub periods_agree : (n p q : ℕ) → Contains (1 ∷ 2 ∷ 4 ∷ 8 ∷ 16 ∷ 32 ∷ 64 ∷ []) p → Contains (1 ∷ 2 ∷ 4 ∷ 8 ∷ 16 ∷ 32 ∷ 64 ∷ []) q
+    → n % p % min p q ≡ n % q % min p q
+periods_agree n p q one two =
+    let a = period_power p one in
+    let b = period_power q two in
+    elim (cases_lt a.0 b.0) [
+      | inl lt ↦
+          let least : min (2 ^ a.0) (2 ^ b.0) ≡ 2 ^ a.0 = min-eq_left (pow_mono (omega (arith, lt))) in
+          let same = mod-mod n (2 ^ a.0) ∙ sym (mod_of_powers n b.0 a.0 (omega arith)) in
+          rw (a.1, b.1, least) same
+      | inr ge ↦
+          let least = min_comm (2 ^ a.0) (2 ^ b.0) ∙ min-eq_left (pow_mono ge) in
+          let same = mod_of_powers n a.0 b.0 ge ∙ sym (mod-mod n (2 ^ b.0)) in
+          rw (a.1, b.1, least) same
+    ]
+
+-- virtual links that occur in one cycle coincide
+pub occur_together : {one two : VirtualLink} {cycle : ℕ} → Contains (1 ∷ 2 ∷ 4 ∷ 8 ∷ 16 ∷ 32 ∷ 64 ∷ []) one.period
+    → Contains (1 ∷ 2 ∷ 4 ∷ 8 ∷ 16 ∷ 32 ∷ 64 ∷ []) two.period → OccursIn one cycle → OccursIn two cycle
+    → Coincide one two
+occur_together first second here there = grind (arith, min, periods_agree)
+
+-- ---- the rules of a network's times leave the margins
 
 amount_within : {low high : ℕ} {units : Units} → IsWithin low high units
     → (low ≤ amount units) × (amount units ≤ high)

@@ -1,5 +1,7 @@
 -- A search among things in order, each with its numbers; and the first slot that is not below a bound.
-use Rattle.schedule_tables.{proofs.OrderLemmas.{Compares, below_itself, below_mono, lt_false, lt_true, slot_cmp, slot_compares}, specs.declared.slot.Slot.Slot}
+use Rattle.schedule_tables.{specs.declared.slot.Slot.Slot}
+use Rattle.schedule_tables.proofs.SlotLemmas
+use SlotLemmas.{Compares, below_itself, below_mono, lt_false, lt_true, slot_cmp, slot_compares}
 use Rattle.{schedule_tables.specs.Dispatches.IsBelow, std.{proofs.lemmas.Bool.{cases_Bool, cases_lt}, specs.{List.{AllPairs, Contains}, Prelude.slice_get}}}
 use Rattle.{schedule_tables.specs.Slots.{AreBelow, AreInOrder, IsFirstSlot, key_of}, std.proofs.lemmas.Option.{get_or_from_slice_get, slice_get_within}}
 use Rattle.std.proofs.Common.{◌∙◌, ◌≡◌, ◌≤◌, List, Some, ap, arith, false, get_or, is_lt, length, refl, sym, true, ℕ, ⊎_elim}

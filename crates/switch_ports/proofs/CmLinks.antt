@@ -1,8 +1,12 @@
 -- The links of a compression master.
-use Rattle.{compression.proofs.Elements.in_filter, net_plan.specs.Rules.IsChildOf, run_law.specs.machines.Calls.HasLink, std.proofs.Common.arith}
+use Rattle.std.proofs.Common.{arith}
+use Rattle.compression.proofs.Growth.{in_filter}
+use Rattle.net_plan.specs.Rules.{IsChildOf}
+use Rattle.run_law.{proofs.scenario.Devices.cm_role, specs.machines.Calls.HasLink}
+use Rattle.schedule_tables.proofs.Margins.{master_ends}
+use Rattle.switch_ports.proofs.SwitchStates.{head_there, one_of_four}
 use Rattle.{net_plan.specs.{Paths.IsFirstPath, declared.tables.Role.{Role, TheVariants.{Cm, Relay}}}, run_law.specs.scenario.Devices.{channel_of, is_cm_role}}
 use Rattle.{net_plan.specs.Places.{IsCmOf, IsEndSystem, IsRoleOf, device_at}, switch_ports.proofs.Words.{slice_get, slice_get-get_or, subst, sym, true}}
-use Rattle.{run_law.proofs.scenario.Devices.cm_role, schedule_tables.proofs.Margins.master_ends, switch_ports.proofs.Rooms.{head_there, one_of_four}}
 use Rattle.switch_ports.proofs.Words.{◌∙◌, ◌∷◌, ◌≡◌, ◌⊎◌, A, B, Channel, Device, DeviceId, IsAccepted, IsSomeAnd, Link, LinkId, List, Network, None, Option}
 use Rattle.switch_ports.proofs.Words.{Some, [], ap, false, inl, inr, is_cm, is_end_system, is_master, link_at, masters, option_and_then, option_map_or, refl}
 use Rattle.schedule_tables.specs.declared.rule.Rule.TheVariants as rules

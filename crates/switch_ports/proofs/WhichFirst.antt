@@ -2,9 +2,9 @@
 use Rattle.device_rules.{proofs.FirstKinds.first_kind_of, specs.FirstKinds.{IsFirstKind, kind_of, order_of_kind}}
 use Rattle.device_rules.specs.declared.first_kind.TaskKind.TheVariants.{Correction, Dispatch as Dispatches, Emission}
 use Rattle.run_law.specs.machines.Calls.{HasDue}
-use Rattle.switch_ports.proofs.{CorrectionPoints.some_due, Dispatching.IsDispatch, FirstActs.{EmitsNone, corrects_none, emits_none, first_correction, its_next}}
-use Rattle.switch_ports.proofs.Pending.{emission_pending, kind_of as kinds_of}
-use Rattle.switch_ports.proofs.Waiting.{in_map}
+use Rattle.switch_ports.proofs.{Dispatching.IsDispatch, SwitchSteps.some_due}
+use Rattle.switch_ports.proofs.Pending.{EmitsNone, corrects_none, emission_pending, emits_none, first_correction}
+use Rattle.switch_ports.proofs.Pending.{in_map, its_next, kind_of as kinds_of}
 use Rattle.switch_ports.proofs.Words.{◌<ℤ◌, ◌∙◌, ◌≡◌, ◌≤ℤ◌, DeviceId, IfSome, IsLeast, IsPending, Network, Node, None, Option, Some, StandsAs, Switch, Task}
 use Rattle.switch_ports.proofs.Words.{Units, ap, arith, compressed, correcting, dispatching, doing, emission, emissions, emitting, inl, inr, next_point, reading_for}
 use Rattle.switch_ports.proofs.Words.{refl, sending, subst, ℤ}

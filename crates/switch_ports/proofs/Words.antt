@@ -7,7 +7,7 @@ pub use Rattle.std.proofs.lemmas.{Bool.{cases_Bool, eqb-true}, Int.ints, List.le
 pub use Rattle.std.proofs.lemmas.{List.Elements.{All-contains, All-contains_itself, Contains-append_left, Contains-append_right}, Option.slice_get-get_or}
 pub use Rattle.std.specs.{List.Contains, Option.option_map_or, Prelude.{IfSome, int_lt, nat_le, option_and_then, option_map, slice_get}}
 pub use Rattle.sync_state.specs.correction.Deviation.{IsSmall}
-pub use Rattle.compression.proofs.Elements.{in_head, in_none}
+pub use Rattle.compression.proofs.Growth.{in_head, in_none}
 pub use Rattle.compression.specs.{Clusters.{AreClusters, Cluster}, Collecting.{Collecting, emissions, fresh}, Emission.{compressed, emission}, Least.IsLeast}
 pub use Rattle.compression.specs.Stands.{StandsForPoints}
 pub use Rattle.compression.specs.declared.compressed.Compressed.{Compressed}

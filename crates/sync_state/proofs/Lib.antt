@@ -1,6 +1,5 @@
 pub mod membership_lemmas
 pub mod CallLemmas
 pub mod VerdictLemmas
-pub mod LawLemmas
 pub mod StateFacts
 pub mod PlanFacts

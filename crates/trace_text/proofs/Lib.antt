@@ -1,13 +1,7 @@
 pub mod Splitting
-pub mod Bearing
-pub mod Decimals
-pub mod Digits
+pub mod WordsBack
+pub mod Lowering
 pub mod Deciphering
 pub mod Finding
-pub mod Joining
-pub mod WordsBack
 pub mod EventsBack
-pub mod Lowering
-pub mod TextsBack
-pub mod ReadOfNetwork
 pub mod ReadTimes

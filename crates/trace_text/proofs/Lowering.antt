@@ -1,22 +1,63 @@
--- What words that are read spell, in lower case.
-use Rattle.{hex.proofs.HexLemmas.{decode_of-even, decode_of-ok}, tte_units.{proofs.general_lemmas.{Lists.found_passes, Options.mapped}, specs.Amount.units_of}}
-use Rattle.hex.specs.Hex.{◌>>=◌, decode_of, decode_pairs, digit_or_error, encode_lower, encode_with, hex_digit_value, lower_digits, pair_value, value_at}
-use Rattle.{hex.specs.declared.error.FromHexError.FromHexError, std.proofs.lemmas.List.{Elements.{All-head, All-tail}, Sums.AllPass-from_list_all}}
-use Rattle.{net_plan.proofs.Bearing.behind, std.specs.{Fmt.signed_decimal, List.position_from}}
-use Rattle.net_plan.specs.{Bearers.{device_names, link_names}, Belonging.{device_name, link_name}, declared.{ids.DeviceId.DeviceId, network.Network.Network}}
-use Rattle.{net_plan.specs.{NameText.{IsNameText, is_name_character}}, std.proofs.lemmas.Bool.{and_parts, cases_lt, eqb-true}}
-use Rattle.{net_plan.specs.Ranges.{IsDeviceInRange, IsInRange, IsLinkInRange}, std.proofs.Common.{inr, map, refl, slice_index, suc, sym, true, zero, ℕ}}
-use Rattle.{net_plan.specs.declared.{ids.LinkId.LinkId}, std.{proofs.lemmas.Bool.Decides.nat_tests, specs.Cmp.Lexicographic.bytes_decides}}
-use Rattle.{net_plan.specs.declared.tables.Way.TheVariants.{Down, Up}, trace_text.specs.Names.{device_id, device_spelled, first_place, link_id, link_spelled}}
-use Rattle.{net_plan.specs.declared.tables.Way.Way, std.specs.{Result.result_unwrap_or, Str.str_to_ascii_lowercase}, tte_units.specs.declared.rates.Ppb.Ppb}
-use Rattle.std.proofs.Common.{◌%◌, ◌*◌, ◌+◌, ◌/◌, ◌<◌, ◌^◌, ◌∙◌, ◌∷◌, ◌≡◌, ◌≤◌, ◌⊎◌, Bool, Err, List, None, Ok, Option, Some, [], ap, arith, cond, false, inl}
-use Rattle.{std.{proofs.lemmas.Fmt.decimal_is_IsNumeral, specs.Str.Parse.{AllDigits, digits_value}}, tte_units.specs.declared.units.Units.Units}
-use Rattle.{std.specs.Char.{digit_char, digit_value, to_ascii_lowercase}, trace_text.specs.declared.refusal.LineRefusal.TheVariants.{Form, Name, Number}}
-use Rattle.std.specs.{Option.{ok_or, option_and_then, option_map, option_map_or}, Prelude.{◌&&◌, ◌==◌, All, Result, bytes_eq, decimal, nat_le, pos, slice_get}}
-use Rattle.trace_text.{proofs.WordsBack.{in_list, minus_some}, specs.WordReading.{device, event_word, frame_of, link, octets, octets_spelled, rate, units, way}}
-use Rattle.trace_text.specs.{EventWords.{event_word_spelled, event_word_text, event_words, way_spelled, way_text}, Steps.{Read, Words, next_word, with_rest}}
-use Rattle.trace_text.specs.{Numbers.{fastest, latest, minus, number_up_to, ppb_of, rate_spelled, units_spelled}, declared.event_word.EventWord.EventWord}
-use Rattle.trace_text.specs.declared.{event_word.EventWord.TheVariants.{Break, Cut, End, Heal, Hold, On, Rate, Send, Wire}, refusal.LineRefusal.LineRefusal}
+-- What words that are read spell, in lower case, and which digits are no frame's.
+use Rattle.std.proofs.Common
+use Common.{◌%◌, ◌*◌, ◌+◌, ◌/◌, ◌<◌, ◌^◌, ◌∙◌, ◌∷◌, ◌≡◌, ◌≤◌, ◌⊎◌, Bool, Err, List, None, Ok, Option, Some, [], ap}
+use Common.{arith, cond, false, inl, inr, length, map, refl, slice_index, suc, sym, true, zero, ℕ}
+use Rattle.std.proofs.lemmas.{Bool.{Decides.nat_tests, and_parts, cases_lt, eqb-true}, Fmt.decimal_is_IsNumeral}
+use Rattle.std.proofs.lemmas.{List.{Elements.{All-head, All-tail}, Sums.AllPass-from_list_all}}
+use Rattle.std.specs.{Char.{digit_char, digit_value, to_ascii_lowercase}, Cmp.Lexicographic.bytes_decides}
+use Rattle.std.specs.{Fmt.signed_decimal, List.{AllPass, position_from}}
+use Rattle.std.specs.{Option.{ok_or, option_and_then, option_map, option_map_or}}
+use Rattle.std.specs.{Prelude.{◌&&◌, ◌==◌, All, Result, bytes_eq, decimal, nat_le, pos, slice_get}}
+use Rattle.std.specs.{Result.result_unwrap_or, Str.{Parse.{AllDigits, digits_value}, str_to_ascii_lowercase}}
+use Rattle.hex.{proofs.HexLemmas.{decode_of-digits, decode_of-even, decode_of-ok}}
+use Rattle.hex.specs.{declared.error.FromHexError.FromHexError}
+use Rattle.hex.specs.Hex.{◌>>=◌, decode_of, decode_pairs, digit_or_error, encode_lower, encode_with, hex_digit_value}
+use Rattle.hex.specs.Hex.{is_hex_digit, lower_digits, pair_value, value_at}
+use Rattle.net_plan.{proofs.Bearing.behind}
+use Rattle.net_plan.specs.{Bearers.{device_names, link_names}, Belonging.{device_name, link_name}}
+use Rattle.net_plan.specs.{NameText.{IsNameText, is_name_character}, Ranges.{IsDeviceInRange, IsInRange, IsLinkInRange}}
+use Rattle.net_plan.specs.declared.{ids.{DeviceId.DeviceId, LinkId.LinkId}, network.Network.Network}
+use Rattle.net_plan.specs.declared.{tables.Way.{TheVariants.{Down, Up}, Way}}
+use Rattle.trace_text.{proofs.WordsBack.{in_list, minus_some}}
+use Rattle.trace_text.specs.{EventWords.{event_word_spelled, event_word_text, event_words, way_spelled, way_text}}
+use Rattle.trace_text.specs.{Names.{device_id, device_spelled, first_place, link_id, link_spelled}}
+use Rattle.trace_text.specs.{Numbers.{fastest, latest, minus, number_up_to, ppb_of, rate_spelled, units_spelled}}
+use Rattle.trace_text.specs.{Steps.{Read, Words, next_word, with_rest}}
+use Rattle.trace_text.specs.{WordReading.{device, event_word, frame_of, link, octets, octets_spelled, rate, units, way}}
+use Rattle.trace_text.specs.declared.{refusal.LineRefusal.{LineRefusal, TheVariants.{Form, Hex, Name, Number, Octets}}}
+use Rattle.trace_text.specs.declared.event_word.EventWord.{EventWord}
+use Rattle.trace_text.specs.declared.event_word.EventWord.TheVariants
+use TheVariants.{Break, Cut, End, Heal, Hold, On, Rate, Send, Wire}
+use Rattle.tte_units.{proofs.general_lemmas.{Lists.found_passes, Options.mapped}}
+use Rattle.tte_units.{specs.{Amount.units_of, declared.{rates.Ppb.Ppb, units.Units.Units}}}
+
+-- ---- texts that are no frame's
+
+-- digits of either case, an even number of them
+abbrev pub IsHexadecimal : List ℕ → Type 0
+IsHexadecimal text = (length text % 2 ≡ 0) × AllPass is_hex_digit text
+
+miscounted : (octets : List ℕ) → (length octets < 60) ⊎ (1514 < length octets) → frame_of (Ok octets) ≡ Err Octets
+miscounted octets (inl few) = grind (arith, nat_tests)
+miscounted octets (inr many) = grind (arith, nat_tests)
+
+pub miscounted_digits : (text : List ℕ) → IsHexadecimal text → (length text / 2 < 60) ⊎ (1514 < length text / 2) → octets_spelled text ≡ Err Octets
+unfolding octets_spelled
+miscounted_digits text h count =
+    let d = decode_of-digits text h.0 h.1 in
+    let twice = (decode_of-ok text d.0 d.1).2 in
+    let half : length text / 2 ≡ length d.0 = omega arith in
+    ap frame_of d.1 ∙ miscounted d.0 (rw half at count)
+
+wrong_case : (text : List ℕ) (r : Result (List ℕ) FromHexError) → decode_of text ≡ r → ¬ (IsHexadecimal text) → frame_of r ≡ Err Hex
+wrong_case text (Ok octets) e wrong = let d = decode_of-ok text octets e in absurd (wrong (d.0, d.1))
+wrong_case text (Err fault) e wrong = refl
+
+pub wrong_digits : (text : List ℕ) → ¬ (IsHexadecimal text) → octets_spelled text ≡ Err Hex
+unfolding octets_spelled
+wrong_digits text wrong = wrong_case text (decode_of text) refl wrong
+
+-- ---- what words that are read spell, in lower case
 
 -- a text in lower case
 abbrev pub lower : List ℕ → List ℕ

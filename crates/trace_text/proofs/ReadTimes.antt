@@ -3,7 +3,8 @@ use Rattle.{net_plan.specs.declared.{event.{Event.Event, What.What}, network.Net
 use Rattle.std.proofs.{Common.{◌∷◌, ◌≡◌, ◌≤◌, Bool, List, None, Ok, Some, [], arith, cond, false, refl, true, ℕ}, lemmas.{Bool.{and_parts, leb-true}, Int.ints}}
 use Rattle.{std.specs.{Option.{ok_or, option_map}, Prelude.{◌&&◌, bytes_eq, decimal, nat_le}}, trace_text.specs.declared.refusal.LineRefusal.TheVariants.Number}
 use Rattle.std.specs.Str.Parse.{digits_value}
-use Rattle.trace_text.{proofs.ReadOfNetwork.{Gives, from_outcome, with_any, with_first}, specs.WordReading.{device, event_word, link, octets, rate, units, way}}
+use Rattle.trace_text.{proofs.WordsBack.{Gives, from_outcome, with_any, with_first}}
+use Rattle.trace_text.{specs.WordReading.{device, event_word, link, octets, rate, units, way}}
 use Rattle.trace_text.specs.{EventReading.{event_read, event_reader, what_behind}, Numbers.latest, Steps.{◌>>=◌, Words, give, line_end, with_rest, words}}
 use Rattle.trace_text.specs.{Ranges.IsTime, declared.event_word.EventWord.{EventWord, TheVariants.{Break, Cut, End, Heal, Hold, On, Rate, Send, Wire}}}
 use Rattle.net_plan.specs.declared.event.What.TheVariants as events

@@ -1,5 +1,7 @@
 -- When a text is the decimal of a number.
-use Rattle.{std.proofs.{Common.◌-◌, Math.Nat.pow-le-pow_right}, trace_text.proofs.Joining.decimal_is_word, tte_audit.specs.Spellings.first_word}
+use Rattle.std.proofs.{Common.◌-◌, Math.Nat.pow-le-pow_right}
+use Rattle.trace_text.proofs.Splitting.{decimal_is_word}
+use Rattle.tte_audit.specs.Spellings.{first_word}
 use Rattle.{std.proofs.lemmas.Fmt.{decimal-digits_value, decimal_injective}, tte_audit.proofs.Words.{length, nat_tests, refl, subst, sym, take, true, ℕ}}
 use Rattle.{std.{proofs.lemmas.Int.Digits.digits_value-lt, specs.Char.{digit_value, is_ascii_digit}}, trace_text.specs.Steps.{is_space, space, words}}
 use Rattle.std.proofs.lemmas.{List.{Splits.{slice_split_at, slice_split_none}, length-take-le}, Str.Parse.{IsNumeralModel, numerals_by_value, tells_digits}}

@@ -1,5 +1,6 @@
 -- An audit has one answer.
-use Rattle.audit_law.{proofs.law_lemmas.Sound.{fronts, full_of_run, none_unsound, one_unsound, sound_of_run}, specs.law.Findings.IsUnfoundedAt}
+use Rattle.audit_law.{proofs.law_lemmas.Sound.{fronts, full_of_run, none_unsound, one_unsound, sound_of_run}}
+use Rattle.audit_law.{specs.law.Findings.IsUnfoundedAt}
 use Rattle.tte_audit.{proofs.{Meet.{form_or_report, one_form, one_list}, Words.{scenario_of, subst, sym, ℕ}}, specs.Laws.{AnswerLaw, IsOfReport}}
 use Rattle.{tte_audit.{proofs.ReportRuns.audit_run, specs.Named.IsNamed}, tte_units.specs.Amount.units_of}
 use Rattle.tte_audit.proofs.Words.{◌++◌, ◌∙◌, ◌∷◌, ◌≡◌, ◌⊎◌, Any, AreEventsRight, End, EndWith, Event, IsDue, IsEventFault, IsRefusedBy, List, Network, Note}

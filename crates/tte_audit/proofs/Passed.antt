@@ -1,5 +1,6 @@
 -- What an audit passes.
-use Rattle.{audit_law.proofs.law_lemmas.Sound.run_exactly, tte_audit.{proofs.ReportRuns.{audit_run, run_of_audit}, specs.Laws.PassedLaw}}
+use Rattle.audit_law.proofs.law_lemmas.Sound.{run_exactly}
+use Rattle.tte_audit.{proofs.ReportRuns.{audit_run, run_of_audit}, specs.Laws.PassedLaw}
 use Rattle.run_law.specs.runs.Runs.{IsRun}
 use Rattle.tte_audit.proofs.{OneAnswer.same_of, Words.{IsDue, behind_time, happenings, place_of, refl, scenario_of, subst}}
 

@@ -1,6 +1,10 @@
 -- A report of a run is one by what is due in an audit.
-use Rattle.{audit_law.proofs.law_lemmas.SameRuns.same_runs, run_law.specs.runs.Runs.IsRun, tte_audit.specs.Named.IsNamed}
-use Rattle.tte_audit.proofs.{Clocked.clocked, Words.{AreEventsRight, IsDue, List, Network, Note, Units, amount, behind_time, happenings, place_of, scenario_of}}
+use Rattle.audit_law.proofs.law_lemmas.SameDue.{same_runs}
+use Rattle.run_law.specs.runs.Runs.{IsRun}
+use Rattle.tte_audit.{specs.Named.IsNamed}
+use Rattle.tte_audit.proofs.{RightEvents.clocked}
+use Rattle.tte_audit.proofs.Words.{AreEventsRight, IsDue, List, Network, Note, Units, amount, behind_time, happenings}
+use Rattle.tte_audit.proofs.Words.{place_of, scenario_of}
 use Rattle.run_law.specs.runs.DueRecords as runs
 
 module _ {network : Network} (ns : List Note) (time : Units) (named : IsNamed network)

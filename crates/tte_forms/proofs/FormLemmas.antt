@@ -1,10 +1,22 @@
--- The form of words by their count and their first, and the numbers of forms.
-use Rattle.{net_plan.specs.declared.tables.Way.Way, tte_forms.specs.Forms.{stamp_form, storm_form, two_files_form, vote_form, way_spelled, wire_form}}
-use Rattle.std.proofs.{Common.{◌∷◌, ◌≡◌, ◌≤◌, Bool, List, None, Some, [], arith, cond, false, length, refl, true, ℕ}, lemmas.{Bool.Decides.nat_tests, Int.ints}}
-use Rattle.{std.{proofs.lemmas.Bool.and_parts, specs.Str.Parse.digits_value}, trace_text.specs.Numbers.number_up_to, tte_units.specs.Amount.units_of}
-use Rattle.std.specs.{Option.{option_and_then, option_map}, Prelude.{◌&&◌, ◌==◌, IfSome, Option, bytes_eq, codes, decimal, if◌then◌else◌, nat_le, slice_get}}
-use Rattle.tte_forms.specs.Forms.{IsFormInRange, cycles_spelled, form_of, four_words_form, greatest_granule, if_some, most_cycles, one_file_form, seed_spelled}
-use Rattle.tte_forms.specs.declared.form.Form.{Form, TheVariants.{Audit, Capture, Check, Run, Show, Stamp, Storm, Vote, Wire}}
+-- The form of words by their count and their first, and the numbers that words spell.
+use Rattle.std.proofs.Common
+use Common.{◌<◌, ◌^◌, ◌∙◌, ◌∷◌, ◌≡◌, ◌≤◌, Bool, Err, List, None, Ok, Some, [], ap, arith, cond, false, length, refl}
+use Common.{sym, true, ℕ}
+use Rattle.std.proofs.lemmas.{Bool.{Decides.nat_tests, and_parts}, Fmt.{decimal_is_IsNumeral, parse-decimal}, Int.ints}
+use Rattle.std.specs.{Cmp.Lexicographic.bytes_decides, Option.{option_and_then, option_map}}
+use Rattle.std.specs.{Str.Parse.{ParsesUnsigned, digits_value}}
+use Rattle.std.specs.Prelude
+use Prelude.{if◌then◌else◌, ◌&&◌, ◌==◌, IfSome, Option, Result, bytes_eq, codes, decimal, nat_le, slice_get}
+use Rattle.net_plan.specs.declared.tables.Way.{Way}
+use Rattle.trace_text.specs.Numbers.{number_up_to}
+use Rattle.tte_forms.specs.Forms
+use Forms.{IsFormInRange, cycles_spelled, form_of, four_words_form, greatest_granule, if_some, most_cycles}
+use Forms.{one_file_form, seed_spelled, stamp_form, storm_form, two_files_form, vote_form, way_spelled, wire_form}
+use Rattle.tte_forms.specs.declared.form.Form.{Form}
+use Rattle.tte_forms.specs.declared.form.Form.{TheVariants.{Audit, Capture, Check, Run, Show, Stamp, Storm, Vote, Wire}}
+use Rattle.tte_units.specs.Amount.{units_of}
+
+-- ---- the form of words by their count and their first, and the numbers of forms
 
 pub no_words : (words : List (List ℕ)) → length words ≤ 0 → None ≡ form_of words
 unfolding form_of
@@ -149,3 +161,34 @@ form_in_range (command ∷ file ∷ third ∷ last ∷ []) =
 form_in_range (command ∷ file ∷ trace ∷ link ∷ way ∷ []) = wire_by (bytes_eq command (codes "wire")) link (way_spelled way)
 form_in_range (command ∷ file ∷ trace ∷ first ∷ second ∷ third ∷ []) = vote_by (bytes_eq command (codes "vote")) first second third
 form_in_range (command ∷ file ∷ other ∷ third ∷ fourth ∷ fifth ∷ sixth ∷ words) = tt
+
+-- ---- the decimals of numbers of 64 bits
+
+-- the decimal of a number is read as that number
+pub number_spelled : (most n : ℕ) (text : List ℕ) → n < 2 ^ 64 → n ≤ most → decimal n ≡ text → Some n ≡ number_up_to most text
+number_spelled most n text fits within spelled =
+    let value : digits_value 10 text ≡ n = rw spelled at (decimal_is_IsNumeral n fits).1 in
+    let same : bytes_eq text (decimal (digits_value 10 text)) ≡ true =
+    (bytes_decides text (decimal (digits_value 10 text))).1 (sym spelled ∙ ap decimal (sym value)) in
+    let few : nat_le (digits_value 10 text) most ≡ true = grind (arith, nat_tests) in
+    rw (same, few, value) refl
+
+none_by : (most : ℕ) (text : List ℕ) (b : Bool) → (bytes_eq text (decimal (digits_value 10 text)) && nat_le (digits_value 10 text) most) ≡ b
+    → ((n : ℕ) → n ≤ most → text ≡ decimal n → ⊥) → None ≡ cond b (Some (digits_value 10 text)) None
+none_by most text false e other = refl
+none_by most text true e other =
+    let n = digits_value 10 text in
+    let parts = and_parts (bytes_eq text (decimal n)) (nat_le n most) e in
+    absurd (other n (grind (arith, nat_tests, parts.1)) ((bytes_decides text (decimal n)).0 parts.0))
+
+-- a text that is the decimal of no such number is not read
+pub none_spelled : (most : ℕ) (text : List ℕ) → ((n : ℕ) → n ≤ most → text ≡ decimal n → ⊥) → None ≡ number_up_to most text
+none_spelled most text other = none_by most text (bytes_eq text (decimal (digits_value 10 text)) && nat_le (digits_value 10 text) most) refl other
+
+-- what was parsed is the number whose decimal the text is
+pub parsed_one : {E : Type 0} (n m : ℕ) (text : List ℕ) (r : Result ℕ E) → n < 2 ^ 64 → text ≡ decimal n → ParsesUnsigned 64 10 text r → r ≡ Ok m → n ≡ m
+parsed_one n m text r fits is h e = let here = parse-decimal 64 n text r fits fits is h in cc
+
+pub parsed_none : {E : Type 0} (n : ℕ) (text : List ℕ) (r : Result ℕ E) (error : E) → n < 2 ^ 64 → text ≡ decimal n → ParsesUnsigned 64 10 text r
+    → r ≡ Err error → ⊥
+parsed_none n text r error fits is h e = let here = parse-decimal 64 n text r fits fits is h in cc

@@ -1,10 +1,6 @@
 pub mod Taken
 pub mod Passing
 pub mod Ranges
-pub mod LongLines
+pub mod LineReading
 pub mod Sizes
 pub mod Spelling
-pub mod Making
-pub mod FirstLine
-pub mod Coming
-pub mod InOrder

@@ -15,7 +15,7 @@ use Rattle.tte_observers.specs.stamps.{Answer.{IsStampAnswer, granule_answer}, S
 use Rattle.tte_observers.specs.stamps.granules.Granules.{least_granule}
 use Rattle.tte_observers.specs.votes.Answer.{AreNamed, IsFirstUnknown, IsVoteAnswer, MayThey, Names, name_line}
 use Rattle.tte_observers.specs.votes.{Answer.vote_refused, VoteLines.vote_lines, law.Voting.are_matches}
-use Rattle.tte_traces.{proofs.Existing.trace_answers_exist, specs.{Answer.IsTraceAnswer, FaultLine.fault_status}}
+use Rattle.tte_traces.{proofs.Runs.trace_answers_exist, specs.{Answer.IsTraceAnswer, FaultLine.fault_status}}
 use Rattle.tte_units.proofs.general_lemmas.{Lists.differ, Options.mapped}
 use Rattle.tte_units.specs.{Amount.amount, declared.units.Units.Units}
 

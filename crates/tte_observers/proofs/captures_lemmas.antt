@@ -1,5 +1,4 @@
 pub mod pcap_lemmas
 pub mod Packets
-pub mod Files
 pub mod Laws
 pub mod wires_lemmas

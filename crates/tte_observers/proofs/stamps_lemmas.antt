@@ -1,13 +1,10 @@
 pub mod granules_lemmas
 pub mod SameRecords
-pub mod SameStamps
+pub mod LineStamps
 pub mod Staying
 pub mod Ordered
-pub mod OneStamp
-pub mod Beginning
 pub mod Stamped
 pub mod EventLines
-pub mod Along
 pub mod Telling
 pub mod Safely
 pub mod Ends

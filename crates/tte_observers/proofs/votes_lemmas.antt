@@ -1,12 +1,8 @@
 pub mod tmr_lemmas
 pub mod law_lemmas
 pub mod ballots_lemmas
-pub mod Places
-pub mod Loops
-pub mod Told
-pub mod Outvoted
+pub mod VoteLines
 pub mod Along
-pub mod Ended
 pub mod Safely
 pub mod Ends
 pub mod Completes

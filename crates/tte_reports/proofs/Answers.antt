@@ -2,7 +2,8 @@
 use Rattle.{net_plan.specs.Ranges.IsInRange, std.proofs.Common.{◌<◌, ◌∙◌, ◌≡◌, ◌≤◌, ◌⊎◌, Err, List, Ok, Result, inl, inr, length, refl, subst, sym, ℕ}}
 use Rattle.{net_plan.specs.declared.network.Network.Network, schedule_tables.specs.declared.rule.Rule.TheVariants.{DevicesDiffer, LinksDiffer, VlNamesDiffer}}
 use Rattle.tte_forms.specs.{Answering.{Answer, Gives, GivesAnswer}, declared.status.Status.Status}
-use Rattle.{schedule_tables.specs.Rules.KeepsRules, tte_forms.{proofs.OneAnswers.unput_answer, specs.Putting.{PutsNone, Shown}}}
+use Rattle.schedule_tables.specs.Rules.{KeepsRules}
+use Rattle.tte_forms.{proofs.Puts.unput_answer, specs.Putting.{PutsNone, Shown}}
 use Rattle.tte_audit.specs.Named.{IsNamed}
 use Rattle.{tte_audit.specs.declared.refusal.AuditRefusal.AuditRefusal, tte_forms.specs.declared.status.Status.TheVariants.{AuditRefused, Done, WriteFault}}
 use Rattle.tte_forms.specs.{declared.accepting.NoNetwork.NoNetwork, networks.{Accepting.too_long_answer, NoNetworks.no_network_answer}}

@@ -1,9 +1,4 @@
 pub mod Answers
 pub mod Sources
-pub mod Under
-pub mod Safely
 pub mod Reports
-pub mod RecordLines
-pub mod Folded
 pub mod Placed
-pub mod Times

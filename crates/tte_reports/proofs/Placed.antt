@@ -4,8 +4,10 @@ use Rattle.std.proofs.Common.{◌++◌, ◌+◌, ◌-◌, ◌<◌, ◌∙◌, �
 use Rattle.{std.proofs.Common.{length-append, refl, subst, sym, ℕ}, std.specs.Prelude.{MatchOption, drop, get_or, position, slice_get, suc, take, zero}}
 use Rattle.{std.proofs.Math.Seq.drop-append_seam, std.proofs.lemmas.List.{append-nil, length-drop, take-append-drop}}
 use Rattle.std.proofs.lemmas.Option.{slice_get_past, slice_get_read}
-use Rattle.{tte_audit.proofs.Parts.{record_at, text_at}, tte_units.proofs.general_lemmas.Lists.pushed}
-use Rattle.tte_reports.{proofs.RecordLines.{FirstThen, first_then, line_then, none_left}, specs.{Places.{ArePlaces, BeginsAt, note_at}, Reports.AreLines}}
+use Rattle.tte_audit.proofs.ReportText.{record_at, text_at}
+use Rattle.tte_reports.{proofs.Reports.{FirstThen, first_then, line_then, none_left}}
+use Rattle.tte_reports.{specs.{Places.{ArePlaces, BeginsAt, note_at}, Reports.AreLines}}
+use Rattle.tte_units.proofs.general_lemmas.Lists.{pushed}
 
 -- behind the first LF the lines of the other records begin
 line_behind : {network : Network} {octets : List ℕ} (notes : List Note) (i : ℕ) → IsNamed network

@@ -1,2 +1,1 @@
-pub mod TopAnswers
-pub mod WireAnswers
+pub mod Answers

@@ -1,5 +1,6 @@
 -- The observer of a report puts its lines along the run.
-use Rattle.tte_traces.{proofs.{Fronts.{answer_begins, ended_begins, next_begins}, Words.{report_of, subst, sym, ℕ}}, specs.Report.{PutsReport, StopsReport}}
+use Rattle.tte_traces.{proofs.{Runs.{answer_begins, ended_begins, next_begins}, Words.{report_of, subst, sym, ℕ}}}
+use Rattle.tte_traces.{specs.Report.{PutsReport, StopsReport}}
 use Rattle.tte_traces.proofs.Words.{AreAdmitted, Event, IsFrontOf, IsTraceAnswer, List, Network, None, Note, Option, Some, inl, inr, refl, report_lines}
 use Rattle.{tte_traces.specs.Along.{IsShortAt, PutsAlong}, world_drive.specs.Observing.{Sees, Stops}}
 

@@ -1,6 +1,7 @@
 -- The answers for a network under the octets of a trace: for each kind of lines there is one.
 use Rattle.{run_law.proofs.runs.NetworkRuns.run_is_one, world_drive.proofs.exact_lemmas.Events.ended_at}
-use Rattle.tte_traces.proofs.{Admitted.{IsStopped, admitted_in_order, stopped_one}, Faults.{end_has_no_fault, fault_one, fault_stops}}
+use Rattle.tte_traces.proofs.Admitted.{IsStopped, admitted_in_order, end_has_no_fault, fault_one, fault_stops}
+use Rattle.tte_traces.proofs.Admitted.{stopped_one}
 use Rattle.tte_traces.proofs.Words.{◌++◌, ◌+◌, ◌∙◌, ◌∷◌, ◌≡◌, ◌⊎◌, Answer, AnswersAll, AnswersFault, AreAdmitted, AreAllRecords, AreRecordsBefore}
 use Rattle.tte_traces.proofs.Words.{AreRecordsSoFar, Done, EndsAt, Event, IsFault, IsTraceAnswer, LinesOf, List, Network, Note, TraceFault, Units, [], amount}
 use Rattle.tte_traces.proofs.Words.{ap, behind_events, behind_lines, clock_reading, fault_lines, fault_status, inl, inr, last_time, length, subst, sym, ℕ}

@@ -1,19 +1,93 @@
--- How a run under a trace ends, by how its drive did.
-use Rattle.{std.proofs.KnownBytes.Appends-trans, tte_forms.{proofs.Puts.PutsLines-still, specs.{Answering.Ends, Faults.HasCause, Putting.StopsWriting}}}
-use Rattle.{tte_forms.specs.declared.status.Status.TheVariants.{OutOfMemory, ReadFault, WriteFault}, world_drive.specs.declared.observing.Cut.Cut}
-use Rattle.tte_traces.{proofs.{Admitted.events_admitted, Streams.{for_trace, writes_answer, writes_none, writes_nothing}}, specs.Report.{StopsLines, shown_as}}
-use Rattle.{tte_traces.{proofs.Answers.IsAllAdmitted, specs.Along.{IsShortAt, PutsAlong}}, world_drive.specs.exact.Worlds.ExactWorld}
-use Rattle.{tte_traces.proofs.Given.{faulty_given, front_failed, front_given, whole_failed, whole_given}, world_drive.proofs.exact_lemmas.Given.if_some}
-use Rattle.tte_traces.proofs.{Taken.gave_some, Words.{behind_lines, fault_answer, fault_status, for_more, inl, inr, length, pending, refl, shown_by, subst, ℕ}}
-use Rattle.tte_traces.proofs.Words.{◌++◌, ◌+◌, ◌∙◌, ◌∷◌, ◌≡◌, ◌⊎◌, Answer, AreAdmitted, AreRecordsSoFar, Done, Err, Event, ForOctets, GaveEvents, Gives}
-use Rattle.tte_traces.proofs.Words.{GivesOne, IsFault, IsFrontOf, IsTraceAnswer, LinesOf, List, Missing, Network, None, Note, Option}
-use Rattle.tte_traces.proofs.Words.{PutsLines, ReadsOn, Rose, RunEnds, Shown, Some, Status, TakesFew, Trace, TraceFault, TraceStop, [], ap}
-use Rattle.tte_traces.specs.{Streaming.{ForTrace, StopsBehindLines, TakesLittle, WritesSome}, Taking.{EndedBehind, IsStopAt, StoppedBehind, TakesFewFrom}}
-use Rattle.world_drive.specs.{Driving.{DrivesAll, DrivesCut, DrivesSoFar, HasSeenSoFar, IsCutAt}, Observing.{Sees, Stops, Told, told_by}}
+-- How a run under a trace ends: what it has written and taken of its source, and its answer.
+use Rattle.std.{proofs.KnownBytes.{Appends-nil, Appends-trans}, specs.{Io.KnownBytes.Appends, List.concat}}
+use Rattle.tte_forms.{proofs.{Octets.for_all, Puts.{PutsLines-none, PutsLines-still, none_put, one_of}}}
+use Rattle.tte_forms.specs.{Answering.{Ends, GivesAnswer}, Faults.HasCause}
+use Rattle.tte_forms.specs.{Putting.{PutsNone, StopsWriting, WriteFails}}
+use Rattle.tte_forms.specs.{declared.status.Status.TheVariants.{OutOfMemory, ReadFault, WriteFault}}
+use Rattle.tte_io.specs.Line.{behind_line, lf}
+use Rattle.tte_traces.proofs.{Admitted.{admitted_none, events_admitted}, Answers.IsAllAdmitted}
+use Rattle.tte_traces.proofs.{Given.{faulty_given, front_failed, front_given, whole_failed, whole_given}}
+use Rattle.tte_traces.proofs.{Taken.gave_some}
+use Rattle.tte_traces.proofs.Words
+use Words.{if◌then◌else◌, ◌++◌, ◌+◌, ◌==◌, ◌∙◌, ◌∷◌, ◌≡◌, ◌≤◌, ◌⊎◌, Answer, AreAdmitted, AreRecordsSoFar, Bool, Done}
+use Words.{Err, Event, ForOctets, GaveEvents, Gives, GivesOne, IsFault, IsFrontOf, IsTraceAnswer, LinesOf, List}
+use Words.{Missing, Network, None, Note, Option, PutFails, PutsLines, ReadsOn, Rose, RunEnds, Shown, Some, Status}
+use Words.{TakesFew, Trace, TraceFault, TraceStop, [], ap, arith, behind_lines, false, fault_answer, fault_status}
+use Words.{for_more, inl, inr, length, pending, refl, shown_by, subst, suc, sym, true, ℕ}
+use Rattle.tte_traces.specs.{Along.{IsShortAt, PutsAlong}, Report.{StopsLines, shown_as}}
+use Rattle.tte_traces.specs.{Streaming.{ForTrace, StopsBehindLines, TakesLittle, WritesSome}}
+use Rattle.tte_traces.specs.{Taking.{EndedBehind, IsStopAt, StoppedBehind, TakesFewFrom}}
+use Rattle.world_drive.{proofs.{Earlier.records_none, exact_lemmas.Given.if_some}}
+use Rattle.world_drive.specs.{Driving.{DrivesAll, DrivesCut, DrivesSoFar, HasSeenSoFar, IsCutAt}}
+use Rattle.world_drive.specs.{Observing.{Sees, Stops, Told, told_by}, declared.observing.Cut.Cut}
+use Rattle.world_drive.specs.{exact.Worlds.ExactWorld}
 use Rattle.tte_io.specs.declared.ends.Sink as sinks
 use Rattle.tte_io.specs.declared.ends.Source as sources
 use Rattle.tte_traces.specs.declared.fault.TraceStop.TheVariants as ends
 use Rattle.world_drive.specs.declared.observing.Cut.TheVariants as cuts
+
+-- ---- what a run has written, and what it has taken of its trace by then
+
+-- ---- what was written grew
+
+writes_nothing : (s : Shown) → WritesSome s s
+writes_nothing s = ([], Appends-nil s.written)
+
+writes_none : (old new : Shown) → PutsNone old new → WritesSome old new
+writes_none old new none = ([], subst (λ w. Appends old.written w []) (sym none.0) (Appends-nil old.written))
+
+pub writes_lines : {lines : List (List ℕ)} {old new : Shown} → PutsLines lines old new → WritesSome old new
+writes_lines {lines} p = (concat lines, p.written)
+
+pub writes_fails : {lines : List (List ℕ)} {old new : Shown} → PutFails lines old new → WritesSome old new
+writes_fails {old} {new} p =
+    (concat p.done ++ p.front.0, Appends-trans old.written p.before.written new.written (concat p.done) p.front.0 p.puts.written p.front.3)
+
+writes_failing : {lines : List (List ℕ)} {old new : Shown} → WriteFails lines old new → WritesSome old new
+writes_failing (inl f) = writes_fails f
+writes_failing (inr p) = writes_lines p.puts
+
+pub writes_answer : (a : Answer) (status : Status) {old new : Shown} → Gives a status old new → WritesSome old new
+writes_answer a status (inl g) = writes_lines g.1
+writes_answer a status (inr (inl g)) = writes_failing g.1
+writes_answer a status (inr (inr g)) = writes_lines g.1.puts
+
+-- ---- what was taken
+
+-- what holds where a trace is told
+for_trace : (first after : Option (List ℕ)) (P : List ℕ → List ℕ → Type 0)
+    → ((octets : List ℕ) → first ≡ Some octets → (rest : List ℕ) × (after ≡ Some rest) × P octets rest) → ForTrace first after P
+for_trace None after P h = tt {0}
+for_trace (Some octets) after P h = let at = h octets refl in subst (λ a. ForTrace (Some octets) a P) (sym at.1) at.2
+
+-- where no call was made, nothing was taken
+length-behind_line : (octets : List ℕ) → length (behind_line octets) ≤ length octets
+length-behind_line [] = omega arith
+length-behind_line (octet ∷ octets) = shorter (octet == lf) (length-behind_line octets)
+  where
+    shorter : (ends : Bool) → length (behind_line octets) ≤ length octets → length (if ends then octets else behind_line octets) ≤ suc (length octets)
+    shorter true less = omega arith
+    shorter false less = omega (arith, less)
+
+untouched : (lines : LinesOf) (network : Network) (left : Option (List ℕ)) (old new : Shown) → lines network [] [] ≡ [] → WritesSome old new
+    → ForTrace left left (λ octets rest. TakesLittle lines network octets rest old new)
+untouched lines network left old new none more =
+    for_trace left left (λ octets rest. TakesLittle lines network octets rest old new) (λ octets told. (
+      octets,
+      told,
+      record {
+        events = [];
+        admitted = admitted_none network octets;
+        notes = [];
+        records = records_none network;
+        between = old;
+        puts = subst (λ ls. PutsLines ls old old) (sym none) (PutsLines-none old);
+        more = more;
+        few = omega (arith, length-behind_line octets);
+      },
+    ))
+
+-- ---- how a run under a trace ends, by how its drive did
 
 -- little was taken of the trace
 abbrev pub Little : LinesOf → Network → Option (List ℕ) → Option (List ℕ) → Shown → Shown → Type 0
@@ -333,3 +407,23 @@ module _ {B K O : Type 0} (source : sources.Ghosts B) (sink : sinks.Ghosts K) (b
             (shown_by sink new)
             (writes_answer (fault_answer line fault) status gives);
       }
+
+-- ---- the answer of a command over a trace for its source
+
+-- where there is no memory for a run, nothing was put, whatever the answers are
+pub no_memory : (Is : List ℕ → Answer → Type 0) (lines : LinesOf) (network : Network) (left : Option (List ℕ)) (s : Shown) → lines network [] [] ≡ []
+    → RunEnds Is lines network left left OutOfMemory s s
+no_memory Is lines network left s none = record {
+  general = for_all left (λ trace. GivesOne (Is trace) OutOfMemory s s) (λ trace. inr (inr (inr refl, λ a is. none_put a.lines s s (PutsLines-none s))));
+  cut = λ is. absurd cc;
+  little = untouched lines network left s s none (writes_nothing s);
+}
+
+-- where there is an answer for each trace, it was given
+
+pub trace_given : (Is : List ℕ → Answer → Type 0) (second : Option (List ℕ)) (status : Status) (old new : Shown)
+    → ((trace : List ℕ) → (a : Answer) × Is trace a)
+    → ForOctets second (λ trace. GivesOne (Is trace) status old new) → ForOctets second (λ trace. GivesAnswer (Is trace) status old new)
+trace_given Is second status old new there g =
+    for_more second (λ trace. GivesOne (Is trace) status old new) (λ trace. GivesAnswer (Is trace) status old new)
+    (λ trace h. inl (one_of (Is trace) status old new (there trace) h)) g

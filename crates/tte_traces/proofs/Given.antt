@@ -1,6 +1,7 @@
 -- What was put of the answers for a network under the octets of a trace: a front of each, where it was cut short; or the
 -- whole one, behind the end or at a fault of the trace.
-use Rattle.tte_forms.{proofs.{OneAnswers.one_given, Puts.PutFails-more, frames.Frames.Gives-behind}, specs.Putting.{IsPassedOn, StopsWriting}}
+use Rattle.tte_forms.{proofs.{Puts.{PutFails-more, one_given}, frames.Frames.Gives-behind}}
+use Rattle.tte_forms.{specs.Putting.{IsPassedOn, StopsWriting}}
 use Rattle.{tte_forms.specs.declared.status.Status.TheVariants.{OutOfMemory, ReadFault, WriteFault}, tte_traces.proofs.Words.{inr, length, refl, subst, sym, ℕ}}
 use Rattle.tte_traces.proofs.Answers.{IsAllAdmitted, IsFaultBehind, all_is_whole, faulty_answer, faulty_is, whole_is}
 use Rattle.tte_traces.proofs.Words.{◌+◌, ◌∙◌, ◌≡◌, ◌⊎◌, Answer, AreAllRecords, AreRecordsSoFar, Done, Event, Gives, GivesOne, IsFrontOf, IsTraceAnswer, LinesOf}

@@ -1,6 +1,9 @@
 -- The lines of a report put one after another.
-use Rattle.{report_text.specs.NoteLine.note_line, std.specs.Prelude.{IfErr, MatchResult, OnErr, OnOk}, tte_forms.proofs.Puts.{PutsLines-fails, PutsLines-more}}
-use Rattle.{std.proofs.lemmas.List.map-append, tte_io.specs.declared.ends.Sink.Ghosts, tte_traces.proofs.{OwnNotes.note_of, Words.{report_of, subst, sym}}}
+use Rattle.std.{proofs.lemmas.List.map-append, specs.Prelude.{IfErr, MatchResult, OnErr, OnOk}}
+use Rattle.report_text.specs.NoteLine.{note_line}
+use Rattle.tte_forms.proofs.Puts.{PutsLines-fails, PutsLines-more}
+use Rattle.tte_io.specs.declared.ends.Sink.{Ghosts}
+use Rattle.tte_traces.proofs.{Runs.note_of, Words.{report_of, subst, sym}}
 use Rattle.{std.specs.Io.KnownBytes.Appends, tte_io.specs.{Faults.next_count, Told.AppendsFront}}
 use Rattle.tte_traces.proofs.Words.{◌++◌, ◌∷◌, ◌≡◌, Err, Event, IsNoteOf, List, Network, Note, Ok, PutFails, PutsLines, Result, Rose, [], inl}
 use Rattle.{tte_traces.specs.Report.{PutsReport, StopsReport, shown_as}, world_drive.specs.declared.observing.Cut.{Cut, TheVariants.{OutOfMemory, WriteFault}}}

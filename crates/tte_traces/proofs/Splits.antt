@@ -1,7 +1,11 @@
 -- A trace is admitted line by line, up to its end or to a fault.
-use Rattle.{precision_law.proofs.traffic_lemmas.existence_lemmas.decisions.Events.is_end, tte_traces.proofs.Words.{length, length-append, refl, suc, zero, ℕ}}
-use Rattle.{run_law.proofs.scenario.{Decided.hypothesis_is_decided, Decisions.{IsDecided, decided_any}}, tte_traces.proofs.Following.more_admitted}
-use Rattle.{std.proofs.lemmas.Bool.cases_lt, tte_io.specs.Line.line_limit, tte_traces.{proofs.Admitted.admitted_none, specs.Lines.{HasEvent, IsOpen}}}
+use Rattle.std.proofs.lemmas.Bool.{cases_lt}
+use Rattle.precision_law.proofs.traffic_lemmas.existence_lemmas.decisions.Changes.{is_end}
+use Rattle.run_law.proofs.scenario.{Decided.hypothesis_is_decided, Decisions.{IsDecided, decided_any}}
+use Rattle.tte_io.specs.Line.{line_limit}
+use Rattle.tte_traces.{specs.Lines.{HasEvent, IsOpen}}
+use Rattle.tte_traces.proofs.{Admitted.{admitted_none, more_admitted}}
+use Rattle.tte_traces.proofs.{Words.{length, length-append, refl, suc, zero, ℕ}}
 use Rattle.tte_traces.proofs.Words.{◌++◌, ◌+◌, ◌^◌, ◌∷◌, ◌≡◌, ◌≢◌, ◌≤◌, ◌⊎◌, After, AreAdmitted, End, Err, Event, HaveEnded, IsAdmitted, IsFault, Line, List}
 use Rattle.tte_traces.proofs.Words.{Long, Missing, Network, Ok, Outlaw, Read, TooMany, TraceFault, [], arith, behind_lines, event_read, first_line, inl, inr}
 

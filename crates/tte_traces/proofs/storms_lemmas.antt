@@ -1,12 +1,5 @@
 pub mod summary_lemmas
 pub mod Ends
-pub mod OneAnswer
-pub mod Lasting
-pub mod Locals
-pub mod Seen
-pub mod Drawn
 pub mod Summed
-pub mod Safely
-pub mod Most
-pub mod Widest
-pub mod Existing
+pub mod Locals
+pub mod Drawn

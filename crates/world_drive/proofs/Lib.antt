@@ -1,12 +1,6 @@
 pub mod machines_lemmas
 pub mod exact_lemmas
 pub mod devices_lemmas
-pub mod Placed
-pub mod Order
 pub mod Earlier
-pub mod Ways
-pub mod More
-pub mod Instants
-pub mod Meeting
-pub mod Ending
+pub mod Driving
 pub mod Words

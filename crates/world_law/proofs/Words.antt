@@ -13,7 +13,7 @@ pub use Rattle.net_plan.specs.{Places.{device_at, link_at}, Ranges.IsInRange}
 pub use Rattle.net_plan.specs.declared.{event.{Event.Event, What.{What, TheVariants.Send}}, ids.{DeviceId.DeviceId, LinkId.LinkId, RowId.RowId, VlId.VlId}}
 pub use Rattle.net_plan.specs.declared.{network.Network.Network, tables.{Device.Device, Link.Link, Row.Row, Way.{Way, TheVariants.{Down, Up}}}}
 pub use Rattle.tte_units.specs.declared.frames.pcf.Pcf.{Pcf}
-pub use Rattle.run_law.proofs.law.{FirstDeliveries.last_in, FirstPlaces.{by_number, founded_at, in_filter, in_front, numbered_within}}
+pub use Rattle.run_law.proofs.law.FirstDeliveries.{by_number, founded_at, in_filter, in_front, last_in, numbered_within}
 pub use Rattle.run_law.proofs.records.Order.{same_kept}
 pub use Rattle.run_law.proofs.runs.Places.{before_behind, before_later, before_next_time, before_or_not, chain, either_way, in_left, in_parts, in_right}
 pub use Rattle.run_law.proofs.runs.Places.{never_self, parted}

@@ -1,5 +1,3 @@
 -- What a device does at one moment comes in its order, and is bounded.
 pub mod Growing
-pub mod Spans
-pub mod FewRows
-pub mod Acts
+pub mod FewActs

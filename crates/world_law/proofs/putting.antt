@@ -6,11 +6,4 @@ pub mod PutIn
 pub mod Moving
 pub mod Putting
 pub mod Near
-pub mod NearPut
-pub mod Numbering
 pub mod Placing
-pub mod PutOne
-pub mod Bearing
-pub mod PutShown
-pub mod PutTwo
-pub mod StandsOn

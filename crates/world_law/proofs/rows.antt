@@ -1,5 +1,3 @@
 -- What a device took by the records, and what it dispatches.
-pub mod Entered
-pub mod Reached
 pub mod AtHand
 pub mod Dispatching

@@ -4,7 +4,9 @@ use Rattle.std.proofs.lemmas.{Bool.{both_ways, cases_lt}, List.Sorted.IsPermutat
 use Rattle.std.specs.{List.Sorted.IsPermutation, Prelude.{◌↔◌, IsSomeAnd, false, true}}
 use Rattle.net_plan.{proofs.SameIds.link_is, specs.declared.{ids.{DeviceId.DeviceId, LinkId.LinkId}, network.Network.Network, tables.Link.Link}}
 use Rattle.run_law.specs.{control.Leaving.Gives, declared.note.NoteBody.NoteBody, records.Order.IsIn}
-use Rattle.world_state.{proofs.queue_lemmas.Bags.in_permuted, specs.{declared.{giving.{Directions.Directions, Giving.Giving}, queue.Entry.Entry}, queue.Places.numbers_of}}
+use Rattle.world_state.{proofs.queue_lemmas.Slots.in_permuted}
+use Rattle.world_state.specs.{declared.{giving.{Directions.Directions, Giving.Giving}, queue.Entry.Entry}}
+use Rattle.world_state.specs.{queue.Places.numbers_of}
 use Rattle.world_state.specs.{Giving.{ArePutTo, IsGivenBy, entry_at_port, place_at_port}, declared.contents.{Content.Content, WayState.WayState}}
 use Rattle.world_state.specs.Sound.{AreBelow}
 

@@ -1,14 +1,250 @@
--- Queues of devices: one more frame in one, the first taken out, and the first of those that wait at a device.
-use Rattle.{net_plan.specs.declared.ids.DeviceId.DeviceId, world_state.specs.{Ripening.{IsReached, ripe_numbers}, declared.queue.Entry.Entry}}
-use Rattle.{run_law.proofs.records.Members.{from_map, in_map as is_mapped}, world_state.specs.queue.Places.{IsFirst, first_entry, numbers_of}}
-use Rattle.{run_law.proofs.runs.Places.{in_left, in_parts, in_right}, std.specs.{List.Sorted.IsPermutation, Prelude.{IfSome, MatchOption, if◌then◌else◌}}}
-use Rattle.{run_law.specs.records.Order.{IsBefore, IsIn}, std.proofs.lemmas.{Bool.{both_ways, cases_lt}, Int.ints, Option.slice_get_within}}
-use Rattle.std.proofs.Common.{◌++◌, ◌<◌, ◌∙◌, ◌∷◌, ◌≡◌, Bool, List, None, Option, Some, [], ap, arith, false, inl, inr, is_some, length, map, not}
-use Rattle.std.{proofs.Common.{refl, slice_get, slice_set, subst, suc, sym, true, zero, ℕ}, specs.Option.{option_and_then, option_map, option_map_or}}
-use Rattle.std.proofs.lemmas.List.Sorted.{IsPermutation-append_left, IsPermutation-append_right, IsPermutation-middle, IsPermutation-sym, IsPermutation-trans}
-use Rattle.{world_law.proofs.giving.GivenParts.some_same, world_state.specs.{Timing.IsLeastPoint, queue.Queues.Queue}}
-use Rattle.world_state.proofs.Swaps.{push_cases, set_cases}
-use Rattle.world_state.specs.{Frames.{AreQueued, IsFirstAt, IsQueued, NoneAt, first_frame, frames_in, frames_of, queue_place}, declared.contents.Waits.Waits}
+-- What is under way in queues of devices, on wires and at ports, as frames are put in and taken out.
+use Rattle.std.proofs.Common
+use Common.{◌++◌, ◌+◌, ◌<◌, ◌==◌, ◌∙◌, ◌∷◌, ◌≡◌, ◌≤◌, ◌⊎◌, Bool, List, None, Option, Some, [], ap, arith, false, filter}
+use Common.{get_or, inl, inr, is_some, length, map, not, refl, slice_get, slice_set, subst, suc, sym, true, zero, ℕ}
+use Rattle.std.proofs.lemmas.{Bool.{both_ways, cases_lt, eq-eqb, false_from_ne_true, ne_eqb}, Cmp.nat_list_eq_equiv}
+use Rattle.std.proofs.lemmas.{Int.ints}
+use Rattle.std.proofs.lemmas.{Map.Keys.{IsDistinct-IsPermutation, IsDistinct-cons, IsDistinct-head, IsDistinct-tail}}
+use Rattle.std.proofs.lemmas.{Option.{same_Some, slice_get_within}, Slice.Eq.bytes_eq-Decides}
+use Rattle.std.proofs.lemmas.List.{Elements.filter-append}
+use Rattle.std.proofs.lemmas.List.Sorted
+use Sorted.{IsPermutation-append_left, IsPermutation-append_right, IsPermutation-map, IsPermutation-middle}
+use Sorted.{IsPermutation-sym, IsPermutation-trans}
+use Rattle.std.specs.{List.{AllByRecursion, IsDistinct, Sorted.IsPermutation, filter_map}}
+use Rattle.std.specs.{Option.{option_and_then, option_map, option_map_or}}
+use Rattle.std.specs.{Prelude.{if◌then◌else◌, ◌↔◌, IfNone, IfSome, MatchOption}, Str.bytes_eq}
+use Rattle.net_plan.specs.declared.{ids.DeviceId.DeviceId, network.Network.Network}
+use Rattle.run_law.proofs.{records.{Members.{from_map, in_map as is_mapped}, Order.{given_of, is_given}}}
+use Rattle.run_law.proofs.{runs.Places.{either_way, in_left, in_parts, in_right}}
+use Rattle.run_law.specs.{declared.note.NoteBody.NoteBody, records.{Happenings.Happening, Order.{IsBefore, IsIn}}}
+use Rattle.run_law.specs.{scenario.Scenarios.Scenario}
+use Rattle.tte_units.proofs.general_lemmas.Lists.{differ, set_aside, set_same as set_there}
+use Rattle.world_law.{proofs.giving.GivenParts.some_same}
+use Rattle.world_law.specs.world.{Calls.IsSet, Moves.{AreGiven, ArePut, IsWithout}}
+use Rattle.world_law.specs.world.{World.{AtPort, OnWire, port_place, wire_place}}
+use Rattle.world_state.{proofs.queue_lemmas.Slots.in_permuted}
+use Rattle.world_state.specs.{Giving.{ArePutTo, IsPutOn}, Ripening.{IsReached, ripe_numbers}}
+use Rattle.world_state.specs.{Sound.{AreUnderWay, rank_of}, Timing.IsLeastPoint}
+use Rattle.world_state.specs.{Views.{at_port, on_wire, port_at, wire_at}}
+use Rattle.world_state.specs.{queue.{Places.{IsFirst, first_entry, numbers_of}, Queues.Queue}}
+use Rattle.world_state.specs.Frames
+use Frames.{AreQueued, IsFirstAt, IsQueued, NoneAt, first_frame, frames_in, frames_of, queue_place}
+use Rattle.world_state.specs.declared.{giving.Giving.Giving, queue.{DueAt.DueAt, Entry.Entry}}
+use Rattle.world_state.specs.declared.contents.{Content.{Content, TheVariants.{Port, Wire}}, Waits.Waits}
+use Rattle.world_state.specs.declared.contents.{WayState.WayState}
+
+-- ---- what is put to ports leaves the wires as they are, and what is put on a wire the ports
+
+-- the wires after a frame is put to ports
+pub wires_kept : (n : ℕ) (network other : Network) (ups downs : List WayState) (body : NoteBody) (giving : Option Giving) (old new : List (Entry Content))
+    → IfSome giving (λ g. ArePutTo n network ups downs body g old new) → IfNone giving (new ≡ old)
+    → (y : OnWire) → IsIn y (filter_map (on_wire other) new) ↔ IsIn y (filter_map (on_wire other) old)
+wires_kept n network other ups downs body None old new put none y = grind arith
+wires_kept n network other ups downs body (Some g) old new put none y = (
+  λ there.
+      let of = given_of (on_wire other) new y there in
+      elim (put.real of.0 of.1) [
+        | inl before ↦ is_given (on_wire other) old of.0 y before of.2
+        | inr to ↦ absurd cc
+      ],
+  λ there. let of = given_of (on_wire other) old y there in is_given (on_wire other) new of.0 y (put.kept of.0 of.1) of.2,
+)
+
+-- the ports after something is put on a wire
+pub ports_kept : (e : Option (Entry Content)) (old new : List (Entry Content)) → IfSome e (λ one. at_port one ≡ None) → IsPutOn e old new
+    → (y : AtPort) → IsIn y (filter_map at_port new) ↔ IsIn y (filter_map at_port old)
+ports_kept None old new none put y = grind arith
+ports_kept (Some e) old new none put y = (
+  λ there.
+      let of = given_of at_port new y there in
+      elim (in_permuted new (e ∷ old) of.0 (IsPermutation-sym _ _ put) of.1) [
+        | inl own ↦ absurd cc
+        | inr rest ↦ is_given at_port old of.0 y rest of.2
+      ],
+  λ there. let of = given_of at_port old y there in is_given at_port new of.0 y (in_permuted (e ∷ old) new of.0 put (inr of.1)) of.2,
+)
+
+-- what is put from lists with the same on the wires
+pub put_from : (s : Scenario) (x : Happening) (number : ℕ) (old mid new : List OnWire) → ((y : OnWire) → IsIn y mid ↔ IsIn y old)
+    → ArePut s x number mid new → ArePut s x number old new
+put_from s x number old mid new same put = grind arith
+
+-- and what is given to ports, to lists with the same at them
+pub given_then : (s : Scenario) (x : Happening) (number : ℕ) (old mid new : List AtPort) → ((y : AtPort) → IsIn y new ↔ IsIn y mid)
+    → AreGiven s x number old mid → AreGiven s x number old new
+given_then s x number old mid new same given = grind arith
+
+-- ---- what is under way without the first, and with one more
+
+abbrev pub place_numbers : Entry Content → List ℕ
+place_numbers e = numbers_of e.place
+
+-- the place of what is at a port
+pub port_numbers : (place : DueAt) (content : Content) (x : AtPort) → port_at place content ≡ Some x → place.rank ≡ rank_of content
+    → port_place x ≡ numbers_of place
+port_numbers place (Wire signal) x is kind = absurd cc
+port_numbers place (Port frame given) x is kind =
+    ap port_place (sym (same_Some _ _ is)) ∙ (rw (sym kind))
+
+-- and of what is on a wire
+pub wire_numbers : (network : Network) (place : DueAt) (content : Content) (x : OnWire) → wire_at network place content ≡ Some x
+    → place.rank ≡ rank_of content → wire_place x ≡ numbers_of place
+wire_numbers network place (Port frame given) x is kind = absurd cc
+wire_numbers network place (Wire signal) x is kind =
+    ap wire_place (sym (same_Some _ _ is)) ∙ (rw (sym kind))
+
+all_numbers : (k : List ℕ) (es : List (Entry Content)) → AllByRecursion (λ y. bytes_eq k y ≡ false) (map place_numbers es) → (e : Entry Content) → IsIn e es
+    → numbers_of e.place ≡ k → ⊥
+all_numbers k [] all e there same = absurd there
+all_numbers k (d ∷ es) all e (inl is) same = differ k (numbers_of d.place) all.0 (sym same ∙ ap place_numbers is)
+all_numbers k (d ∷ es) all e (inr rest) same = all_numbers k es all.1 e rest same
+
+module _ (network : Network) (old new : List (Entry Content)) (taken : Entry Content) (are : AreUnderWay network old) (same : IsPermutation old (taken ∷ new))
+  where
+    back : (e : Entry Content) → IsIn e (taken ∷ new) → IsIn e old
+    back e there = in_permuted _ _ e (IsPermutation-sym _ _ same) there
+
+    distinct : IsDistinct bytes_eq (map place_numbers (taken ∷ new))
+    distinct = IsDistinct-IsPermutation bytes_eq nat_list_eq_equiv.symm _ _ (IsPermutation-map place_numbers _ _ same) are.apart
+
+    pub sound_without : AreUnderWay network new
+    sound_without =
+        record {
+          kinds = λ e there. are.kinds e (back e (inr there));
+          placed = λ e there. are.placed e (back e (inr there));
+          apart = IsDistinct-tail bytes_eq (place_numbers taken) (map place_numbers new) distinct;
+        }
+
+    others : (e : Entry Content) → IsIn e new → numbers_of e.place ≡ numbers_of taken.place → ⊥
+    others = all_numbers (numbers_of taken.place) new (IsDistinct-head bytes_eq (place_numbers taken) (map place_numbers new) distinct)
+
+    -- what was at a port is taken
+    pub ports_without : (x : AtPort) → at_port taken ≡ Some x → IsWithout port_place (port_place x) (filter_map at_port old) (filter_map at_port new)
+    ports_without x is y = (
+      λ there.
+          let of = given_of at_port new y there in
+          let e = of.0 in (
+            is_given at_port old e y (back e (inr of.1)) of.2,
+            λ place. others e of.1 (sym (port_numbers e.place e.content y of.2 (are.kinds e (back e (inr of.1)))) ∙ place
+                ∙ port_numbers taken.place taken.content x is (are.kinds taken (back taken (inl refl)))),
+          ),
+      λ h.
+          let of = given_of at_port old y h.0 in
+          elim (in_permuted _ _ of.0 same of.1) [
+            | inl e ↦ absurd (h.1 (ap port_place (same_Some _ _ (sym of.2 ∙ ap at_port e ∙ is))))
+            | inr rest ↦ is_given at_port new of.0 y rest of.2
+          ],
+    )
+
+    -- and nothing on the wires changes
+    pub wires_stay : on_wire network taken ≡ None → (y : OnWire) → IsIn y (filter_map (on_wire network) new) ↔ IsIn y (filter_map (on_wire network) old)
+    wires_stay none y = (
+      λ there. let of = given_of (on_wire network) new y there in is_given (on_wire network) old of.0 y (back of.0 (inr of.1)) of.2,
+      λ there.
+          let of = given_of (on_wire network) old y there in
+          elim (in_permuted _ _ of.0 same of.1) [
+            | inl e ↦ absurd cc
+            | inr rest ↦ is_given (on_wire network) new of.0 y rest of.2
+          ],
+    )
+
+    -- what was on a wire is taken
+    pub wires_without : (x : OnWire) → on_wire network taken ≡ Some x
+        → IsWithout wire_place (wire_place x) (filter_map (on_wire network) old) (filter_map (on_wire network) new)
+    wires_without x is y = (
+      λ there.
+          let of = given_of (on_wire network) new y there in
+          let e = of.0 in (
+            is_given (on_wire network) old e y (back e (inr of.1)) of.2,
+            λ place. others e of.1 (sym (wire_numbers network e.place e.content y of.2 (are.kinds e (back e (inr of.1)))) ∙ place
+                ∙ wire_numbers network taken.place taken.content x is (are.kinds taken (back taken (inl refl)))),
+          ),
+      λ h.
+          let of = given_of (on_wire network) old y h.0 in
+          elim (in_permuted _ _ of.0 same of.1) [
+            | inl e ↦ absurd (h.1 (ap wire_place (same_Some _ _ (sym of.2 ∙ ap (on_wire network) e ∙ is))))
+            | inr rest ↦ is_given (on_wire network) new of.0 y rest of.2
+          ],
+    )
+
+    -- and nothing at the ports changes
+    pub ports_stay : at_port taken ≡ None → (y : AtPort) → IsIn y (filter_map at_port new) ↔ IsIn y (filter_map at_port old)
+    ports_stay none y = (
+      λ there. let of = given_of at_port new y there in is_given at_port old of.0 y (back of.0 (inr of.1)) of.2,
+      λ there.
+          let of = given_of at_port old y there in
+          elim (in_permuted _ _ of.0 same of.1) [
+            | inl e ↦ absurd cc
+            | inr rest ↦ is_given at_port new of.0 y rest of.2
+          ],
+    )
+
+-- ---- with one more
+
+differs : (xs ys : List ℕ) → (xs ≡ ys → ⊥) → bytes_eq xs ys ≡ false
+differs xs ys apart = false_from_ne_true (bytes_eq xs ys) (λ e. apart ((bytes_eq-Decides xs ys).0 e))
+
+none_equal : (k : List ℕ) (es : List (Entry Content)) → ((e : Entry Content) → IsIn e es → numbers_of e.place ≡ k → ⊥)
+    → AllByRecursion (λ y. bytes_eq k y ≡ false) (map place_numbers es)
+none_equal k [] none = tt
+none_equal k (d ∷ es) none = (differs k (numbers_of d.place) (λ same. none d (inl refl) (sym same)), none_equal k es (λ x there. none x (inr there)))
+
+-- what is at a place of its own may be put under way
+pub sound_with : (network : Network) (old new : List (Entry Content)) (e : Entry Content) → AreUnderWay network old → IsPermutation (e ∷ old) new
+    → e.place.rank ≡ rank_of e.content → e.place.device < length network.device → e.place.link < length network.link
+    → ((d : Entry Content) → IsIn d old → numbers_of d.place ≡ numbers_of e.place → ⊥) → AreUnderWay network new
+sound_with network old new e are same kind device link apart =
+    let back : (d : Entry Content) → IsIn d new → IsIn d (e ∷ old) = λ d there. in_permuted new (e ∷ old) d (IsPermutation-sym _ _ same) there in
+    record {
+      kinds = λ d there.
+          elim (back d there) [
+            | inl is ↦ rw is kind
+            | inr rest ↦ are.kinds d rest
+          ];
+      placed = λ d there.
+          elim (back d there) [
+            | inl is ↦ rw is (device, link)
+            | inr rest ↦ are.placed d rest
+          ];
+      apart = IsDistinct-IsPermutation bytes_eq nat_list_eq_equiv.symm _ _ (IsPermutation-map place_numbers _ _ same)
+          (IsDistinct-cons bytes_eq (place_numbers e) (map place_numbers old) (none_equal (place_numbers e) old apart) are.apart);
+    }
+
+-- ---- a list with another element at a place, with one more at its end, and without an element
+
+pub is_set : {X : Type 0} (xs : List X) (i : ℕ) (x : X) → i < length xs → IsSet i x xs (slice_set xs i x)
+is_set xs i x lt = record { there = set_there xs i x lt; same = λ k ne. set_aside xs i k x ne }
+
+-- what stands at a place then is the other element, or stood there
+pub set_cases : {X : Type 0} (xs : List X) (i k : ℕ) (is q : X) → slice_get (slice_set xs k is) i ≡ Some q
+    → ((i ≡ k) × (q ≡ is)) ⊎ (slice_get xs i ≡ Some q)
+set_cases [] i k is q there = inr there
+set_cases (x ∷ xs) zero zero is q there = inl (refl, cc)
+set_cases (x ∷ xs) (suc i) zero is q there = inr there
+set_cases (x ∷ xs) zero (suc k) is q there = inr there
+set_cases (x ∷ xs) (suc i) (suc k) is q there =
+    elim (set_cases xs i k is q there) [ inl s ↦ inl (rw s.0, s.1) | inr o ↦ inr o ]
+
+-- with one more at the end, it stood there, or is that one
+pub push_cases : {X : Type 0} (xs : List X) (i : ℕ) (x : X) {y : X} → slice_get (xs ++ x ∷ []) i ≡ Some y
+    → (slice_get xs i ≡ Some y) ⊎ (y ≡ x)
+push_cases [] zero x there = inr cc
+push_cases [] (suc i) x there = absurd cc
+push_cases (z ∷ xs) zero x there = inl there
+push_cases (z ∷ xs) (suc i) x there = push_cases xs i x there
+
+-- what is left when one is taken out
+module _ {X : Type 0} (x : X) (old new : List X) (t : IsPermutation old (x ∷ new)) where
+  pub was_there : IsIn x old
+  was_there = in_permuted _ _ x (IsPermutation-sym _ _ t) (inl refl)
+
+  pub stayed : (v : X) → IsIn v new → IsIn v old
+  stayed v there = in_permuted _ _ v (IsPermutation-sym _ _ t) (inr there)
+
+  pub stays : (v : X) → IsIn v old → (v ≡ x → ⊥) → IsIn v new
+  stays v there other = elim (in_permuted _ _ v t there) [ inl e ↦ absurd (other e) | inr rest ↦ rest ]
+
+-- ---- queues of devices: one more frame in one, the first taken out, and the first of those that wait at a device
 
 abbrev pub content_of : Entry Waits → Waits
 content_of e = e.content
@@ -177,3 +413,96 @@ pub grown : (queues : List (Queue Waits)) {after : List (Queue Waits)} (q : Queu
     → AreQueued queues → AreQueued after × (frames_in after ≡ frames_in queues)
 grown queues q true is empty queued = (subst AreQueued (sym is) (push_queued queues q queued empty), ap frames_in is ∙ none_behind queues q empty)
 grown queues q false is empty queued = (subst AreQueued (sym is) queued, ap frames_in is)
+
+-- ---- all frames of a device are dropped
+
+-- it waits elsewhere
+abbrev pub keeps_it : ℕ → Waits → Bool
+keeps_it k w = not (k == w.device.0)
+
+kept_all : (k : ℕ) (ws : List Waits) → ((w : Waits) → IsIn w ws → k ≡ w.device.0 → ⊥) → filter (keeps_it k) ws ≡ ws
+kept_all k [] apart = refl
+kept_all k (w ∷ ws) apart =
+    rw (ne_eqb k w.device.0 (apart w (inl refl)))
+    (rw (kept_all k ws (λ v there. apart v (inr there))))
+
+kept_none : (k : ℕ) (ws : List Waits) → ((w : Waits) → IsIn w ws → k ≡ w.device.0) → filter (keeps_it k) ws ≡ []
+kept_none k [] same = refl
+kept_none k (w ∷ ws) same =
+    rw (eq-eqb k w.device.0 (same w (inl refl)))
+    (kept_none k ws (λ v there. same v (inr there)))
+
+-- the queues from one on, of the devices from this on
+abbrev pub QueuedFrom : ℕ → List (Queue Waits) → Type 0
+QueuedFrom at queues = (k : ℕ) (q : Queue Waits) (e : Entry Waits) → slice_get queues k ≡ Some q → IsIn e q.entries → e.content.device.0 ≡ at + k
+
+module _ (at : ℕ) (q : Queue Waits) (queues : List (Queue Waits)) (queued : QueuedFrom at (q ∷ queues)) where
+  own_of : (w : Waits) → IsIn w (frames_of q) → w.device.0 ≡ at
+  own_of w there =
+      let e = from_map content_of q.entries w there in
+      let own = queued 0 q e.0 refl e.1 in
+      rw e.2 (own ∙ omega arith)
+
+  rest_of : QueuedFrom (at + 1) queues
+  rest_of k r e there inside = let own = queued (suc k) r e there inside in omega arith
+
+-- where no queue is the device's, all are kept
+pub kept_beyond : (at d : ℕ) (queues : List (Queue Waits)) → QueuedFrom at queues → (d < at) ⊎ (at + length queues ≤ d)
+    → filter (keeps_it d) (frames_in queues) ≡ frames_in queues
+kept_beyond at d [] queued out = refl
+kept_beyond at d (q ∷ queues) queued out =
+    filter-append (keeps_it d) (frames_of q) (frames_in queues)
+    ∙ ap (λ l. l ++ filter (keeps_it d) (frames_in queues))
+    (kept_all d (frames_of q) (λ w there same. let own = own_of at q queues queued w there in elim out [
+      | inl lt ↦ omega arith
+      | inr le ↦ omega arith
+    ]))
+    ∙ ap (λ l. frames_of q ++ l)
+    (kept_beyond (at + 1) d queues (rest_of at q queues queued)
+    (elim out [ inl lt ↦ inl (omega arith) | inr le ↦ inr (omega arith) ]))
+
+pub emptied : (at k : ℕ) (queues : List (Queue Waits)) {was : Queue Waits} (is : Queue Waits) → QueuedFrom at queues → slice_get queues k ≡ Some was → is.entries ≡ []
+    → frames_in (slice_set queues k is) ≡ filter (keeps_it (at + k)) (frames_in queues)
+emptied at k [] is queued there empty = absurd cc
+emptied at zero (q ∷ queues) is queued there empty =
+    ap (λ l. map content_of l ++ frames_in queues) empty
+    ∙ sym (filter-append (keeps_it (at + 0)) (frames_of q) (frames_in queues)
+    ∙ ap (λ (l : List Waits). l ++ filter (keeps_it (at + 0)) (frames_in queues))
+    (kept_none (at + 0) (frames_of q) (λ w here. let own = own_of at q queues queued w here in omega (arith, own)))
+    ∙ kept_beyond (at + 1) (at + 0) queues (rest_of at q queues queued) (inl (omega arith)))
+emptied at (suc k) (q ∷ queues) {was} is queued there empty =
+    ap (λ l. frames_of q ++ l) (emptied (at + 1) k queues is (rest_of at q queues queued) there empty
+    ∙ ap (λ n. filter (keeps_it n) (frames_in queues)) (omega arith))
+    ∙ ap (λ (l : List Waits). l ++ filter (keeps_it (at + suc k)) (frames_in queues))
+    (sym (kept_all (at + suc k) (frames_of q) (λ w here same. let own = own_of at q queues queued w here in omega (arith, own, same))))
+    ∙ sym (filter-append (keeps_it (at + suc k)) (frames_of q) (frames_in queues))
+
+pub from_zero : (queues : List (Queue Waits)) → AreQueued queues → QueuedFrom 0 queues
+from_zero queues queued k q e there inside = let own = (queued k q e there inside).own in omega arith
+
+-- ---- filters that keep the same
+
+pub alike : (p q : Waits → Bool) (ws : List Waits) → ((w : Waits) → p w ≡ q w) → filter p ws ≡ filter q ws
+alike p q [] same = refl
+alike p q (w ∷ ws) same =
+    rw (same w)
+    (rw (alike p q ws same))
+
+pub all_kept : (p : Waits → Bool) (ws : List Waits) → ((w : Waits) → p w ≡ true) → filter p ws ≡ ws
+all_kept p [] all = refl
+all_kept p (w ∷ ws) all = rw (all w) (rw (all_kept p ws all))
+
+-- ---- of what is under way one place is first
+
+-- a place is known by its numbers
+pub by_numbers : (p q : DueAt) → numbers_of p ≡ numbers_of q → p ≡ q
+by_numbers p q same = grind (arith, get_or)
+
+pub one_first : {T : Type 0} {entries : List (Entry T)} {p q : DueAt} → IsFirst entries p → IsFirst entries q → p ≡ q
+one_first a b = grind (arith, either_way, by_numbers)
+
+-- what is at a place, in other words
+pub in_words : {T : Type 0} (old new : List (Entry T)) (e : Entry T) {p : DueAt} {k : T} → e.place ≡ p → e.content ≡ k → IsPermutation old (e ∷ new)
+    → IsPermutation old (record { place = p; content = k } ∷ new)
+in_words {T} old new e {k} place content same =
+    rw place at (rw content at same)

@@ -1,5 +1,1 @@
-pub mod Bags
-pub mod Orders
 pub mod Slots
-pub mod Finding
-pub mod Heads

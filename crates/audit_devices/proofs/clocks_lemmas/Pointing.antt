@@ -1,7 +1,8 @@
 -- The correction point that comes to a device.
 use Rattle.{audit_devices.specs.clocks.Points.{ComesTo, HasPoint, IsHeard}, std.proofs.Common.{◌∙◌, ◌≡◌, List, Option, Some, ap, arith, refl, subst, sym, ℕ}}
 use Rattle.{audit_devices.specs.declared.clocks.correcting.Point.Point, audit_law.specs.law.CorrectionNumbers.{ComesToPoint, next_number, standing_at}}
-use Rattle.{audit_law.proofs.law_lemmas.Determined.same_verdict, run_law.specs.{control.Corrections.correction_value, scenario.Scenarios.{Scenario, is_broken}}}
+use Rattle.audit_law.proofs.law_lemmas.Founded.{same_verdict}
+use Rattle.run_law.specs.{control.Corrections.correction_value, scenario.Scenarios.{Scenario, is_broken}}
 use Rattle.{device_rules.specs.Answers.verdict_as, std.specs.Prelude.{◌↔◌, false}, sync_state.proofs.StateFacts.number_in}
 use Rattle.{net_plan.specs.declared.ids.DeviceId.DeviceId, sync_state.specs.{Standing.{Standing, next_point}, declared.answers.Verdict.Verdict}}
 use Rattle.{run_law.specs.{device.LocalClocks.Reaches, records.Happenings.Happening}, sync_state.specs.{Verdicts.HasVerdict, membership.Summary.Summary}}

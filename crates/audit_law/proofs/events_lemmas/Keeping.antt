@@ -1,20 +1,123 @@
--- What a history tells once one more event is added.
-use Rattle.{audit_law.proofs.events_lemmas.Valuing.set_stays, drift_clock.specs.Segment.{Segment, fresh_segment}, tte_units.proofs.general_lemmas.Bools.or_none}
-use Rattle.audit_law.specs.{declared.events.history.DeviceHistory.DeviceHistory, events.Remembering.{MayBefall, Remembers, TellsDevice, TellsWay, way_place}}
-use Rattle.{audit_law.specs.declared.events.history.EventHistory.EventHistory, tte_units.proofs.general_lemmas.Lists.{any_behind, any_first, set_other}}
-use Rattle.{audit_law.specs.declared.events.history.WayHistory.WayHistory, run_law.specs.scenario.Hypothesis.{IsWithinHypothesis, breaks_at}}
-use Rattle.{audit_law.specs.events.{Clocks.clocks_after, Readings.{HaveBegun, scenario_under}}, run_law.proofs.scenario.Devices.{all_within, broken_by, on_by}}
-use Rattle.{drift_clock.specs.RateSteps.RateStep, std.specs.{Result.MatchResult, declared.result.Result.Result}, tte_units.specs.Amount.amount}
-use Rattle.{net_plan.{proofs.SameIds.{same_device, same_link}, specs.declared.ids.DeviceId.DeviceId}, run_law.specs.scenario.Rates.{rate_steps, step_by}}
-use Rattle.{net_plan.specs.declared.event.Event.Event, run_law.specs.scenario.Faults.{Breaks, TurnsOn}, std.specs.Prelude.{filter, slice_get, slice_set}}
-use Rattle.{net_plan.specs.declared.ids.LinkId.LinkId, run_law.proofs.scenario.Ways.way_itself, std.specs.List.{Any, cons_option, list_any}}
-use Rattle.{net_plan.specs.declared.{network.Network.Network, tables.Way.{TheVariants.{Down, Up}, Way}}, std.specs.declared.result.Result.TheVariants.{Err, Ok}}
-use Rattle.run_law.specs.scenario.{Scenarios.{is_broken, is_turned_on_at, turns_on}, Ways.{cut_set, hold_set, is_way, is_way_of, wire_of, wire_set}}
-use Rattle.std.proofs.Common.{◌&&◌, ◌++◌, ◌==◌, ◌||◌, ◌∙◌, ◌∷◌, ◌≡◌, ◌≤ℤ◌, Bool, List, None, Option, Some, [], ap, arith, false, if◌then◌else◌, inl, inr}
-use Rattle.std.proofs.{Common.{length, nat_le, pos, refl, subst, suc, sym, true, zero, ℕ}, lemmas.List.Elements.{All-push, filter-append, filter_map-append}}
-use Rattle.std.proofs.lemmas.{Bool.{and_parts, and_right, cases_Bool, eq-eqb, eqb-true, false_from_ne_true, false≢true}, List.Folds.list_any-append}
+-- Events within the hypothesis, the clocks that they set, and a history once one more is added.
+use Rattle.std.proofs.{Math.Nat.mul-le-mul_right}
+use Rattle.std.proofs.Common
+use Common.{if◌then◌else◌, ◌&&◌, ◌*◌, ◌++◌, ◌+◌, ◌-◌, ◌<◌, ◌==◌, ◌^◌, ◌||◌, ◌∙◌, ◌∷◌, ◌≡◌, ◌≤ℤ◌, ◌≤◌, Bool, List, None}
+use Common.{Option, Some, [], ap, append_assoc, arith, false, inl, inr, length, nat_le, pos, refl, subst, suc, sym}
+use Common.{true, unsigned_abs, zero, ℕ}
+use Rattle.std.proofs.lemmas.{Int.ints}
+use Rattle.std.proofs.lemmas.{List.{Elements.{All-push, filter-append, filter_map-append}, Folds.list_any-append}}
+use Rattle.std.proofs.lemmas.Bool.{and_parts, and_right, cases_Bool, cases_lt, eq-eqb, eqb-true, false_from_ne_true}
+use Rattle.std.proofs.lemmas.Bool.{false≢true}
+use Rattle.std.specs.{Int.abs_diff, List.{Any, cons_option, list_any}, Prelude.{filter, slice_get, slice_set}}
+use Rattle.std.specs.{Result.MatchResult, declared.result.Result.{Result, TheVariants.{Err, Ok}}}
+use Rattle.audit_law.{proofs.events_lemmas.Clocks.{StepsFrom, StepsUpTo, set_stays, steps_history, steps_sooner}}
+use Rattle.audit_law.specs.declared.events.history.{DeviceHistory.DeviceHistory, EventHistory.EventHistory}
+use Rattle.audit_law.specs.declared.events.history.{WayHistory.WayHistory}
+use Rattle.audit_law.specs.events.{Clocks.clocks_after}
+use Rattle.audit_law.specs.events.{Readings.{ClocksReadOn, HaveBegun, clock_reading, scenario_under}}
+use Rattle.audit_law.specs.events.{Remembering.{MayBefall, Remembers, TellsDevice, TellsWay, way_place}}
+use Rattle.drift_clock.specs.{ClockLaws.{AlwaysBeginsAtZero, AlwaysKeepsClockLaws}, RateSteps.RateStep}
+use Rattle.drift_clock.specs.{Segment.{Segment, fresh_segment, segment_reading, stepped_segment}}
+use Rattle.net_plan.{proofs.SameIds.{same_device, same_link}}
+use Rattle.net_plan.specs.{Ranges.IsInRange}
+use Rattle.net_plan.specs.declared.{event.Event.Event, ids.{DeviceId.DeviceId, LinkId.LinkId}, network.Network.Network}
+use Rattle.net_plan.specs.declared.{tables.Way.{TheVariants.{Down, Up}, Way}}
+use Rattle.run_law.proofs.scenario.{Devices.{all_within, broken_by, in_turn, on_by}}
+use Rattle.run_law.proofs.scenario.{Rated.{Holds, IsSlow, IsStepAt, slow_event, step_is}, Ways.way_itself}
+use Rattle.run_law.specs.scenario.{Faults.{Breaks, TurnsOn}}
+use Rattle.run_law.specs.scenario.{Hypothesis.{AreWithinHypothesis, IsWithinHypothesis, breaks_at}}
+use Rattle.run_law.specs.scenario.{Rates.{rate_steps, step_by}, Scenarios.{is_broken, is_turned_on_at, turns_on}}
+use Rattle.run_law.specs.scenario.{Ways.{cut_set, hold_set, is_way, is_way_of, wire_of, wire_set}}
+use Rattle.tte_units.{proofs.general_lemmas.{Bools.or_none, Lists.{any_behind, any_first, none_before, set_other}}}
+use Rattle.tte_units.{specs.{Amount.amount, declared.rates.Ppb.Ppb}}
 use Rattle.net_plan.specs.declared.event.What.TheVariants as events
 use Rattle.run_law.specs.declared.outside.Outside.TheVariants as outside
+
+-- ---- events within the hypothesis come in the order of time, and set slow rates
+
+-- ---- one event
+
+pub soon : {network : Network} (before : List Event) (event : Event) → IsInRange network
+    → IsWithinHypothesis network before event → pos 0 ≤ℤ event.time.0 → amount event.time ≤ 2 ^ 60
+soon {network} before event range within begun = elim (cases_lt (2 ^ 60) (amount event.time)) [
+  | inl late ↦
+      let low = range.cycle.least in
+      let high = range.cycle.most in
+      let cycle : amount network.cycle ≤ 2 ^ 40 = omega (arith, ints) in
+      absurd (within outside.Late (omega (arith, ints)))
+  | inr le ↦ le
+]
+
+-- ---- the events in their order
+
+-- events in the order of time, from a time on and up to 2^60, each of which sets no fast rate
+abbrev pub AreEventsFrom : ℕ → ℕ → List Event → Type 0
+AreEventsFrom rho least [] = Unit {0}
+AreEventsFrom rho least (e ∷ es) = (least ≤ amount e.time) × (amount e.time ≤ 2 ^ 60) × IsSlow rho e.what × AreEventsFrom rho (amount e.time) es
+
+begun_in : (front : List Event) (e : Event) (rest : List Event) → HaveBegun (front ++ e ∷ rest) → pos 0 ≤ℤ e.time.0
+begun_in [] e rest begun = begun 0 e (omega arith)
+begun_in (x ∷ front) e rest begun = begun_in front e rest (λ k d lt. begun (suc k) d (omega arith))
+
+begun_at : (all front : List Event) (e : Event) (rest : List Event) → all ≡ front ++ e ∷ rest → HaveBegun all → pos 0 ≤ℤ e.time.0
+begun_at all front e rest same begun = begun_in front e rest (subst HaveBegun same begun)
+
+in_order_behind : {network : Network} (all front rest : List Event) (last : Event) → IsInRange network
+    → all ≡ (front ++ last ∷ []) ++ rest → AreWithinHypothesis network all → HaveBegun all
+    → AreEventsFrom network.rho (amount last.time) rest
+in_order_behind all front [] last range same within begun = tt
+in_order_behind {network} all front (e ∷ rest) last range same within begun =
+    let here = within (front ++ last ∷ []) rest e same in
+    let at_last = begun_at all front last (e ∷ rest) (same ∙ append_assoc front (last ∷ []) (e ∷ rest)) begun in
+    let at_e = begun_at all (front ++ last ∷ []) e rest same begun in (
+      in_turn network front last e here at_last at_e,
+      soon (front ++ last ∷ []) e range here at_e,
+      slow_event network (front ++ last ∷ []) e here,
+      in_order_behind all (front ++ last ∷ []) rest e range
+          (same ∙ sym (append_assoc (front ++ last ∷ []) (e ∷ []) rest)) within begun,
+    )
+
+pub events_from : {network : Network} (all : List Event) → IsInRange network → AreWithinHypothesis network all
+    → HaveBegun all → AreEventsFrom network.rho 0 all
+events_from [] range within begun = tt
+events_from {network} (e ∷ es) range within begun =
+    let here = within [] es e refl in (
+      omega arith,
+      soon [] e range here (begun_in [] e es begun),
+      slow_event network [] e here,
+      in_order_behind (e ∷ es) [] es e range refl within begun,
+    )
+
+-- ---- their steps
+
+more_steps : (rho least time : ℕ) (o : Option RateStep) (steps : List RateStep) → least ≤ time → time ≤ 2 ^ 60 → Holds o (IsStepAt rho time)
+    → StepsFrom rho time steps → StepsFrom rho least (cons_option o steps)
+more_steps rho least time None steps le most here h = steps_sooner rho least time steps le h
+more_steps rho least time (Some step) steps le most here h = grind (arith, steps_sooner)
+
+pub steps_from : (rho least : ℕ) (all : List Event) (device : DeviceId) → AreEventsFrom rho least all → StepsFrom rho least (rate_steps all device)
+steps_from rho least [] device h = tt
+steps_from rho least (e ∷ es) device h =
+    more_steps rho least (amount e.time) (step_by device (amount e.time) e.what) (rate_steps es device) h.0 h.1
+    (step_is rho device (amount e.time) e.what h.2) (steps_from rho (amount e.time) es device h.3)
+
+-- ---- an event behind them
+
+last_later : (rho least : ℕ) (all : List Event) (event : Event) → AreEventsFrom rho least (all ++ event ∷ []) → least ≤ amount event.time
+last_later rho least [] event h = h.0
+last_later rho least (e ∷ es) event h = let behind = last_later rho (amount e.time) es event h.3 in omega (arith, h.0)
+
+one_more : (rho bound time : ℕ) (o : Option RateStep) (steps : List RateStep) → time ≤ bound → Holds o (IsStepAt rho time) → StepsUpTo bound steps
+    → StepsUpTo bound (cons_option o steps)
+one_more rho bound time None steps le here h = h
+one_more rho bound time (Some step) steps le here h = (omega (arith, here.at), h)
+
+pub steps_up_to : (rho least : ℕ) (all : List Event) (event : Event) (device : DeviceId) → AreEventsFrom rho least (all ++ event ∷ [])
+    → StepsUpTo (amount event.time) (rate_steps all device)
+steps_up_to rho least [] event device h = tt
+steps_up_to rho least (e ∷ es) event device h = grind (arith, one_more, last_later, step_is, (steps_up_to rho (amount e.time) es event device h.3))
+
+-- ---- what a history tells once one more event is added
 
 -- ---- results
 
@@ -236,3 +339,72 @@ pub remembers_same : {network : Network} {all : List Event} {old : EventHistory}
     → AreWaysTold network all new.ways.items → length new.devices.items ≡ length old.devices.items
     → AreDevicesTold network all new.devices.items → Remembers network all new
 remembers_same new h many_ways ways many_devices devices = grind arith
+
+-- ---- a slow rate at time 0 is within the hypothesis
+
+rate_of : (d e : DeviceId) (r s : Ppb) → events.Rate d r ≡ events.Rate e s → r ≡ s
+rate_of d e r s same = cc
+
+module _ (network : Network) (event : Event) (device : DeviceId) (rate : Ppb) (begins : event.time.0 ≡ pos 0)
+    (is : event.what ≡ events.Rate device rate) (slow : unsigned_abs rate.0 ≤ network.rho) where
+  pub rate_within : IsWithinHypothesis network [] event
+  rate_within outside.Order v = none_before v.front [] v.last v.order
+  rate_within outside.Late v = omega (arith, ints)
+  rate_within outside.Rate v = grind (arith, rate_of, unsigned_abs)
+  rate_within outside.Wire v = let what = v.what in absurd cc
+  rate_within outside.Hold v = let what = v.what in absurd cc
+  rate_within outside.Channel v = let what = v.what in absurd cc
+  rate_within outside.NotMaster v = let what = v.breaks in absurd cc
+  rate_within outside.SecondBreak v = let what = v.breaks in absurd cc
+  rate_within outside.TooFewMasters v = let what = v.breaks in absurd cc
+  rate_within outside.NotBroken v = let what = v.what in absurd cc
+  rate_within outside.NotOff v = absurd cc
+
+-- ---- the clocks that events set read on
+
+-- a reading that grew from 0 in a time of at most 2^60
+bound_of : (rho grain r t zero_time d : ℕ) → t ≤ 2 ^ 60 → rho ≤ 1000000 → grain ≤ 2 ^ 20 → zero_time ≡ 0 → r ≤ d + t
+    → 10 ^ 9 * d ≤ rho * t + 2 * grain * 10 ^ 9 → r ≤ 2 ^ 60 + 2 ^ 51
+bound_of rho grain r t z d le slow fine zero near h =
+    let most = mul-le-mul_right t slow in
+    omega arith
+
+diff_near : (a b : ℕ) → a ≤ abs_diff a b + b
+diff_near a b = omega arith
+
+same_times : (rho t s : ℕ) → s ≡ t → rho * s ≡ rho * t
+same_times rho t s e = rw e refl
+
+-- what a clock goes on by in one unit of time
+step_of : (rho grain real seen : ℕ) → real ≡ 1 → rho ≤ 1000000 → grain ≤ 2 ^ 20 → 10 ^ 9 * abs_diff seen real ≤ rho * real + 2 * grain * 10 ^ 9 → seen < 2 ^ 32
+step_of rho grain real seen one slow fine measured =
+    let m : 10 ^ 9 * abs_diff seen 1 ≤ rho * 1 + 2 * grain * 10 ^ 9 = rw one at measured in
+    omega arith
+
+pub reads_on : AlwaysKeepsClockLaws fresh_segment stepped_segment segment_reading
+    → AlwaysBeginsAtZero fresh_segment stepped_segment segment_reading → ClocksReadOn
+reads_on laws begins network all device range within begun =
+    let steps = rate_steps all device in
+    let grain = amount network.grain in
+    let low = range.grain.least in
+    let high = range.grain.most in
+    let some : 1 ≤ grain = omega (arith, ints) in
+    let fine : grain ≤ 2 ^ 20 = omega (arith, ints) in
+    let keeps = laws network.rho grain steps range.rho some
+    (steps_history network.rho 0 steps (steps_from network.rho 0 all device (events_from all range within begun))) in
+    record {
+      begins = begins grain steps;
+      never_falls = keeps.never_falls;
+      step = λ t.
+          let r = clock_reading network all device in
+          let seen = step_of network.rho grain ((t + 1) - t) (r (t + 1) - r t) (omega arith) range.rho fine (keeps.drifts t (t + 1) (omega arith)) in
+          omega arith;
+      bound = λ t le.
+          let r = clock_reading network all device in
+          let drift = keeps.drifts 0 t (omega arith) in
+          let zero_first = begins grain steps in
+          let near = diff_near (r t - r 0) (t - 0) in
+          let same = same_times network.rho t (t - 0) (omega arith) in
+          bound_of network.rho grain (r t) t 0 (abs_diff (r t - r 0) (t - 0)) le range.rho fine refl (omega arith)
+          (omega arith);
+    }

@@ -1,20 +1,238 @@
--- What is due is owed in one of these ways, so a list is the run exactly where it is sound and its debts are paid.
-use Rattle.audit_law.{proofs.law_lemmas.Arriving.arrival_law, specs.law.{CorrectionPoints.IsDueByPoint, DebtLaws.DebtLaw, Permanences.IsDueByPermanence}}
-use Rattle.audit_law.{proofs.law_lemmas.{Changing.change_law, LosingSends.loss_law}, specs.law.{Departures.IsDueByLeaving, TracedEvents.IsDueByEvent}}
-use Rattle.audit_law.{proofs.law_lemmas.{Correcting.{by_point, point_law}, Departing.departure_law}, specs.law.Arrivals.{IsDueByArrival, arrival_record}}
-use Rattle.audit_law.proofs.law_lemmas.{Debts.{due_by_part, due_in, lack_of_unpaid, lacks_nothing, one_due, unpaid_of_lack}, Determined.due_is_determined}
-use Rattle.audit_law.proofs.law_lemmas.{Dispatching.{dispatch_law, sending_law}, Owing.PaidAt, Sound.{founded_of_sound, run_exactly, within_of_sound}}
-use Rattle.audit_law.proofs.law_lemmas.{Emitting.emission_law, EndingClocks.clock_law, TracingEvents.event_law, Words.{sym, time_of, ℕ}}
-use Rattle.audit_law.{proofs.law_lemmas.Ripening.{permanence_law, recorded}, specs.law.Dispatched.{IsDueByDispatch, IsDueBySending, dispatch_record}}
-use Rattle.audit_law.proofs.law_lemmas.Words.{◌+◌, ◌∙◌, ◌∷◌, ◌≡◌, ArrivesAs, Debt, Dispatch, Happening, IsBefore, IsCaused, IsDue, IsDueIn, IsFounded}
-use Rattle.audit_law.proofs.law_lemmas.Words.{IsOwed, IsPaid, IsRun, List, NoteBody, Pays, Scenario, [], ap, inl, inr, place_of, refl, ripe_as}
-use Rattle.audit_law.specs.law.{Changes.IsDueByChange, Debts.AreDebts, Emitted.IsDueByEmission, EndClocks.IsDueByEnd, LostSends.IsDueBySend, Owed.falls_due}
+-- What is owed is due, and what is due is owed, so a list with nothing wrong and no debts is the run.
+use Rattle.std.proofs.Common.{arith}
+use Rattle.audit_law.proofs.law_lemmas.{Arriving.arrival_law, Changing.change_law, Correcting.{by_point, point_law}}
+use Rattle.audit_law.proofs.law_lemmas.{Departing.departure_law, EventDebts.{clock_law, event_law, loss_law}}
+use Rattle.audit_law.proofs.law_lemmas.{Permanence.{permanence_law, recorded}}
+use Rattle.audit_law.proofs.law_lemmas.Founded
+use Founded.{PaidAt, by_number, due_is_determined, due_there, earlier_in, next_is_due, next_of, split_at, timely}
+use Founded.{within}
+use Rattle.audit_law.proofs.law_lemmas.Sound
+use Sound.{due_by_part, due_in, founded_of_sound, lack_of_unpaid, lacks_in_gaps, lacks_nothing, next_exactly}
+use Sound.{none_unsound, one_due, one_unsound, run_exactly, unpaid_of_lack, within_of_sound}
+use Rattle.audit_law.proofs.law_lemmas.Words
+use Words.{◌+◌, ◌∙◌, ◌∷◌, ◌≡◌, ◌⊎◌, AllBefore, ArrivesAs, Bool, Debt, DeviceId, Dispatch, Happening, HasAccepted}
+use Words.{IsBefore, IsCaused, IsDue, IsDueIn, IsFounded, IsOwed, IsPaid, IsReach, IsRun, IsSplit, LinkId, List}
+use Words.{NoteBody, Pays, Scenario, Some, Units, VlId, [], amount, ap, append-nil, earlier, false, false_from_ne_true}
+use Words.{filter, filter-append, front_founded, inl, inr, is_before, is_there, is_turned_on_at, key, members_in}
+use Words.{none_kept, numbered, place_at, place_of, pos, rank, refl, ripe_as, same_earlier, split, state_after, subst}
+use Words.{sym, time_of, true, units_of, ℕ}
+use Rattle.audit_law.specs.law.{Arrivals.{IsDueByArrival, arrival_record}, Changes.IsDueByChange}
+use Rattle.audit_law.specs.law.{CorrectionPoints.IsDueByPoint, DebtLaws.{DebtLaw, DispatchLaw, EmissionLaw, SendingLaw}}
+use Rattle.audit_law.specs.law.{Debts.AreDebts, Departures.IsDueByLeaving, EndClocks.IsDueByEnd}
+use Rattle.audit_law.specs.law.{Laws.{AuditLaws, GapLaw, NextLaw}, LostSends.IsDueBySend, Owed.falls_due}
+use Rattle.audit_law.specs.law.{Permanences.IsDueByPermanence, TracedEvents.IsDueByEvent}
+use Rattle.audit_law.specs.law.Dispatched
+use Dispatched.{IsDueByDispatch, IsDueBySending, OwesDispatch, OwesSending, Sending, TellsDispatch, TellsSending}
+use Dispatched.{dispatch_record, is_cut_then}
+use Rattle.audit_law.specs.law.Emitted
+use Emitted.{IsDueByEmission, OwesEmission, TellsEmission, before_place, emission_place, emission_record}
+use Rattle.compression.specs.declared.compressed.Compressed.{Compressed}
+use Rattle.drift_clock.proofs.Drifts.{one_reach}
+use Rattle.run_law.proofs.{device.States.reaches_by, law.FirstDeliveries.accepted_in, records.Order.before_is}
+use Rattle.run_law.proofs.{timed.Rows.at_hand_by}
 use Rattle.run_law.specs.{control.Leaving.{leaves, on_cut_way, too_old}, declared.steps.Arrival.Arrival}
+use Rattle.run_law.specs.{records.Causes.cause_of, timed.Dispatching.{Dispatches, IsUp, Sends}}
+use Rattle.audit_law.specs.law.Owed as debts
 use Rattle.run_law.specs.declared.judgement.Why.TheVariants as whys
 use Rattle.run_law.specs.declared.note.NoteBody.TheVariants as notes
 use Rattle.run_law.specs.declared.steps.Arrival.TheVariants as arrivals
 use Rattle.run_law.specs.declared.steps.Ripe.TheVariants as ripe
-use Rattle.audit_law.specs.law.Owed as debts
+
+-- ---- what is owed of schedules is due
+
+-- ---- what the records of earlier times tell
+
+up_by : {s : Scenario} {gs : List Happening} (hs : List Happening) {device : DeviceId} {t : ℕ}
+    → earlier t gs ≡ earlier t hs → IsUp s gs device t → IsUp s hs device t
+up_by hs same h = grind (arith, is_turned_on_at, state_after)
+
+module _ (s : Scenario) (gs hs : List Happening) (device : DeviceId) (t : ℕ) where
+  pub sends_by : {cycle : ℕ} → earlier t gs ≡ earlier t hs → Sends s gs device t cycle → Sends s hs device t cycle
+  sends_by same h = grind (arith, up_by, reaches_by, amount)
+
+  pub dispatches_by : {link : LinkId} {cause : ℕ} {vl : VlId} {cycle : ℕ} → earlier t gs ≡ earlier t hs
+      → Dispatches s gs device t link cause vl cycle → Dispatches s hs device t link cause vl cycle
+  dispatches_by same h = grind (arith, up_by, reaches_by, amount, at_hand_by)
+
+-- ---- sendings
+
+some_sending : {s : Scenario} {hs : List Happening} {until : ℕ} {o : Sending} → IsFounded place_of (IsDue s) hs
+    → OwesSending s hs until o → PaidAt s hs until (IsDueBySending s) o.time (λ x. TellsSending o x)
+some_sending {s} {hs} {until} {o} founded owed =
+    let body = notes.Sent o.device o.cycle in
+    let p = place_at o.time 0 body in
+    let at = split place_of (IsDue s) hs p founded in
+    let sends = sends_by s hs at.front o.device o.time (sym (same_earlier o.time _ at)) owed.sends in
+    let x = next_of s at.front o.time body in
+    let due : IsDueBySending s at.front x =
+    record { due = next_is_due s at.front o.time body sends; device = o.device; cycle = o.cycle; sends = sends; says = refl } in
+    let here = within o.time until (5 ∷ o.device.0 ∷ o.cycle ∷ []) owed.timely in
+    (x, due_there (IsDueBySending s) at x refl due, here, record { at = refl; says = refl }, refl)
+
+sending_owed : (s : Scenario) {hs : List Happening} (until : ℕ) {x : Happening}
+    → IsDueIn place_of (IsDueBySending s) hs x → IsBefore (place_of x) ((until + 1) ∷ [])
+    → (o : Sending) × OwesSending s hs until o × TellsSending o x × (time_of x ≡ o.time)
+sending_owed s {hs} until {x} h here =
+    let d = h.due in
+    let o : Sending = record { device = d.device; cycle = d.cycle; time = time_of x } in
+    let owed : OwesSending s hs until o = record {
+      sends = sends_by s h.before hs d.device (time_of x) (earlier_in (IsDueBySending s) h) d.sends;
+      timely = timely (time_of x) until (rank x.note.body ∷ key (members_in x) x.note.body) here;
+    } in
+    (o, owed, record { at = refl; says = d.says }, refl)
+
+sending_place : {o : Sending} {x : Happening} → TellsSending o x
+    → place_of x ≡ place_at o.time 0 (notes.Sent o.device o.cycle)
+sending_place {o} {x} h = rw h.says (ap
+    (λ t. place_at t 0 (notes.Sent o.device o.cycle)) h.at)
+
+pub sending_law : SendingLaw
+sending_law s hs until founded = record {
+  each = λ x h here. sending_owed s until h here;
+  some = λ o owed. some_sending founded owed;
+  one = λ o x y owed a b p q. sending_place p ∙ sym (sending_place q);
+}
+
+-- ---- dispatches
+
+-- the record of a dispatch does not show the members of a frame
+record_place : (t m : ℕ) (o : Dispatch) (cut : Bool) → place_at t m (dispatch_record o cut) ≡ place_at t 0 (dispatch_record o cut)
+record_place t m o true = refl
+record_place t m o false = refl
+
+causes_record : {s : Scenario} {gs : List Happening} (o : Dispatch) (cut : Bool) → is_cut_then s o ≡ cut
+    → Dispatches s gs o.device o.time o.link o.cause o.vl o.cycle
+    → IsCaused s gs (units_of o.time) (dispatch_record o cut)
+causes_record o true is h = inr (inl (o.vl, o.cycle, h, is))
+causes_record o false is h = record { dispatches = h; whole = is }
+
+some_dispatch : {s : Scenario} {hs : List Happening} {until : ℕ} {o : Dispatch} → IsFounded place_of (IsDue s) hs
+    → OwesDispatch s hs until o → PaidAt s hs until (IsDueByDispatch s) o.time (λ x. TellsDispatch s o x)
+some_dispatch {s} {hs} {until} {o} founded owed =
+    let cut = is_cut_then s o in
+    let body = dispatch_record o cut in
+    let p = o.time ∷ rank body ∷ key 0 body in
+    let at = split place_of (IsDue s) hs p founded in
+    let dispatches = dispatches_by s hs at.front o.device o.time (sym (same_earlier o.time _ at)) owed.dispatches in
+    let x = next_of s at.front o.time body in
+    let due : IsDueByDispatch s at.front x = record {
+      due = next_is_due s at.front o.time body (causes_record o cut refl dispatches);
+      is = o;
+      at = refl;
+      dispatches = dispatches;
+      says = refl;
+    } in (
+      x,
+      due_there (IsDueByDispatch s) at x (record_place o.time (members_in x) o cut) due,
+      within o.time until (rank body ∷ key (members_in x) body) owed.timely,
+      record { at = refl; says = refl },
+      refl,
+    )
+
+dispatch_owed : (s : Scenario) {hs : List Happening} (until : ℕ) {x : Happening}
+    → IsDueIn place_of (IsDueByDispatch s) hs x → IsBefore (place_of x) ((until + 1) ∷ [])
+    → (o : Dispatch) × OwesDispatch s hs until o × TellsDispatch s o x × (time_of x ≡ o.time)
+dispatch_owed s {hs} until {x} h here =
+    let d = h.due in
+    let same : earlier d.is.time h.before ≡ earlier d.is.time hs =
+    rw d.at at (earlier_in (IsDueByDispatch s) h) in
+    let owed : OwesDispatch s hs until d.is = record {
+      dispatches = dispatches_by s h.before hs d.is.device d.is.time same d.dispatches;
+      timely = rw d.at at (timely (time_of x) until (rank x.note.body ∷ key (members_in x) x.note.body) here);
+    } in
+    (d.is, owed, record { at = d.at; says = d.says }, d.at)
+
+dispatch_place : {s : Scenario} {o : Dispatch} {x : Happening} → TellsDispatch s o x
+    → place_of x ≡ place_at o.time 0 (dispatch_record o (is_cut_then s o))
+dispatch_place h = grind (arith, place_at, time_of, members_in, record_place)
+
+pub dispatch_law : DispatchLaw
+dispatch_law s hs until founded = record {
+  each = λ x h here. dispatch_owed s until h here;
+  some = λ o owed. some_dispatch founded owed;
+  one = λ o x y owed a b p q. dispatch_place p ∙ sym (dispatch_place q);
+}
+
+-- ---- what is owed of clusters is due
+
+-- ---- the records before a place
+
+all_kept : (hs : List Happening) (p : List ℕ) → AllBefore place_of hs p → before_place hs p ≡ hs
+all_kept [] p all = refl
+all_kept (h ∷ hs) p all =
+    rw (before_is (place_of h) p (all h (inl refl)))
+    (ap (λ gs. h ∷ gs) (all_kept hs p (λ g i. all g (inr i))))
+
+-- where a list parts at a place, its front is the records before that
+pub before_is_front : {hs : List Happening} {p : List ℕ} (at : IsSplit place_of hs p) → before_place hs p ≡ at.front
+before_is_front at =
+    grind (arith, is_before, place_of, filter, none_kept, false_from_ne_true, is_there, filter-append, append-nil, all_kept)
+
+-- ---- the law
+
+some_emission : {s : Scenario} {hs : List Happening} {until : ℕ} {device : DeviceId} {sent : Compressed}
+    → IsFounded place_of (IsDue s) hs → (o : OwesEmission s hs until device sent)
+    → PaidAt s hs until (IsDueByEmission s) o.time (λ x. TellsEmission device sent x.note.body)
+some_emission {s} {hs} {until} {device} {sent} founded o =
+    let body = emission_record device sent o.verdict in
+    let p = emission_place o.time device sent in
+    let at = split place_of (IsDue s) hs p founded in
+    let emits = rw (before_is_front at) at o.emits in
+    let x = next_of s at.front o.time body in
+    let due : IsDueByEmission s at.front x = record {
+      due = next_is_due s at.front o.time body emits;
+      device = device;
+      sent = sent;
+      verdict = o.verdict;
+      emits = emits;
+      says = refl;
+    } in
+    let here = within o.time until (rank body ∷ key (members_in x) body) o.timely in
+    (x, due_there (IsDueByEmission s) at x refl due, here, (refl, refl, refl, refl, refl), refl)
+
+-- the place of what is due by an emission
+due_place : {s : Scenario} {before : List Happening} {x : Happening} (h : IsDueByEmission s before x)
+    → place_of x ≡ emission_place (time_of x) h.device h.sent
+due_place {x} h = rw h.says
+
+emission_owed : (s : Scenario) {hs : List Happening} (until : ℕ) {x : Happening}
+    → IsDueIn place_of (IsDueByEmission s) hs x → IsBefore (place_of x) ((until + 1) ∷ [])
+    → (given : DeviceId × Compressed) × (o : OwesEmission s hs until given.0 given.1)
+    × TellsEmission given.0 given.1 x.note.body × (time_of x ≡ o.time)
+emission_owed s {hs} until {x} h here =
+    let d = h.due in
+    let front : before_place hs (emission_place (time_of x) d.device d.sent) ≡ h.before =
+    ap (before_place hs) (sym (due_place d)) ∙ before_is_front (split_at (IsDueByEmission s) hs x h) in
+    let owed : OwesEmission s hs until d.device d.sent = record {
+      time = time_of x;
+      verdict = d.verdict;
+      emits = rw front d.emits;
+      timely = timely (time_of x) until (rank x.note.body ∷ key (members_in x) x.note.body) here;
+    } in
+    ((d.device, d.sent), owed, subst (TellsEmission d.device d.sent) (sym d.says) (refl, refl, refl, refl, refl), refl)
+
+-- a record that is due and tells of an emission
+record IsEmitted (s : Scenario) (device : DeviceId) (sent : Compressed) (x : Happening) : Type 0 where
+  pub place : place_of x ≡ emission_place (time_of x) device sent
+  pub reached : IsReach (s.reading device) (pos 0) sent.at.0 (pos (time_of x))
+
+emitted : (s : Scenario) (before : List Happening) (device : DeviceId) (sent : Compressed) (x : Happening) (body : NoteBody)
+    → x.note.body ≡ body → IsCaused s before x.note.time body → TellsEmission device sent body → IsEmitted s device sent x
+emitted s before device sent x (notes.Compressed other opened at cycle members verdict) is c e = grind (arith, place_at, time_of, members_in)
+emitted s before device sent x other is c e = absurd e
+
+pub emission_law : EmissionLaw
+emission_law s hs until founded = record {
+  each = λ x h here. emission_owed s until h here;
+  some = λ given o. some_emission founded o;
+  one = λ given x y o a b p q.
+      let first = emitted s a.before given.0 given.1 x x.note.body refl a.due.cause p in
+      let second = emitted s b.before given.0 given.1 y y.note.body refl b.due.cause q in
+      let times = one_reach (s.reading given.0) (pos 0) given.1.at.0 (time_of x) (time_of y) first.reached second.reached in
+      first.place ∙ ap (λ t. emission_place t given.0 given.1) times ∙ sym second.place;
+}
+
+-- ---- what is due is owed in one of these ways, so a list is the run exactly where it is sound and its debts are paid
 
 -- what is due in a list is due in it so, where it is due so given its front
 part_in : (s : Scenario) (IsDueSo : List Happening → Happening → Type 0) {hs : List Happening} {x : Happening}
@@ -286,3 +504,69 @@ debt_law s hs until sound =
         ),
       );
     }
+
+-- ---- what may be found wrong with the records of a scenario
+
+pub audit_laws : AuditLaws
+audit_laws s mark hs = record {
+  run = run_exactly place_of (IsDue s) mark hs;
+  sound = none_unsound place_of (IsDue s) mark hs;
+  one = one_unsound place_of (IsDue s) mark hs;
+}
+
+-- ---- causes
+
+-- it has no cause, or this one
+abbrev HasCauseAt : List Happening → ℕ → Type 0
+HasCauseAt before cause = (cause ≡ 0) ⊎ ((h : Happening) × (numbered before cause ≡ Some h))
+
+module _ (s : Scenario) (before : List Happening) where
+  -- what a switch has at hand was given by a record before, and by its number
+  has_number : {device : DeviceId} {vl : VlId} {t cause cycle : ℕ} → IsFounded place_of (IsDue s) before
+      → HasAccepted before device vl t cause cycle → HasCauseAt before cause
+  has_number founded has =
+      let found = by_number s before has.taken founded (accepted_in has) in
+      inr (has.taken, rw has.number found)
+
+  caused : (time : Units) (body : NoteBody) → IsFounded place_of (IsDue s) before → IsCaused s before time body
+      → HasCauseAt before (cause_of body)
+  caused time (notes.Event line what) founded h = inl refl
+  caused time (notes.Arrived device link cause clock) founded h = grind arith
+  caused time (notes.Permanent device link cause point verdict) founded h = inr (h.permanent.arrival, h.permanent.there)
+  caused time (notes.Compressed device opened at cycle members verdict) founded h = inl refl
+  caused time (notes.Sent device cycle) founded h = inl refl
+  caused time (notes.Corrected device cycle by adjustment) founded h = inl refl
+  caused time (notes.State device state cause whys.On) founded h = inr (h.2.1, h.2.2.there)
+  caused time (notes.State device state cause whys.Frame) founded h = inr (h.1.0, h.1.1.there)
+  caused time (notes.State device state cause whys.Correction) founded h = inr (h.2.3, h.2.4.there)
+  caused time (notes.State device state cause whys.SyncClique) founded h = inl h.1
+  caused time (notes.State device state cause whys.AsyncClique) founded h = inl h.1
+  caused time (notes.Left device link cause clock) founded h = inr (h.giving, h.there)
+  caused time (notes.Lost device link cause) founded h =
+      elim h [
+        | inl leaves ↦ inr (leaves.giving, leaves.there)
+        | inr (inl row) ↦ elim row.2.at_hand [ inl own ↦ inl own.1 | inr taken ↦ has_number founded taken.1 ]
+        | inr (inr send) ↦ inr (send.event, send.is.there)
+      ]
+  caused time (notes.TtSent device link cause vl cycle) founded h =
+      elim h.dispatches.at_hand [ inl own ↦ inl own.1 | inr taken ↦ has_number founded taken.1 ]
+  caused time (notes.Accepted device link cause vl cycle) founded h = inr (h.putting, h.there)
+  caused time (notes.Delivered device link cause vl cycle) founded h = inr (h.putting, h.there)
+  caused time (notes.Dropped device link cause reason) founded h = grind arith
+  caused time (notes.Clock device reading adjustment state) founded h = inl refl
+
+pub gap_law : GapLaw
+gap_law s mark hs sound = record {
+  lacks = λ x. let both = lacks_in_gaps place_of (IsDue s) hs x in (
+    λ l. let g = both.0 l in record { before = g.before; behind = g.rest; parts = g.parts; gap = g.gap },
+    λ g. both.1 (record { before = g.before; rest = g.behind; parts = g.parts; gap = g.gap }),
+  );
+  linked = λ before behind h e.
+      let x = sound before behind h e in
+      let front = front_founded place_of (IsDue s) before (h ∷ behind) (subst (IsFounded place_of (IsDue s)) e
+      (founded_of_sound place_of (IsDue s) mark hs sound)) in
+      caused s before h.note.time h.note.body front x.due.cause;
+}
+
+pub next_law : NextLaw
+next_law s mark hs x run = next_exactly (IsDue s) x run

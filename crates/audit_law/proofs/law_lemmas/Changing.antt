@@ -1,5 +1,6 @@
 -- What is owed of changes of state is due.
-use Rattle.audit_law.proofs.law_lemmas.Owing.{PaidAt, due_there, earlier_in, found_before, from_one, in_whole, next_is_due, next_of, timely, within}
+use Rattle.audit_law.proofs.law_lemmas.Founded
+use Founded.{PaidAt, due_there, earlier_in, found_before, from_one, in_whole, next_is_due, next_of, timely, within}
 use Rattle.audit_law.proofs.law_lemmas.Words.{◌+◌, ◌<◌, ◌∙◌, ◌∷◌, ◌≡◌, ChangesState, DeviceId, Happening, IsBefore, IsCaused, IsDue, IsDueIn, IsFounded}
 use Rattle.audit_law.proofs.law_lemmas.Words.{List, None, NoteBody, Option, Scenario, Some, State, Why, [], ahead, ap, arith, earlier, eqb-true}
 use Rattle.audit_law.proofs.law_lemmas.Words.{is_joined_by, is_turned_on_at, key, members_in, numbered, place_at, place_of, rank, refl, same_earlier}

@@ -1,6 +1,8 @@
 -- What is owed of correction points is due.
-use Rattle.audit_law.proofs.law_lemmas.{Determined.same_verdict, Words.{standing_at, state_after, subst, sym, time_of, units_of, up_to, ℕ, ℤ}}
-use Rattle.{audit_law.proofs.law_lemmas.Owing.{PaidAt, due_there, next_is_due, next_of, split_at, timely, within}, run_law.proofs.law.FirstPlaces.in_filter}
+use Rattle.audit_law.proofs.law_lemmas.{Words.{standing_at, state_after, subst, sym, time_of, units_of, up_to, ℕ, ℤ}}
+use Rattle.audit_law.proofs.law_lemmas.Founded
+use Founded.{PaidAt, due_there, next_is_due, next_of, same_verdict, split_at, timely, within}
+use Rattle.run_law.proofs.law.FirstDeliveries.{in_filter}
 use Rattle.audit_law.proofs.law_lemmas.Words.{◌&&◌, ◌++◌, ◌+ℤ◌, ◌+◌, ◌-ℤ◌, ◌-◌, ◌<◌, ◌==◌, ◌∙◌, ◌∷◌, ◌≡◌, ◌≤◌, AsyncClique, Bool, ComesToPoint, Corrected}
 use Rattle.audit_law.proofs.law_lemmas.Words.{DeviceId, Happening, Integrating, IsBefore, IsCaused, IsDue, IsDueIn, IsFounded, IsIn, IsSplit, List}
 use Rattle.audit_law.proofs.law_lemmas.Words.{Network, None, NoteBody, Option, Scenario, Some, SyncClique, Units, Verdict, []}

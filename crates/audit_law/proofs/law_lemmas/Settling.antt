@@ -1,6 +1,7 @@
 -- What is owed up to a time is told by the records up to then.
 use Rattle.audit_law.proofs.law_lemmas.{Arriving.{by_octets, same_standpoint}, Words.{place_of, rank, refl, sym, time_of, up_to, ℕ}}
-use Rattle.audit_law.proofs.law_lemmas.{Correcting.comes_by, Dispatching.{dispatches_by, sends_by}, Numbered.{by_number, number_is}, Ripening.permanent_by}
+use Rattle.audit_law.proofs.law_lemmas.{AllOwed.{dispatches_by, sends_by}, Correcting.comes_by}
+use Rattle.audit_law.proofs.law_lemmas.{Founded.{by_number, number_is}, Permanence.permanent_by}
 use Rattle.audit_law.proofs.law_lemmas.Words.{◌++◌, ◌+◌, ◌<◌, ◌∙◌, ◌∷◌, ◌≡◌, ◌≤◌, ArrivesAs, Bool, Debt, DeviceId, Happening, IsDue, IsFounded, IsIn}
 use Rattle.audit_law.proofs.law_lemmas.Words.{IsOwed, LinkId, List, NoteBody, Scenario, Some, VlId, and_right, append-nil, arith, earlier, false}
 use Rattle.audit_law.proofs.law_lemmas.Words.{false_from_ne_true, filter, filter-append, front_founded, heard_since_point, in_parts, inl, inr, ints}

@@ -9,7 +9,8 @@ pub use Rattle.drift_clock.specs.Reach.{IsReach}
 pub use Rattle.sync_state.specs.membership.Summary.{Summarizes}
 pub use Rattle.net_plan.specs.declared.{ids.{DeviceId.DeviceId, LinkId.LinkId, VlId.VlId}, network.Network.Network}
 pub use Rattle.tte_units.specs.declared.frames.pcf.Pcf.{Pcf}
-pub use Rattle.run_law.proofs.law.FirstPlaces.{IsSplit, front_founded, none_kept, numbered_front, numbered_in, same_earlier, split}
+pub use Rattle.run_law.proofs.law.FirstDeliveries.{IsSplit, front_founded, none_kept, numbered_front, numbered_in}
+pub use Rattle.run_law.proofs.law.FirstDeliveries.{same_earlier, split}
 pub use Rattle.run_law.proofs.records.Order.{ahead, is_there}
 pub use Rattle.run_law.proofs.runs.{Lacking.behind_first, Places.{chain, in_parts, in_right, never_self, parted}}
 pub use Rattle.run_law.specs.control.{Corrections.{correction_value, integration_cycle, recorded_cycle}, Leaving.Gives, Permanence.ripe_as}

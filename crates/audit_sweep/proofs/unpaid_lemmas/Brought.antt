@@ -1,6 +1,8 @@
 -- The first of what records bring that is not paid: of one record, and of one record after another.
-use Rattle.audit_law.proofs.law_lemmas.Earliest.{EitherOf, IsOfFirst, first_of_either, first_of_more, first_of_one}
-use Rattle.audit_law.{proofs.{events_lemmas.Valuing.next_of, law_lemmas.Owing.from_one}, specs.law.FirstDebts.earlier_of}
+use Rattle.audit_law.{specs.law.FirstDebts.earlier_of}
+use Rattle.audit_law.proofs.{events_lemmas.Clocks.next_of}
+use Rattle.audit_law.proofs.law_lemmas.{FirstUnpaid.{EitherOf, IsOfFirst, first_of_either, first_of_more, first_of_one}}
+use Rattle.audit_law.proofs.law_lemmas.{Founded.from_one}
 use Rattle.audit_sweep.proofs.unpaid_lemmas.{PaidChanges.changes_of_records, Words.{numbered, numbered_within, refl, subst, sym, ℕ}}
 use Rattle.audit_sweep.proofs.unpaid_lemmas.Words.{◌+◌, ◌≡◌, ◌≤◌, Debt, Happening, IsDue, IsFounded, IsLeavingDebtOf, IsOwed, IsRecordDebt, IsRecordDebtOf}
 use Rattle.audit_sweep.proofs.unpaid_lemmas.Words.{List, Option, Scenario, Some, TellsFirst, TellsUnpaid, ap, arith, inl, inr, length, place_of}

@@ -1,5 +1,6 @@
 -- The clocks that are owed at the end.
-use Rattle.{audit_law.proofs.law_lemmas.EndingClocks.place_of_clock, audit_sweep.specs.unpaid.Clocks.{IsOnlyEnd, IsUntold, IsUntoldDevice}}
+use Rattle.audit_law.proofs.law_lemmas.EventDebts.{place_of_clock}
+use Rattle.audit_sweep.specs.unpaid.Clocks.{IsOnlyEnd, IsUntold, IsUntoldDevice}
 use Rattle.{audit_law.specs.law.{EndClocks.IsClockOf, Owed.falls_due}, audit_sweep.specs.unpaid.Sorts.IsClockDebt, net_plan.proofs.SameIds.same_device}
 use Rattle.audit_sweep.proofs.unpaid_lemmas.Words.{◌+◌, ◌<◌, ◌∙◌, ◌∷◌, ◌≡◌, ◌≤◌, Debt, DeviceId, Happening, HasClockAt, IsOwed, IsPaid, List, None, NoteBody, Pays}
 use Rattle.audit_sweep.proofs.unpaid_lemmas.Words.{Scenario, Some, TellsFirst, [], ap, arith, cases_lt, refl, subst, sym, time_of, ℕ}

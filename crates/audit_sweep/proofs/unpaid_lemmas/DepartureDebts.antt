@@ -1,8 +1,9 @@
 -- The leavings that are owed, and what pays them.
 use Rattle.{audit_law.proofs.law_lemmas.Departing.{departs_in_whole, departure_law, record_place, same_place}, audit_sweep.specs.records.wires.Departings.giver}
-use Rattle.{audit_law.proofs.law_lemmas.Earliest.IsOfFirst, audit_sweep.proofs.records_lemmas.wires_lemmas.Givers.given_within}
+use Rattle.audit_law.proofs.law_lemmas.FirstUnpaid.{IsOfFirst}
+use Rattle.audit_sweep.proofs.{records_lemmas.wires_lemmas.Wires.{given_within, giver_is}}
+use Rattle.audit_sweep.proofs.{unpaid_lemmas.Payers.paid_at_place}
 use Rattle.audit_law.specs.law.Departures.{IsDueByLeaving, OwesDeparture, TellsDeparture, leaves_at, leaving_record}
-use Rattle.audit_sweep.proofs.{records_lemmas.wires_lemmas.LeavingTimes.giver_is, unpaid_lemmas.Payers.paid_at_place}
 use Rattle.audit_sweep.proofs.unpaid_lemmas.Words.{◌↔◌, ◌∙◌, ◌≡◌, ◌≤◌, Debt, DeviceId, Happening, IsDue, IsFounded, IsIn, IsLeavingDebtOf, IsOwed, IsPaid, KeptRecord}
 use Rattle.audit_sweep.proofs.unpaid_lemmas.Words.{LinkId, List, NoteBody, Pays, Scenario, Some, ap, device_named, length, numbered}
 use Rattle.audit_sweep.proofs.unpaid_lemmas.Words.{numbered_in, place_of, refl, same_some, subst, sym, time_of, true, ℕ}

@@ -1,7 +1,7 @@
 -- What pays the debts of losses.
 use Rattle.audit_sweep.proofs.unpaid_lemmas.{Payers.payer_due, Words.{cause_of, numbered_within, paid_by, place_of, refl, sym, true, ℕ}}
 use Rattle.audit_sweep.proofs.unpaid_lemmas.Words.{◌∙◌, ◌≡◌, Happening, IsDue, IsFounded, IsMarked, IsPaid, List, NoteBody, Paid, Pays, Scenario, ap, arith}
-use Rattle.audit_law.{proofs.law_lemmas.LosingSends.loss_law, specs.law.LostSends.{IsDueBySend, OwesLoss, TellsLoss}}
+use Rattle.audit_law.{proofs.law_lemmas.EventDebts.loss_law, specs.law.LostSends.{IsDueBySend, OwesLoss, TellsLoss}}
 use Rattle.audit_law.specs.law.Owed as debts
 use Rattle.run_law.specs.declared.note.NoteBody.TheVariants as notes
 

@@ -1,5 +1,6 @@
 -- What pays the debts of permanences.
-use Rattle.audit_law.{proofs.law_lemmas.Ripening.permanence_law, specs.law.Permanences.{IsDueByPermanence, OwesPermanence, TellsPermanence, permanence_record}}
+use Rattle.audit_law.{proofs.law_lemmas.Permanence.permanence_law}
+use Rattle.audit_law.{specs.law.Permanences.{IsDueByPermanence, OwesPermanence, TellsPermanence, permanence_record}}
 use Rattle.audit_sweep.proofs.unpaid_lemmas.Words.{numbered_within, paid_by, place_of, refl, same_some, subst, sym, time_of, true, ℕ}
 use Rattle.{audit_sweep.proofs.unpaid_lemmas.Payers.payer_due, drift_clock.specs.Reach.IsReach, net_plan.specs.declared.network.Network.Network}
 use Rattle.audit_sweep.proofs.unpaid_lemmas.Words.{◌∙◌, ◌≡◌, DeviceId, Happening, IsDue, IsFounded, IsMarked, IsPaid, IsPaidSo, LinkId, List, None, NoteBody}

@@ -1,7 +1,7 @@
 -- When debts fall due, and what pays them.
 use Rattle.audit_sweep.proofs.unpaid_lemmas.Words.{◌↔◌, ◌∙◌, ◌≡◌, Happening, IsDue, IsFounded, IsIn, IsPaid, List, Scenario, Some, numbered, numbered_in}
 use Rattle.audit_sweep.{proofs.unpaid_lemmas.Words.{place_of, subst, sym, ℕ}, specs.records.{places.Placing.HasRecordAt, wires.Signals.ShowsByCause}}
-use Rattle.audit_law.proofs.law_lemmas.{Debts.{due_by_part, due_in, one_due}, Determined.due_is_determined, Numbered.founded_at}
+use Rattle.audit_law.proofs.law_lemmas.{Founded.{due_is_determined, founded_at}, Sound.{due_by_part, due_in, one_due}}
 use Rattle.audit_law.specs.law.{DebtLaws.AreOwed, Debts.{IsDueIn, IsPartOf}}
 
 -- a record that pays a debt that is owed is due by it

@@ -5,7 +5,7 @@ pub use Rattle.std.proofs.lemmas.Bool.{both_ways, cases_lt}
 pub use Rattle.audit_law.specs.law.{Debts.IsPaid, DueRecords.IsDue, FirstDebts.{TellsFirst, TellsUnpaid}, Owed.{Debt, IsOwed, Pays}}
 pub use Rattle.audit_sweep.specs.declared.records.kept.KeptRecord.{KeptRecord}
 pub use Rattle.net_plan.specs.declared.{event.Event.Event, ids.{DeviceId.DeviceId, LinkId.LinkId}}
-pub use Rattle.run_law.proofs.law.FirstPlaces.{numbered_in, numbered_within}
+pub use Rattle.run_law.proofs.law.FirstDeliveries.{numbered_in, numbered_within}
 pub use Rattle.run_law.specs.declared.note.NoteBody.{NoteBody}
 pub use Rattle.run_law.specs.records.{Causes.cause_of, Happenings.{Happening, numbered, time_of}, Order.IsIn, Ranks.place_of}
 pub use Rattle.run_law.specs.runs.Runs.{IsFounded}

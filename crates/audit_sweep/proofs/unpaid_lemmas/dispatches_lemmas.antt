@@ -1,5 +1,1 @@
-pub mod Hands
-pub mod Places
 pub mod RowDebts
-pub mod RowFacts
-pub mod RowFrames

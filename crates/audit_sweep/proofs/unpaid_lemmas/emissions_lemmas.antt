@@ -1,7 +1,3 @@
-pub mod Ascending
-pub mod Joining
+pub mod FirstUnpaid
 pub mod Owing
-pub mod Paying
-pub mod Walking
-pub mod Entries
 pub mod Examples

@@ -1,9 +1,4 @@
-pub mod Paying
-pub mod Joining
-pub mod Sendings
-pub mod FirstSendings
 pub mod Telling
+pub mod FirstUnpaid
 pub mod Fronts
-pub mod PointTimes
-pub mod FirstPoints
 pub mod Words

@@ -1,3 +1,1 @@
-pub mod Growing
-pub mod Numbered
-pub mod Further
+pub mod Keeping

@@ -1,17 +1,151 @@
--- There is one storm of a seed.
-use Rattle.fault_hypothesis.{proofs.storm_lemmas.Masters.master_is_end, specs.storm.Choosing.{channel_of, choice_of, hold_of, link_of, way_of, wire_of}}
-use Rattle.fault_hypothesis.{proofs.storm_lemmas.SameOctets.same_octets, specs.declared.storm.draw.Choice.TheVariants.{Cut, Heal, Hold, On, Rate, Strike, Wire}}
-use Rattle.fault_hypothesis.{proofs.storm_lemmas.Storms.storms_within, specs.storm.Events.{AreStormEvents, IsChosen, IsEventOf, IsStormEvent}}
-use Rattle.fault_hypothesis.{proofs.storm_lemmas.Within.{any_split, broken_is_master}, specs.storm.Striking.{IsLastMaster, SendsForged, Strikes, forged}}
-use Rattle.{fault_hypothesis.specs.declared.storm.draw.{Choice.Choice, StormDraw.StormDraw}, net_plan.specs.declared.{ids.DeviceId.DeviceId, network.Network.Network}}
-use Rattle.{fault_hypothesis.specs.storm.Laws.StormIsOne, run_law.specs.scenario.Faults.{Breaks, IsBroken}}
-use Rattle.run_law.proofs.scenario.Devices.{within_front}
-use Rattle.{net_plan.specs.{Places.link_at, declared.{event.{Event.Event, What.What}}}, tte_units.specs.declared.units.Units.Units}
-use Rattle.{schedule_tables.specs.Rules.KeepsRules, std.{proofs.lemmas.Bool.cases_order, specs.{List.Any, Prelude.IsSomeAnd}}}
-use Rattle.{run_law.specs.declared.outside.Outside.TheVariants.SecondBreak, schedule_tables.specs.declared.rule.Rule.TheVariants.Connections}
-use Rattle.{run_law.specs.scenario.Hypothesis.{AreWithinHypothesis}, tte_units.proofs.general_lemmas.Lists.{any_behind, any_first, any_of}}
-use Rattle.std.proofs.Common.{◌++◌, ◌∙◌, ◌∷◌, ◌≡◌, ◌⊎◌, List, None, Option, Some, [], ap, append_assoc, arith, inl, inr, length, refl, subst, sym, ℕ}
+-- What the events of a storm draw and send is one, so there is one storm of a seed.
+use Rattle.std.{specs.{List.Any, Prelude.{IsSomeAnd, MatchOption, slice_index}}}
+use Rattle.std.proofs.{lemmas.{Bool.{cases_lt, cases_order}, List.{ext_get_or, get_or-drop}}}
+use Rattle.std.proofs.Common
+use Common.{◌*◌, ◌++◌, ◌+◌, ◌-◌, ◌<◌, ◌^◌, ◌∙◌, ◌∷◌, ◌≡◌, ◌≤◌, ◌⊎◌, List, None, Option, Some, [], ap, append_assoc}
+use Common.{arith, drop, inl, inr, length, refl, subst, suc, sym, zero, ℕ}
+use Rattle.byteorder.specs.{Endian.big_from, Numbers.big_from-lt}
+use Rattle.fault_hypothesis.proofs.storm_lemmas.{Masters.master_is_end}
+use Rattle.fault_hypothesis.proofs.storm_lemmas.{Storms.{any_split, broken_is_master, storms_within}}
+use Rattle.fault_hypothesis.specs.declared.storm.draw.{StormDraw.StormDraw}
+use Rattle.fault_hypothesis.specs.declared.storm.draw.Choice.{Choice}
+use Rattle.fault_hypothesis.specs.declared.storm.draw.Choice.{TheVariants.{Cut, Heal, Hold, On, Rate, Strike, Wire}}
+use Rattle.fault_hypothesis.specs.storm.{Events.{AreStormEvents, IsChosen, IsDrawn, IsEventOf, IsStormEvent}}
+use Rattle.fault_hypothesis.specs.storm.{Laws.StormIsOne, Striking.{IsLastMaster, SendsForged, Strikes, forged}}
+use Rattle.fault_hypothesis.specs.storm.Choosing
+use Choosing.{channel_of, choice_of, device_of, hold_of, link_of, rate_of, way_of, wire_of}
+use Rattle.hex.specs.Hex.{IsBytes}
+use Rattle.net_plan.specs.{Places.link_at}
+use Rattle.net_plan.specs.declared.{event.{Event.Event, What.What}, ids.{DeviceId.DeviceId, LinkId.LinkId}}
+use Rattle.net_plan.specs.declared.{network.Network.Network, tables.{Link.Link, Way.Way}}
+use Rattle.pcf_codec.specs.{Fields.field, Spelling.{IsPadding, Spells}}
+use Rattle.run_law.{proofs.scenario.Devices.within_front}
+use Rattle.run_law.specs.{declared.outside.Outside.TheVariants.SecondBreak}
+use Rattle.run_law.specs.{scenario.{Faults.{Breaks, IsBroken}, Hypothesis.AreWithinHypothesis}}
+use Rattle.schedule_tables.specs.{Rules.KeepsRules, declared.rule.Rule.TheVariants.Connections}
+use Rattle.tte_units.{proofs.general_lemmas.{Lists.{any_behind, any_first, any_of}, Naturals.same_heads}}
+use Rattle.tte_units.{specs.declared.{frames.pcf.Pcf.Pcf, rates.Ppb.Ppb, units.Units.Units}}
 use Rattle.net_plan.specs.declared.event.What.TheVariants as kinds
+
+-- ---- what the kinds of events draw
+
+-- what is chosen is drawn where the words choose its kind
+pub drawn_by : (network : Network) (before : List Event) (time : Units) (draw : StormDraw) (choice : Choice) (what : What) → choice ≡ choice_of draw.kind
+    → IsChosen network before time draw choice what → IsDrawn network before time draw what
+drawn_by network before time draw choice what chosen is = rw chosen at is
+
+module _ (network : Network) (before : List Event) (time : Units) (draw : StormDraw) (link : LinkId) (way : Way)
+    (delay : Units) (found : Link) (link_is : link ≡ link_of network draw) (at : link_at network link ≡ Some found)
+    (way_is : way ≡ way_of draw) where
+  -- the wire delay of a link
+  pub wire_drawn : delay ≡ wire_of found draw → IsChosen network before time draw Wire (kinds.Wire link way delay)
+  wire_drawn delay_is =
+      let there : link_at network (link_of network draw) ≡ Some found = ap (link_at network) (sym link_is) ∙ at in
+      let same : kinds.Wire link way delay ≡ kinds.Wire (link_of network draw) (way_of draw) (wire_of found draw) =
+      cc in
+      rw there same
+
+  -- the hold of a link
+  pub hold_drawn : delay ≡ hold_of found draw → IsChosen network before time draw Hold (kinds.Hold link way delay)
+  hold_drawn delay_is =
+      let there : link_at network (link_of network draw) ≡ Some found = ap (link_at network) (sym link_is) ∙ at in
+      rw there cc
+
+-- the kinds that no link's own numbers bound
+pub rate_drawn : (network : Network) (before : List Event) (time : Units) (draw : StormDraw) (device : DeviceId) (rate : Ppb)
+    → device ≡ device_of network draw → rate ≡ rate_of network draw → IsChosen network before time draw Rate (kinds.Rate device rate)
+rate_drawn network before time draw device rate device_is rate_is = cc
+
+module _ (network : Network) (before : List Event) (time : Units) (draw : StormDraw) (link : LinkId) (way : Way)
+    (link_is : link ≡ link_of network draw) (way_is : way ≡ way_of draw) where
+  pub cut_drawn : IsChosen network before time draw Cut (kinds.Cut link way)
+  cut_drawn = cc
+
+  pub heal_drawn : IsChosen network before time draw Heal (kinds.Heal link way)
+  heal_drawn = cc
+
+-- where a value is there and has one property, it has each that follows
+pub match_some : {X : Type 0} (o : Option X) (P Q : X → Type 0) → ((x : X) → P x → Q x) → MatchOption o ⊥ P → MatchOption o ⊥ Q
+match_some None P Q follows is = is
+match_some (Some x) P Q follows is = follows x is
+
+-- ---- two spellings of one frame, of bytes and with zeros in the padding, are the same octets
+
+same_tails : (x y p r s : ℕ) → x ≡ y → x * p + r ≡ y * p + s → r ≡ s
+same_tails x y p r s heads same = let tops = ap (λ b. b * p) heads in omega arith
+
+-- bytes that spell one number are equal
+same_bytes : (n i : ℕ) (xs ys : List ℕ) → IsBytes xs → IsBytes ys → big_from i n xs ≡ big_from i n ys → (k : ℕ) → i ≤ k → k < i + n
+    → slice_index xs k ≡ slice_index ys k
+same_bytes zero i xs ys small other same k low high = absurd (omega arith)
+same_bytes (suc n) i xs ys small other same k low high =
+    let less_x = big_from-lt (suc i) n xs small in
+    let less_y = big_from-lt (suc i) n ys other in
+    let heads = same_heads (slice_index xs i) (slice_index ys i) (256 ^ n) (big_from (suc i) n xs) (big_from (suc i) n ys) less_x less_y same in
+    let tails = same_tails (slice_index xs i) (slice_index ys i) (256 ^ n) (big_from (suc i) n xs) (big_from (suc i) n ys) heads same in
+    elim (cases_order k i) [
+      | inl here ↦ rw here heads
+      | inr (inl less) ↦ absurd (omega arith)
+      | inr (inr more) ↦ same_bytes n (suc i) xs ys small other tails k (omega arith) (omega arith)
+    ]
+
+bytes_drop : (place : ℕ) (xs : List ℕ) → IsBytes xs → IsBytes (drop place xs)
+bytes_drop place xs small i = rw (get_or-drop place xs i 0) (small (place + i))
+
+-- the octets of equal fields are equal
+same_field : (place n : ℕ) (xs ys : List ℕ) → IsBytes xs → IsBytes ys → field place n xs ≡ field place n ys → (k : ℕ) → place ≤ k → k < place + n
+    → slice_index xs k ≡ slice_index ys k
+same_field place n xs ys small other same k low high =
+    let moved = same_bytes n 0 (drop place xs) (drop place ys) (bytes_drop place xs small) (bytes_drop place ys other) same (k - place) (omega arith)
+    (omega arith)
+    in
+    let back : k ≡ place + (k - place) = omega arith in
+    rw back (sym (get_or-drop place xs (k - place) 0) ∙ moved ∙ get_or-drop place ys (k - place) 0)
+
+-- two spellings with zeros in the padding are one
+same_octets : {xs ys : List ℕ} {p : Pcf} → Spells xs p → Spells ys p → IsBytes xs → IsBytes ys
+    → ((i : ℕ) → IsPadding i → slice_index xs i ≡ 0) → ((i : ℕ) → IsPadding i → slice_index ys i ≡ 0) → xs ≡ ys
+same_octets {xs} {ys} x y small other zeros none =
+    ext_get_or 0 xs ys (x.size ∙ sym y.size)
+    (λ i within.
+    elim (cases_lt i 14) [
+      | inl a ↦ elim (cases_lt i 6) [
+        | inl b ↦ same_field 0 6 xs ys small other (x.destination ∙ sym y.destination) i (omega arith) (omega arith)
+        | inr b ↦ elim (cases_lt i 12) [
+          | inl d ↦ same_field 6 6 xs ys small other (x.source ∙ sym y.source) i b (omega arith)
+          | inr d ↦ same_field 12 2 xs ys small other (x.ethertype ∙ sym y.ethertype) i d (omega arith)
+        ]
+      ]
+      | inr a ↦ elim (cases_lt i 26) [
+        | inl b ↦ elim (cases_lt i 18) [
+          | inl d ↦ same_field 14 4 xs ys small other (x.cycle ∙ sym y.cycle) i a (omega arith)
+          | inr d ↦ elim (cases_lt i 22) [
+            | inl e ↦ same_field 18 4 xs ys small other (x.members ∙ sym y.members) i d (omega arith)
+            | inr e ↦ x.reserved i (inl (e, omega arith)) ∙ sym (y.reserved i (inl (e, omega arith)))
+          ]
+        ]
+        | inr b ↦ elim (cases_lt i 29) [
+          | inl d ↦ elim (cases_lt i 27) [
+            | inl e ↦ let here : i ≡ 26 = omega arith in rw here (x.priority ∙ sym y.priority)
+            | inr e ↦ elim (cases_lt i 28) [
+              | inl f ↦ let here : i ≡ 27 = omega arith in rw here (x.domain ∙ sym y.domain)
+              | inr f ↦ let here : i ≡ 28 = omega arith in rw here (x.kind ∙ sym y.kind)
+            ]
+          ]
+          | inr d ↦ elim (cases_lt i 34) [
+            | inl e ↦ x.reserved i (inr (d, omega arith)) ∙ sym (y.reserved i (inr (d, omega arith)))
+            | inr e ↦ elim (cases_lt i 42) [
+              | inl f ↦ same_field 34 8 xs ys small other (x.clock ∙ sym y.clock) i e (omega arith)
+              | inr f ↦
+                  let low : i < 60 = omega (arith, x.size) in
+                  zeros i (f, low) ∙ sym (none i (f, low))
+            ]
+          ]
+        ]
+      ]
+    ])
+
+-- ---- there is one storm of a seed
 
 -- what holds of some element of two lists holds of one of the first or of the second
 any_either : {X : Type 0} (P : X → Type 0) (xs ys : List X) → Any P (xs ++ ys) → Any P xs ⊎ Any P ys

@@ -1,22 +1,105 @@
--- The frames that a picture shows as taken came in their windows.
-use Rattle.{lens.proofs.draw_lemmas.{Asking.{in_shown, struck_other}, Falls.no_later}, run_law.specs.timed.Receptions.{ArrivesAs, arrival_of, last_taken}}
-use Rattle.{lens.proofs.draw_lemmas.Clocks.{has_happening, share_is}, lens_svg.specs.Windows.{came_at, came_by, came_of, tick_in, window_at, window_by}, net_plan.specs.Places.row_of}
-use Rattle.{lens.proofs.draw_lemmas.Runs.pictures_show_runs, std.specs.Prelude.{◌+ℤ◌, ◌-ℤ◌, if◌then◌else◌, nat_lt, option_and_then, option_map, unsigned_abs}}
-use Rattle.{lens.specs.draw.Picture.clocks_of, schedule_tables.specs.Entries.IsEntry, tte_audit.specs.Report.scenario_of, tte_reports.specs.Reports.IsReportOf}
-use Rattle.{lens.specs.draw.WindowLaws.{PicturesShowWindows, ShowsWindow}, schedule_tables.specs.Windows.{arrival_of as arrival_place, tolerance, window_of}}
-use Rattle.{lens_svg.proofs.Windows.window_is, lens_why.proofs.Rows.row_is_one, run_law.specs.records.Order.IsIn, std.proofs.lemmas.{Int.ints, List.append-nil}}
-use Rattle.{lens_svg.specs.{Bodies.{look_of, scene_of}, declared.mark.Mark.Mark}, std.proofs.{Common.{refl, subst, sym, ℕ, ℤ}, lemmas.Bool.Decides.nat_tests}}
-use Rattle.{lens_svg.specs.Clocks.share, net_plan.specs.Ranges.IsInRange}
-use Rattle.{lens_svg.specs.Laws.{AreMarksOf, IsMarkOf, shown}, net_plan.specs.declared.{ids.{DeviceId.DeviceId, LinkId.LinkId}, network.Network.Network}}
-use Rattle.{lens_svg.specs.Sketching.{moment, plan_of}, run_law.specs.scenario.Scenarios.Scenario, tte_units.specs.{Amount.amount, declared.units.Units.Units}}
-use Rattle.{lens_svg.specs.{Views.View, declared.mark.Look.TheVariants.Taken}, schedule_tables.specs.declared.{entry.Entry.Entry, window.Window.Window}}
-use Rattle.{net_plan.specs.declared.ids.VlId.VlId, run_law.specs.{declared.note.Note.Note, runs.DueRecords.IsCaused}, schedule_tables.specs.Rules.KeepsRules}
-use Rattle.{precision_law.proofs.traffic_lemmas.delivery.{Faultless.{TakesIn, finds_none}, Taken.never_control}, std.proofs.lemmas.List.Elements.filter-append}
-use Rattle.run_law.{proofs.runs.{NetworkRuns.same_notes, Places.{in_right, parted}}, specs.{declared.steps.Arrival.Arrival, device.States.adjustment_after}}
-use Rattle.{run_law.specs.{control.Wires.{Signal, control, timed}, declared.note.NoteBody.NoteBody}, tte_units.proofs.general_lemmas.Integers.not_below}
-use Rattle.run_law.specs.{device.Standpoints.{clock_of, offset_in_cycle, standpoint}, records.Happenings.{Happening, earlier, happenings, time_of}}
-use Rattle.std.proofs.Common.{◌*◌, ◌++◌, ◌+◌, ◌/◌, ◌<◌, ◌∙◌, ◌∷◌, ◌≡◌, ◌≤ℤ◌, ◌≤◌, ◌⊎◌, Bool, List, Some, [], ap, append_assoc, arith, false, inl, inr, pos}
+-- Where in their windows the frames of a report came, as its marks and its picture show it.
+use Rattle.std.proofs.Common
+use Common.{◌*◌, ◌++◌, ◌+◌, ◌/◌, ◌<◌, ◌^◌, ◌∙◌, ◌∷◌, ◌≡◌, ◌≤ℤ◌, ◌≤◌, ◌⊎◌, Bool, List, Option, Some, [], ap}
+use Common.{append_assoc, arith, false, get_or, inl, inr, length, pos, refl, subst, sym, take, true, ℕ, ℤ}
+use Rattle.std.proofs.lemmas.{Bool.Decides.nat_tests, Int.ints}
+use Rattle.std.proofs.lemmas.List.{Elements.{All-cons, All-nil, filter-append, filter_map-append}, append-nil}
+use Rattle.std.proofs.lemmas.List.{take_more}
+use Rattle.std.specs.{List.cons_option}
+use Rattle.std.specs.Prelude
+use Prelude.{if◌then◌else◌, ◌+ℤ◌, ◌-ℤ◌, All, filter_map, nat_lt, option_and_then, option_map, unsigned_abs}
+use Rattle.lens.{proofs.draw_lemmas.{Keeping.{no_later, pictures_show_runs}, Reading.{has_happening, share_is}}}
+use Rattle.lens.{specs.draw.{Asking.IsAskable, Picture.clocks_of, WindowLaws.{PicturesShowWindows, ShowsWindow}}}
+use Rattle.lens_svg.{proofs.Windows.window_is}
+use Rattle.lens_svg.specs.{Bodies.{look_of, scene_of, struck_look}, Clocks.share, Laws.{AreMarksOf, IsMarkOf, shown}}
+use Rattle.lens_svg.specs.{Sketching.{is_drawn, moment, plan_of}, Views.View}
+use Rattle.lens_svg.specs.{Windows.{came_at, came_by, came_of, tick_in, window_at, window_by}}
+use Rattle.lens_svg.specs.{declared.mark.{Look.TheVariants.Taken, Mark.Mark}}
+use Rattle.lens_why.{proofs.{Frames.row_is_one, Telling.timely_in}, specs.Records.IsTimely}
+use Rattle.net_plan.specs.{Belonging.HasDevice, Places.row_of, Ranges.IsInRange}
+use Rattle.net_plan.specs.declared.{event.What.What, ids.{DeviceId.DeviceId, LinkId.LinkId, VlId.VlId}}
+use Rattle.net_plan.specs.declared.{network.Network.Network}
+use Rattle.precision_law.proofs.traffic_lemmas.delivery.{Faultless.{TakesIn, finds_none}, Taken.never_control}
+use Rattle.report_text.specs.Ranges.{IsBodyOf}
+use Rattle.run_law.{proofs.runs.{NetworkRuns.same_notes, Places.{in_right, parted}}}
+use Rattle.run_law.specs.{control.Wires.{Signal, control, timed}}
+use Rattle.run_law.specs.{declared.{note.{Note.Note, NoteBody.NoteBody}, steps.Arrival.Arrival}}
+use Rattle.run_law.specs.{device.{Standpoints.{clock_of, offset_in_cycle, standpoint}, States.adjustment_after}}
+use Rattle.run_law.specs.{records.{Happenings.{Happening, earlier, happenings, time_of}, Order.IsIn}}
+use Rattle.run_law.specs.{runs.DueRecords.IsCaused, scenario.Scenarios.Scenario}
+use Rattle.run_law.specs.{timed.Receptions.{ArrivesAs, arrival_of, last_taken}}
+use Rattle.schedule_tables.specs.{Entries.IsEntry, Rules.KeepsRules}
+use Rattle.schedule_tables.specs.{Windows.{arrival_of as arrival_place, tolerance, window_of}}
+use Rattle.schedule_tables.specs.{declared.{entry.Entry.Entry, window.Window.Window}}
+use Rattle.tte_audit.specs.Report.{scenario_of}
+use Rattle.tte_reports.specs.Reports.{IsReportOf}
+use Rattle.tte_units.{proofs.general_lemmas.Integers.not_below, specs.{Amount.amount, declared.units.Units.Units}}
+use Rattle.net_plan.specs.declared.event.What.TheVariants as events
 use Rattle.run_law.specs.declared.note.NoteBody.TheVariants as notes
+
+-- ---- of the marks of a report it can be asked where in their windows their frames came
+
+-- ---- one more frame
+
+module _ {X Y : Type 0} (h : X → Option Y) (all listed : List X) (same : listed ≡ all) (i : ℕ) (d : X) (within : i < length listed) where
+  one_more : filter_map h (take (i + 1) all) ≡ filter_map h (take i all) ++ cons_option (h (get_or listed i d)) []
+  one_more =
+      let inside = subst (λ xs. i < length xs) same within in
+      ap (filter_map h) (take_more all i d inside) ∙ filter_map-append h (take i all) (get_or all i d ∷ [])
+      ∙ ap (λ (xs : List X). filter_map h (take i all) ++ cons_option (h (get_or xs i d)) []) (sym same)
+
+  pub with_next : (ys zs : List Y) (o : Option Y) → ys ≡ filter_map h (take i all) → o ≡ h (get_or listed i d) → zs ≡ ys ++ cons_option o []
+      → zs ≡ filter_map h (take (i + 1) all)
+  with_next ys zs o before own next =
+      next ∙ ap (λ (ks : List Y). ks ++ cons_option o []) before ∙ ap (λ (p : Option Y). filter_map h (take i all) ++ cons_option p []) own ∙ sym one_more
+
+-- ---- the marks of a report
+
+struck_other : (what : What) (link : LinkId) (vl : VlId) → struck_look what ≡ Taken link vl → ⊥
+struck_other (events.Break d) link vl e = cc
+struck_other what link vl e = cc
+
+module _ (network : Network) where
+  taken_there : (body : NoteBody) (link : LinkId) (vl : VlId) → IsBodyOf network body → look_of body ≡ Taken link vl
+      → HasDevice network (scene_of network body)
+  taken_there (notes.Accepted d l cause v cycle) link vl of look = of.0
+  taken_there (notes.Delivered d l cause v cycle) link vl of look = of.0
+  taken_there (notes.Event line what) link vl of look = absurd (struck_other what link vl look)
+  taken_there body link vl of look = absurd cc
+
+  askable : {mark : Mark} {note : Note} → IsMarkOf network mark note → IsTimely network note → IsAskable network mark
+  askable {note} is timely link vl look =
+      let device = taken_there note.body link vl timely.of_network (sym is.look ∙ look) in
+      let soon = timely.soon in (
+        subst (HasDevice network) (sym is.device) device,
+        subst (λ t. t ≤ 2 ^ 60) (sym is.time) soon,
+      )
+
+  all_askable : (marks : List Mark) (ns : List Note) → AreMarksOf network marks ns
+      → ((n : Note) → IsIn n ns → IsTimely network n) → All (IsAskable network) marks
+  all_askable [] [] are timely = All-nil (IsAskable network)
+  all_askable [] (n ∷ ns) are timely = absurd are
+  all_askable (m ∷ ms) [] are timely = absurd are
+  all_askable (m ∷ ms) (n ∷ ns) are timely =
+      All-cons (IsAskable network) m ms (askable are.0 (timely n (inl refl)))
+      (all_askable ms ns are.1 (λ k i. timely k (inr i)))
+
+in_shown : (view : View) (ns : List Note) (n : Note) → IsIn n (shown view ns) → IsIn n ns
+in_shown view [] n i = absurd i
+in_shown view (m ∷ ns) n i = by (in_shown view ns n) (is_drawn view m) i
+  where
+    by : (IsIn n (shown view ns) → IsIn n ns) → (b : Bool) → IsIn n (if b then m ∷ shown view ns else shown view ns) → IsIn n (m ∷ ns)
+    by rest true (inl same) = inl same
+    by rest true (inr there) = inr (rest there)
+    by rest false there = inr (rest there)
+
+pub report_askable : {network : Network} (view : View) {octets : List ℕ} {ns : List Note} {end : Units}
+    → IsReportOf network octets ns end → All (IsAskable network) (plan_of network view ns).marks
+report_askable {network} view {octets} {ns} {end} of =
+    all_askable network (plan_of network view ns).marks (shown view ns) (pictures_show_runs network view octets ns end of).marks
+    (λ n i. timely_in of n (in_shown view ns n i))
+
+-- ---- the frames that a picture shows as taken came in their windows
 
 -- ---- the record of a mark
 

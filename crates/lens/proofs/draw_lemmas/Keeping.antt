@@ -1,22 +1,72 @@
--- Which records a picture of one thing keeps.
+-- Which records of a report, in order of time, a picture of one thing or of one part keeps.
+use Rattle.std.proofs.Common
+use Common.{if◌then◌else◌, ◌++◌, ◌+◌, ◌-◌, ◌<◌, ◌==◌, ◌∙◌, ◌∷◌, ◌≡◌, ◌≤◌, ◌⊎◌, Bool, List, Option, Some, [], ap}
+use Common.{append_assoc, arith, false, inl, inr, length, length-append, refl, subst, suc, sym, true, zero, ℕ}
+use Rattle.std.proofs.lemmas.{Bool.{Decides.nat_tests, eq-eqb, eqb-true, false≢true}}
+use Rattle.std.proofs.lemmas.{List.{get_or-set_other, get_or-set_same, length-set}}
+use Rattle.std.proofs.lemmas.{Option.{slice_get-map, unwrap_or-slice_get}}
+use Rattle.std.specs.{Option.option_map_or}
+use Rattle.std.specs.{Prelude.{◌||◌, fold, map, nat_lt, option_map, slice_get, slice_set, take, unwrap_or}}
 use Rattle.audit_law.specs.law.Linked.{HasCause}
-use Rattle.lens_latency.proofs.Followings.{report_linked}
-use Rattle.lens_why.proofs.{Comings.comes_from_earlier, Notes.{founded_of, note_numbered}}
-use Rattle.lens.specs.draw.Keeping.{AreFlags, AreOwn, HasSending, IsKept, IsOf, IsSending, Tells, cause_at, glance_at, is_sending, own_flag, passed_on, with_flag}
-use Rattle.lens.specs.declared.draw.subject.Subject.{Subject, TheVariants.{Frames, Lane}}
-use Rattle.lens_svg.specs.{Bodies.seat_of, Sketching.{glance_of, with_at}, Views.flag_at, declared.glance.Glance.Glance}
+use Rattle.lens.{proofs.draw_lemmas.Reading.titles_are}
+use Rattle.lens.specs.{declared.draw.subject.Subject.{Subject, TheVariants.{Frames, Lane}}}
+use Rattle.lens.specs.draw.{Laws.{PicturesShowRuns, ShowsRun}}
+use Rattle.lens.specs.draw.Keeping
+use Keeping.{AreFlags, AreOwn, HasSending, IsKept, IsOf, IsSending, Tells, cause_at, glance_at, is_sending, own_flag}
+use Keeping.{passed_on, with_flag}
+use Rattle.lens_latency.proofs.Departures.{report_linked}
+use Rattle.lens_svg.{proofs.{Hues.marks_have_hues, Order.keeps_order, Painting.{arrows_are_causes, lanes_are_states}}}
+use Rattle.lens_svg.specs.{Bodies.seat_of, Laws.{NeverFall, NumbersFollow, grounds_after, painted_with, shown, told}}
+use Rattle.lens_svg.specs.{Sketching.{glance_of, is_drawn, plan_of, with_at}, Views.{View, flag_at}}
+use Rattle.lens_svg.specs.{declared.glance.Glance.Glance}
+use Rattle.lens_why.proofs.{Comings.comes_from_earlier, Cutting.{founded_of, note_numbered}}
 use Rattle.net_plan.specs.declared.{ids.VlId.VlId, network.Network.Network}
-use Rattle.run_law.proofs.{law.FirstPlaces.{by_number, number_is, numbered_front, numbered_in, numbered_within}, records.Happenings.as_many, runs.NetworkRuns.one_more}
-use Rattle.run_law.specs.{declared.note.{Note.Note, NoteBody.NoteBody}, records.{Causes.{IsChain, cause_of, last_from}, Ranks.place_of}}
-use Rattle.run_law.specs.{records.Happenings.{Happening, happening, happenings, numbered}, runs.{DueRecords.IsDue, Runs.IsFounded}}
-use Rattle.std.proofs.Common.{◌++◌, ◌+◌, ◌-◌, ◌<◌, ◌==◌, ◌∙◌, ◌∷◌, ◌≡◌, ◌≤◌, ◌⊎◌, Bool, List, Option, Some, [], ap, arith, false, if◌then◌else◌, inl, inr, length, length-append, refl, subst, suc, sym, true, zero, ℕ}
-use Rattle.std.proofs.lemmas.{Bool.{Decides.nat_tests, eq-eqb, eqb-true, false≢true}, List.{get_or-set_other, get_or-set_same, length-set}, Option.{slice_get-map, unwrap_or-slice_get}}
-use Rattle.std.specs.{Option.option_map_or, Prelude.{◌||◌, map, nat_lt, option_map, slice_get, slice_set, unwrap_or}}
-use Rattle.{tte_audit.proofs.UnderWay.happening_there}
-use Rattle.tte_audit.specs.{Named.IsNamed, Report.scenario_of}
+use Rattle.run_law.proofs.{law.FirstDeliveries.{by_number, number_is, numbered_front, numbered_in, numbered_within}}
+use Rattle.run_law.proofs.{records.Happenings.as_many, runs.{NetworkRuns.{one_more, same_notes}, Places.in_right}}
+use Rattle.run_law.specs.{declared.note.{Note.Note, NoteBody.NoteBody}, runs.{DueRecords.IsDue, Runs.IsFounded}}
+use Rattle.run_law.specs.{scenario.Scenarios.Scenario}
+use Rattle.run_law.specs.records.{Causes.{IsChain, cause_of, last_from}}
+use Rattle.run_law.specs.records.{Happenings.{Happening, happening, happenings, numbered, time_of}}
+use Rattle.run_law.specs.records.{Order.{IsBefore, IsIn}, Ranks.place_of}
+use Rattle.tte_audit.{proofs.ReportText.happening_there, specs.{Named.IsNamed, Report.{AreNumbered, scenario_of}}}
 use Rattle.tte_reports.specs.{Folding.IsNextOf, Places.note_at, Reports.IsReportOf}
 use Rattle.tte_units.{proofs.general_lemmas.Options.some_same, specs.declared.units.Units.Units}
 use Rattle.run_law.specs.declared.note.NoteBody.TheVariants as notes
+
+-- ---- the times of the records of a report never fall
+
+-- of two records the first of which stands before the other
+pub no_later : (a b : Happening) → IsBefore (place_of a) (place_of b) → time_of a ≤ time_of b
+no_later a b (inl less) = omega (arith, less)
+no_later a b (inr same) = let time = same.0 in omega (arith, time)
+
+-- the time is that of a record among these, or the first one
+abbrev IsTimeOf : ℕ → List Happening → Type 0
+IsTimeOf time hs = (time ≡ 0) ⊎ ((h : Happening) × IsIn h hs × (time_of h ≡ time))
+
+module _ (s : Scenario) (all : List Happening) (founded : IsFounded place_of (IsDue s) all) where
+  least : (front rest : List Happening) (x : Happening) (time : ℕ) → all ≡ front ++ x ∷ rest → IsTimeOf time front → time ≤ time_of x
+  least front rest x time whole (inl none) = omega (arith, none)
+  least front rest x time whole (inr of) =
+      let before = no_later of.0 x ((founded front rest x whole).0 of.0 of.1) in
+      let same = of.2 in
+      omega (arith, before, same)
+
+  falls_from : (front rest : List Happening) (time : ℕ) → all ≡ front ++ rest → IsTimeOf time front → NeverFall time (map (λ h. h.note) rest)
+  falls_from front [] time whole of = tt
+  falls_from front (x ∷ rest) time whole of = (
+    least front rest x time whole of,
+    falls_from (front ++ x ∷ []) rest (time_of x) (whole ∙ sym (append_assoc front (x ∷ []) rest))
+        (inr (x, in_right x front (x ∷ []) (inl refl), refl)),
+  )
+
+never_fall : {network : Network} {octets : List ℕ} {notes : List Note} {end : Units}
+    → IsReportOf network octets notes end → NeverFall 0 notes
+never_fall {network} {notes} of =
+    subst (NeverFall 0) (same_notes network notes)
+    (falls_from (scenario_of network notes) (happenings network notes) of.run.founded [] (happenings network notes) 0 refl (inl refl))
+
+-- ---- which records a picture of one thing keeps
 
 -- ---- where a frame is sent
 
@@ -400,3 +450,45 @@ module _ (network : Network) (subject : Subject) (octets : List ℕ) (ns : List 
             along is.later is.later.note.number is.back.causes n k later (h.own is.later.note.number is.later later is.of) is.back.chain is.back.begins there;
       };
     }
+
+-- ---- the picture of a part of the run of a report shows it
+
+-- ---- the numbers follow each other
+
+numbers_from : (notes front rest : List Note) → notes ≡ front ++ rest → AreNumbered notes → NumbersFollow (length front + 1) rest
+numbers_from notes front [] whole numbered = tt
+numbers_from notes front (note ∷ rest) whole numbered =
+    let next = length-append front (note ∷ []) in (
+      numbered front rest note whole,
+      subst (λ n. NumbersFollow (n + 1) rest) next
+          (numbers_from notes (front ++ note ∷ []) rest (whole ∙ sym (append_assoc front (note ∷ []) rest)) numbered),
+    )
+
+module _ (network : Network) (octets : List ℕ) (notes : List Note) (end : Units) (of : IsReportOf network octets notes end) where
+  numbers : NumbersFollow 1 notes
+  numbers = numbers_from notes [] notes refl of.events.text.numbers
+
+  falls : NeverFall 0 notes
+  falls = never_fall of
+
+  lanes : (view : View) (front rest : List Note) (note : Note) → notes ≡ front ++ note ∷ rest → is_drawn view note ≡ true
+      → fold painted_with (plan_of network view notes).grounds (take (length (shown view (front ++ note ∷ []))) (plan_of network view notes).marks)
+      ≡ grounds_after network (told view (front ++ note ∷ []))
+  lanes view front rest note whole held =
+      subst (λ ns. fold painted_with (plan_of network view ns).grounds
+      (take (length (shown view (front ++ note ∷ []))) (plan_of network view ns).marks) ≡ grounds_after network (told view (front ++ note ∷ []))) (sym whole)
+      (lanes_are_states network view front rest note (subst (NeverFall 0) whole falls) held)
+
+  shows : (view : View) → ShowsRun network view notes
+  shows view =
+      let arrows = arrows_are_causes network view notes numbers falls in record {
+        titles = titles_are network view notes;
+        order = keeps_order network view notes of.events.text.records.of_network falls;
+        marks = arrows.0;
+        hues = marks_have_hues network view notes numbers falls;
+        arrows = arrows.1;
+        lanes = lanes view;
+      }
+
+pub pictures_show_runs : PicturesShowRuns
+pictures_show_runs network view octets notes end of = shows network octets notes end of view

@@ -1,23 +1,167 @@
--- The draft of a picture, and the marks of records put one after another.
-use Rattle.{lens.specs.{declared.draw.drawing.Draft.Draft, draw.Drafts.IsDraftOf}, std.proofs.lemmas.List.Sums.fold_push}
-use Rattle.{tte_forms.proofs.Puts.PutFails-more, lens_svg.specs.{Clocks.{Clocks, clocks_in, clocks_with, no_clocks}, Views.View}}
-use Rattle.{lens.specs.draw.Answer.{back_answer, draw_answer, fitting_answer}, lens_svg.specs.{Plan.Plan, Sketching.{begun, fits, plan_behind, plan_of, took}}}
-use Rattle.lens.specs.draw.{Picture.{back_lines, front_lines, mark_lines, picture_lines, windows_of}}
-use Rattle.{lens_svg.proofs.Painting.view_behind, std.proofs.Common.{true, ℕ}}
-use Rattle.{lens_svg.specs.declared.mark.Mark.Mark, run_law.specs.declared.note.Note.Note}
-use Rattle.{lens_svg.specs.declared.window.Came.Came, report_text.specs.Ranges.IsNoteInRange, std.specs.Prelude.{All, if◌then◌else◌}}
-use Rattle.{net_plan.specs.declared.network.Network.Network, tte_forms.{proofs.frames.Frames.Gives-behind, specs.declared.status.Status.Status}}
-use Rattle.{tte_forms.specs.Answering.{Answer, Ends, Gives}}
-use Rattle.std.proofs.Common.{◌++◌, ◌∙◌, ◌∷◌, ◌≡◌, Bool, List, [], ap, false, inl, inr, length, refl, subst, sym}
-use Rattle.tte_forms.{proofs.Puts.{Ends-gives, PutsLines-none}, specs.declared.status.Status.TheVariants.{Done, TooLong, WriteFault}}
-use Rattle.{tte_forms.specs.{Putting.{PutFails, PutsLines, Shown}, networks.Accepting.too_long_answer}}
-use Rattle.lens.specs.draw.Picture.{found_line, found_lines}
-use Rattle.{lens_svg.{proofs.Arrows.taken_all, specs.{Laws.{AreMarksOf, shown}, Marking.mark_line, Sketching.is_drawn}}, lens_why.proofs.Notes.number_of}
-use Rattle.run_law.{proofs.{law.FirstPlaces.at_length, runs.Places.parted}, specs.records.Order.IsIn}
-use Rattle.std.{proofs.Common.{Some, suc, zero}, specs.Prelude.slice_get}
-use Rattle.{tte_reports.specs.{Places.note_at, Reports.IsReportOf}, tte_units.{proofs.general_lemmas.Lists.in_all, specs.declared.units.Units.Units}}
-use Rattle.lens_svg.specs.{Sketching.glance_of, declared.{glance.Glance.Glance, layout.Span.Span}}
-use Rattle.{lens.specs.draw.Signs.close_line, std.{proofs.Common.map, proofs.lemmas.List.map-append}, tte_forms.specs.Answering.line_answer}
+-- The draft of a picture, and its marks, lines and parts put one after another.
+use Rattle.std.proofs.Common
+use Common.{◌++◌, ◌+◌, ◌-◌, ◌<◌, ◌∙◌, ◌∷◌, ◌≡◌, ◌≤◌, Bool, List, None, Option, Some, [], ap, append_assoc, arith, drop}
+use Common.{false, get_or, inl, inr, length, map, refl, subst, suc, sym, take, take_all, true, zero, ℕ}
+use Rattle.std.proofs.lemmas.{Grind.flat_map-append}
+use Rattle.std.proofs.lemmas.{List.{Sums.fold_push, append-nil, at_drop_more, map-append, take-append-drop, take_more}}
+use Rattle.std.specs.{Io.KnownBytes.Appends, Prelude.{if◌then◌else◌, All, OnErr, OnOk, flat_map, slice_get}}
+use Rattle.std.specs.{declared.result.Result.Result}
+use Rattle.lens.specs.{declared.draw.{drawing.Draft.Draft, putting.Layer.Layer}}
+use Rattle.lens.specs.draw.{Answer.{back_answer, draw_answer, fitting_answer}, Drafts.IsDraftOf}
+use Rattle.lens.specs.draw.{LineLaws.{AreMarkLines, HasLineOf, MarksStandWhereTheirsDo, PicturesDrawPlans}}
+use Rattle.lens.specs.draw.{Signs.close_line}
+use Rattle.lens.specs.draw.Picture
+use Picture.{back_lines, found_line, found_lines, front_lines, layer_lines, lines_from, mark_lines, picture_lines}
+use Picture.{some_line, windows_of}
+use Rattle.lens_svg.{proofs.Painting.{taken_all, view_behind}}
+use Rattle.lens_svg.specs.{Clocks.{Clocks, clocks_in, clocks_with, gauge_of, no_clocks, spread_of}}
+use Rattle.lens_svg.specs.{Elements.element_line, Laws.{AreMarksOf, shown}, Layers.{lack_of, on_lane, on_mark}}
+use Rattle.lens_svg.specs.{Marking.mark_line, Plan.Plan}
+use Rattle.lens_svg.specs.{Sketching.{begun, fits, glance_of, is_drawn, plan_behind, plan_of, took}}
+use Rattle.lens_svg.specs.{Titles.{heading_line, title_line}, Views.View, Windows.box_of}
+use Rattle.lens_svg.specs.declared.{clock.Told.Told, element.Element.Element, glance.Glance.Glance, layout.Span.Span}
+use Rattle.lens_svg.specs.declared.{mark.Mark.Mark, window.Came.Came}
+use Rattle.lens_svg.specs.declared.layer.{LaneLayer.{LaneLayer, TheVariants.{Grounds, Rails}}}
+use Rattle.lens_svg.specs.declared.layer.{MarkLayer.{MarkLayer, TheVariants.{Ticks, Turns, Waits, Ways}}}
+use Rattle.lens_why.proofs.Cutting.{number_of}
+use Rattle.net_plan.specs.declared.network.Network.{Network}
+use Rattle.report_text.specs.Ranges.{IsNoteInRange}
+use Rattle.run_law.{proofs.{law.FirstDeliveries.at_length, runs.Places.{in_left, in_right, parted}}}
+use Rattle.run_law.{specs.{declared.note.Note.Note, records.Order.IsIn}}
+use Rattle.tte_forms.proofs.{frames.Frames.Gives-behind}
+use Rattle.tte_forms.proofs.Puts.{Ends-gives, PutFails-behind, PutFails-more, PutsLines-append, PutsLines-none}
+use Rattle.tte_forms.proofs.Puts.{puts_last}
+use Rattle.tte_forms.specs.{Answering.{Answer, Ends, Gives, line_answer}, Putting.{PutFails, Puts, PutsLines, Shown}}
+use Rattle.tte_forms.specs.{declared.status.Status.{Status, TheVariants.{Done, TooLong, WriteFault}}}
+use Rattle.tte_forms.specs.{networks.Accepting.too_long_answer}
+use Rattle.tte_io.specs.{Faults.next_count, Told.AppendsFront, declared.ends.SinkFailed.SinkFailed}
+use Rattle.tte_reports.specs.{Places.note_at, Reports.IsReportOf}
+use Rattle.tte_units.{proofs.general_lemmas.Lists.in_all, specs.declared.units.Units.Units}
+use Rattle.lens.specs.declared.draw.putting.Layer.TheVariants as layers
+use Rattle.lens.specs.draw.Picture as pictures
+
+-- ---- a picture has the line of each thing that its plan draws
+
+-- ---- lists
+
+in_flat : {X A : Type 0} (f : X → List A) (xs : List X) (x : X) (a : A) → IsIn x xs → IsIn a (f x) → IsIn a (flat_map f xs)
+in_flat f [] x a i j = absurd i
+in_flat {X = X} f (y ∷ ys) x a (inl same) j = in_left a (f y) (flat_map f ys) (subst (λ (z : X). IsIn a (f z)) same j)
+in_flat f (y ∷ ys) x a (inr i) j = in_right a (f y) (flat_map f ys) (in_flat f ys x a i j)
+
+in_at : {X : Type 0} (n : ℕ) (x : X) (xs : List X) → slice_get xs n ≡ Some x → IsIn x xs
+in_at n x [] there = absurd cc
+in_at zero x (y ∷ ys) there = let same : x ≡ y = cc in inl same
+in_at (suc n) x (y ∷ ys) there = inr (in_at n x ys there)
+
+in_places : (f : ℕ → List (List ℕ)) (i n m : ℕ) (a : List ℕ) → m < n → IsIn a (f (i + m)) → IsIn a (lines_from f i n)
+in_places f i zero m a less j = absurd (omega (arith, less))
+in_places f i (suc n) zero a less j =
+    let here : i + 0 ≡ i = omega arith in
+    in_left a (f i) (lines_from f (i + 1) n) (subst (λ (k : ℕ). IsIn a (f k)) here j)
+in_places f i (suc n) (suc m) a less j =
+    let there : i + suc m ≡ i + 1 + m = omega arith in
+    in_right a (f i) (lines_from f (i + 1) n)
+    (in_places f (i + 1) n m a (omega (arith, less)) (subst (λ (k : ℕ). IsIn a (f k)) there j))
+
+-- ---- the lines
+
+-- what is one of the lines of an element is one of the picture's
+has_line : (network : Network) (lines : List (List ℕ)) (o : Option Element) → ((a : List ℕ) → IsIn a (some_line network o) → IsIn a lines)
+    → HasLineOf network lines o
+has_line network lines None each = tt
+has_line network lines (Some element) each = each (element_line network element) (inl refl)
+
+module _ (network : Network) (view : View) (notes : List Note) where
+  abbrev plan : Plan
+  plan = plan_of network view notes
+
+  abbrev windows : List Came
+  windows = windows_of network view notes
+
+  abbrev lines : List (List ℕ)
+  lines = picture_lines network view notes
+
+  -- a layer's lines are the picture's
+  in_layer : (layer : Layer) (n : ℕ) → slice_get pictures.layers n ≡ Some layer → (a : List ℕ)
+      → IsIn a (layer_lines network plan windows (clocks_in view.span notes) layer) → IsIn a lines
+  in_layer layer n there a i =
+      in_left a (front_lines network plan windows (clocks_in view.span notes)) (back_lines network view plan.marks notes)
+      (in_flat (λ l. layer_lines network plan windows (clocks_in view.span notes) l) pictures.layers layer a (in_at n layer pictures.layers there) i)
+
+  lane_at : (layer : LaneLayer) (n : ℕ) → slice_get pictures.layers n ≡ Some (layers.Lanes layer) → (place : ℕ) → place < length network.device
+      → HasLineOf network lines (on_lane layer network plan place)
+  lane_at layer n there place within =
+      let first : place ≡ 0 + place = omega arith in
+      has_line network lines (on_lane layer network plan place) (λ a i. in_layer (layers.Lanes layer) n there a
+      (in_places (λ p. some_line network (on_lane layer network plan p)) 0 (length network.device) place a within
+      (subst (λ k. IsIn a (some_line network (on_lane layer network plan k))) first i)))
+
+  lane_line : (layer : LaneLayer) (place : ℕ) → place < length network.device → HasLineOf network lines (on_lane layer network plan place)
+  lane_line Grounds = lane_at Grounds 10 refl
+  lane_line Rails = lane_at Rails 13 refl
+
+  mark_at : (layer : MarkLayer) (n : ℕ) → slice_get pictures.layers n ≡ Some (layers.Marks layer) → (mark : Mark) → IsIn mark plan.marks
+      → HasLineOf network lines (on_mark layer network plan mark)
+  mark_at layer n there mark of = has_line network lines (on_mark layer network plan mark) (λ a i. in_layer (layers.Marks layer) n there a
+      (in_flat (λ m. some_line network (on_mark layer network plan m)) plan.marks mark a of i))
+
+  mark_element : (layer : MarkLayer) (mark : Mark) → IsIn mark plan.marks → HasLineOf network lines (on_mark layer network plan mark)
+  mark_element Turns = mark_at Turns 11 refl
+  mark_element Ticks = mark_at Ticks 12 refl
+  mark_element Waits = mark_at Waits 14 refl
+  mark_element Ways = mark_at Ways 15 refl
+
+  window_line : (came : Came) → IsIn came windows → HasLineOf network lines (box_of came)
+  window_line came of = has_line network lines (box_of came) (λ a i. in_layer layers.Windows 16 refl a
+      (in_flat (λ c. some_line network (box_of c)) windows came a of i))
+
+  gauge_line : (told : Told) → IsIn told (clocks_in view.span notes).told → HasLineOf network lines (gauge_of network plan (clocks_in view.span notes) told)
+  gauge_line told of = has_line network lines (gauge_of network plan (clocks_in view.span notes) told) (λ a i. in_layer layers.Gauges 17 refl a
+      (in_flat (λ t. some_line network (gauge_of network plan (clocks_in view.span notes) t)) (clocks_in view.span notes).told told a of i))
+
+pub pictures_draw_plans : PicturesDrawPlans
+pictures_draw_plans network view notes = record {
+  lanes = lane_line network view notes;
+  marks = mark_element network view notes;
+  windows = window_line network view notes;
+  gauges = gauge_line network view notes;
+  spread = has_line network (picture_lines network view notes) (spread_of network (plan_of network view notes) (clocks_in view.span notes))
+      (λ a i. in_layer network view notes layers.Spread 18 refl a i);
+  title = subst (λ (v : View). IsIn (title_line v.title) (picture_lines network view notes)) (view_behind network (begun network view) notes)
+      (in_layer network view notes layers.Title 1 refl (title_line (plan_of network view notes).view.title) (inl refl));
+  heading = subst (λ (v : View). IsIn (heading_line v.title) (picture_lines network view notes)) (view_behind network (begun network view) notes)
+      (in_layer network view notes layers.Heading 6 refl (heading_line (plan_of network view notes).view.title) (inl refl));
+  lack = has_line network (picture_lines network view notes) (lack_of (plan_of network view notes))
+      (λ a i. in_layer network view notes layers.Lack 19 refl a i);
+}
+
+-- ---- the marks
+
+mark_lines_of : (network : Network) (view : View) (marks : List Mark) (notes : List Note) → AreMarksOf network marks (shown view notes)
+    → AreMarkLines network (mark_lines network view marks notes) marks (shown view notes)
+mark_lines_of network view [] [] are = tt
+mark_lines_of network view (mark ∷ marks) [] are = absurd are
+mark_lines_of network view marks (note ∷ notes) are = by (is_drawn view note) refl marks are (λ ms. mark_lines_of network view ms notes)
+  where
+    by : (b : Bool) → is_drawn view note ≡ b → (ms : List Mark) → AreMarksOf network ms (shown view (note ∷ notes))
+        → ((rest : List Mark) → AreMarksOf network rest (shown view notes)
+        → AreMarkLines network (mark_lines network view rest notes) rest (shown view notes))
+        → AreMarkLines network (mark_lines network view ms (note ∷ notes)) ms (shown view (note ∷ notes))
+    by true h [] these each = absurd (subst (λ (b : Bool). AreMarksOf network [] (if b then note ∷ shown view notes else shown view notes)) h these)
+    by true h (mark ∷ ms) these each =
+        let are = subst (λ (b : Bool). AreMarksOf network (mark ∷ ms) (if b then note ∷ shown view notes else shown view notes)) h these in
+        rw h (refl, each ms are.1)
+    by false h ms these each =
+        rw h (each ms (subst (λ (b : Bool). AreMarksOf network ms (if b then note ∷ shown view notes else shown view notes)) h these))
+
+pub marks_stand : MarksStandWhereTheirsDo
+marks_stand network view notes =
+    let taken = taken_all network (begun network view) notes in
+    mark_lines_of network view (plan_of network view notes).marks notes
+    (subst (λ ms. AreMarksOf network ms (shown view notes)) (sym taken.whole) taken.marks)
+
+-- ---- the draft of a picture, and the marks of records put one after another
 
 -- ---- the draft
 
@@ -166,3 +310,87 @@ module _ (network : Network) (plan : Plan) (windows : List Came) (clocks : Clock
       → Gives (fitting_answer network plan windows clocks notes) status old new
   front_given status {old} {now} {new} puts gives =
       Gives-behind (back_answer network plan.view plan.marks notes) status puts gives
+
+-- ---- parts of a picture put one after another
+
+-- one line, in one put
+pub draws_one : (line : List ℕ) (result : Result (Unit {0}) SinkFailed) (old new : Shown) → OnOk result (Appends old.written new.written line)
+    → OnErr result (AppendsFront old.written new.written line) → new.puts ≡ next_count old.puts → Puts (line ∷ []) result old new
+draws_one line result old new all front counted = puts_last line result new (PutsLines-none old) all front counted
+
+-- a put failed behind lines that were put, and others were to come
+pub fails_between : {xs ys : List (List ℕ)} (zs : List (List ℕ)) {a b c : Shown} → PutsLines xs a b → PutFails ys b c
+    → PutFails (xs ++ (ys ++ zs)) a c
+fails_between {xs} {ys} zs {a} {b} {c} p q = PutFails-behind (ys ++ zs) c p (PutFails-more zs q)
+
+-- ---- something of each of a list
+
+module _ {X : Type 0} (f : X → List (List ℕ)) (all : List X) (n : ℕ) where
+  pub flat_more : (d : X) (a b c : Shown) → n < length all → PutsLines (flat_map f (take n all)) a b → PutsLines (f (get_or all n d)) b c
+      → PutsLines (flat_map f (take (n + 1) all)) a c
+  flat_more d a b c within p q =
+      let x = get_or all n d in
+      let lines : flat_map f (take (n + 1) all) ≡ flat_map f (take n all) ++ f x =
+      ap (λ (xs : List X). flat_map f xs) (take_more all n d within) ∙ flat_map-append f (take n all) (x ∷ [])
+      ∙ ap (λ (ls : List (List ℕ)). flat_map f (take n all) ++ ls) (append-nil (f x)) in
+      subst (λ ls. PutsLines ls a c) (sym lines) (PutsLines-append p q)
+
+  pub flat_fails : (d : X) (a b c : Shown) → n < length all → PutsLines (flat_map f (take n all)) a b → PutFails (f (get_or all n d)) b c
+      → PutFails (flat_map f all) a c
+  flat_fails d a b c within p q =
+      let x = get_or all n d in
+      let rest = drop (n + 1) all in
+      let split : all ≡ take n all ++ x ∷ rest = sym (take-append-drop n all) ∙ ap (λ (xs : List X). take n all ++ xs) (at_drop_more (λ (xs : List X). xs) all n d within) in
+      let lines : flat_map f all ≡ flat_map f (take n all) ++ (f x ++ flat_map f rest) =
+      ap (λ (xs : List X). flat_map f xs) split ∙ flat_map-append f (take n all) (x ∷ rest) in
+      subst (λ ls. PutFails ls a c) (sym lines) (fails_between (flat_map f rest) p q)
+
+  pub flat_all : (a b : Shown) → length all ≤ n → PutsLines (flat_map f (take n all)) a b → PutsLines (flat_map f all) a b
+  flat_all a b end p = subst (λ (xs : List X). PutsLines (flat_map f xs) a b) (take_all n all end) p
+
+-- the same, where the list is told by a call
+module _ {X : Type 0} (f : X → List (List ℕ)) (all listed : List X) (same : listed ≡ all) (n : ℕ) (within : n < length listed) where
+  pub listed_more : (d : X) (a b c : Shown) → PutsLines (flat_map f (take n all)) a b → PutsLines (f (get_or listed n d)) b c
+      → PutsLines (flat_map f (take (n + 1) all)) a c
+  listed_more d a b c p q =
+      flat_more f all n d a b c (subst (λ xs. n < length xs) same within) p (subst (λ (xs : List X). PutsLines (f (get_or xs n d)) b c) same q)
+
+  pub listed_fails : (d : X) (a b c : Shown) → PutsLines (flat_map f (take n all)) a b → PutFails (f (get_or listed n d)) b c → PutFails (flat_map f all) a c
+  listed_fails d a b c p q =
+      flat_fails f all n d a b c (subst (λ xs. n < length xs) same within) p (subst (λ (xs : List X). PutFails (f (get_or xs n d)) b c) same q)
+
+-- ---- something of each place
+
+pub lines_split : (f : ℕ → List (List ℕ)) (i n m : ℕ) → lines_from f i (n + m) ≡ lines_from f i n ++ lines_from f (i + n) m
+lines_split f i zero m =
+    let none : 0 + m ≡ m = omega arith in
+    let here : i ≡ i + 0 = omega arith in
+    ap (λ k. lines_from f i k) none ∙ ap (λ k. lines_from f k m) here
+lines_split f i (suc n) m =
+    let more : suc n + m ≡ suc (n + m) = omega arith in
+    let here : i + 1 + n ≡ i + suc n = omega arith in
+    ap (λ k. lines_from f i k) more ∙ ap (λ (ls : List (List ℕ)). f i ++ ls) (lines_split f (i + 1) n m)
+    ∙ sym (append_assoc (f i) (lines_from f (i + 1) n) (lines_from f (i + 1 + n) m))
+    ∙ ap (λ k. lines_from f i (suc n) ++ lines_from f k m) here
+
+-- from the first place on
+places_split : (f : ℕ → List (List ℕ)) (n m : ℕ) → lines_from f 0 (n + m) ≡ lines_from f 0 n ++ lines_from f n m
+places_split f n m =
+    let here : 0 + n ≡ n = omega arith in
+    lines_split f 0 n m ∙ ap (λ k. lines_from f 0 n ++ lines_from f k m) here
+
+pub places_more : (f : ℕ → List (List ℕ)) (n : ℕ) {a b c : Shown} → PutsLines (lines_from f 0 n) a b
+    → PutsLines (f n) b c → PutsLines (lines_from f 0 (n + 1)) a c
+places_more f n {a} {b} {c} p q =
+    let lines : lines_from f 0 (n + 1) ≡ lines_from f 0 n ++ f n =
+    places_split f n 1 ∙ ap (λ (ls : List (List ℕ)). lines_from f 0 n ++ ls) (append-nil (f n)) in
+    subst (λ ls. PutsLines ls a c) (sym lines) (PutsLines-append p q)
+
+pub places_fail : (f : ℕ → List (List ℕ)) (n count : ℕ) {a b c : Shown} → n < count
+    → PutsLines (lines_from f 0 n) a b → PutFails (f n) b c → PutFails (lines_from f 0 count) a c
+places_fail f n count {a} {c} within p q =
+    let more : count ≡ n + suc (count - (n + 1)) = omega (arith, within) in
+    let lines : lines_from f 0 count ≡ lines_from f 0 n ++ (f n ++ lines_from f (n + 1) (count - (n + 1))) =
+    ap (λ k. lines_from f 0 k) more ∙ places_split f n (suc (count - (n + 1))) in
+    subst (λ ls. PutFails ls a c) (sym lines)
+    (fails_between (lines_from f (n + 1) (count - (n + 1))) p q)

@@ -1,6 +1,5 @@
 -- When a clock reaches a value where its device is synchronised.
-pub use Rattle.audit_sweep.proofs.unpaid_lemmas.dispatches_lemmas.Hands.{when_true}
-pub use Rattle.audit_sweep.proofs.unpaid_lemmas.dispatches_lemmas.RowFacts.{reached_later as not_at_first}
+pub use Rattle.audit_sweep.proofs.unpaid_lemmas.dispatches_lemmas.RowDebts.{reached_later as not_at_first, when_true}
 use Rattle.{lens_flows.specs.judge.Fates.{HasComeInStep, ReachesInStep}, sync_state.specs.declared.state.State.TheVariants.Synchronised}
 use Rattle.{lens_flows.specs.judge.Times.{IsFirstTime, NoneWithin}, run_law.specs.{records.Happenings.{Happening, up_to}, scenario.Scenarios.Scenario}}
 use Rattle.{net_plan.specs.declared.ids.DeviceId.DeviceId, std.specs.Prelude.{◌↔◌, IsTrue, MatchBool}}

@@ -92,7 +92,7 @@ fn id_is_taken(network: &Network, earlier: &[Message], id: u16) -> bool
 
 impl<'a> MessageWords<'a> {
     /// The message's name.
-    #[tactic(auto, using(trace_text::proofs::Bearing::name_is_utf8), unfolding(crate::specs::messages::Reading::name))]
+    #[tactic(auto, using(trace_text::proofs::WordsBack::name_is_utf8), unfolding(crate::specs::messages::Reading::name))]
     fn name(&mut self, network: &Network, earlier: &[Message]) -> Result<Name, MessageRefusal>
         ensures { Reads (name network.now earlier.now self.old) result self.new }
     {

@@ -110,7 +110,7 @@ pub(crate) fn is_end_system(network: &Network, device: DeviceId) -> bool
 }
 
 /// The end system of this name.
-#[tactic(auto, using(crate::proofs::Ends::end_is), unfolding(crate::specs::messages::Values::end_system_spelled))]
+#[tactic(auto, using(crate::proofs::Courses::end_is), unfolding(crate::specs::messages::Values::end_system_spelled))]
 pub(crate) fn end_system_spelled(network: &Network, text: &[u8]) -> Option<DeviceId>
     requires { IsInRange network.now }
     ensures value { result ≡ end_system_spelled network.now text.now }

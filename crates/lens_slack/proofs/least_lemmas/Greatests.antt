@@ -1,5 +1,6 @@
 -- The greatest number of the elements of a list.
-use Rattle.{net_plan.{proofs.Greatest.{greatest_of_both, greatest_of_none}, specs.Bounds.IsGreatest}, std.proofs.lemmas.Option.slice_get_within}
+use Rattle.std.proofs.lemmas.Option.{slice_get_within}
+use Rattle.net_plan.{proofs.Trees.{greatest_of_both, greatest_of_none}, specs.Bounds.IsGreatest}
 use Rattle.{std.proofs.Common.{◌+◌, ◌<◌, ◌≡◌, ◌≤◌, ◌⊎◌, List, Some, arith, inl, inr, length, max, subst, ℕ}, tte_units.proofs.general_lemmas.Options.some_same}
 use Rattle.std.{proofs.lemmas.Bool.cases_lt, specs.Prelude.slice_get}
 

@@ -2,7 +2,8 @@
 use Rattle.{lens_slack.specs.least.Answer.with_late, net_plan.specs.Ranges.{IsInRange, IsLinkInRange, IsRowInRange, IsVlInRange}}
 use Rattle.net_plan.specs.declared.network.Network.{Network}
 use Rattle.std.{proofs.{Common.{arith}, lemmas.Int.ints}, specs.List.All}
-use Rattle.{schedule_checker.proofs.Selection.all_of_each, tte_units.proofs.general_lemmas.Lists.in_all}
+use Rattle.schedule_checker.proofs.Elements.{all_of_each}
+use Rattle.tte_units.proofs.general_lemmas.Lists.{in_all}
 
 links : {n : Network} → IsInRange n → All (IsLinkInRange (with_late n)) n.link
 links {n} range =

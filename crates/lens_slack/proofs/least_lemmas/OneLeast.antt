@@ -1,5 +1,6 @@
 -- A network has one answer of `least`.
-use Rattle.{lens_slack.{proofs.OneSlack.first_once, specs.declared.least.times.Times.Times}, net_plan.specs.declared.network.Network.Network}
+use Rattle.lens_slack.{proofs.Verdict.first_once, specs.declared.least.times.Times.Times}
+use Rattle.net_plan.specs.declared.network.Network.{Network}
 use Rattle.{lens_slack.specs.{Answer.ending_answer, least.Least.AreLeast}, tte_forms.specs.Answering.Answer}
 use Rattle.{lens_slack.specs.least.{Answer.{IsLeastOf, times_answer}, Times.AreAtMost}, std.proofs.Common.{◌∙◌, ◌≡◌, ◌≤◌, [], ap, arith, inl, inr, sym, ℕ}}
 

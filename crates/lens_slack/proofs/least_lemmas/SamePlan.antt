@@ -1,7 +1,8 @@
 -- The paths of a network, and so beta but for the drift, do not depend on its times.
 use Rattle.{lens_slack.specs.{declared.least.times.Times.Times, least.Parts.{IsSteady, drift_over}}, net_plan.specs.declared.network.Network.Network}
 use Rattle.{lens_slack.specs.least.Times.with_times, tte_units.{proofs.general_lemmas.Options.{closed, opened}, specs.declared.frames.channel.Channel.Channel}}
-use Rattle.{net_plan.{proofs.Beta.beta_is_unique, specs.Paths.{IsFirstPath, IsFirstUplink, IsPath}}, std.proofs.Common.{◌+◌, ◌∷◌, ◌≡◌, List, [], arith, pos, ℕ}}
+use Rattle.std.proofs.Common.{◌+◌, ◌∷◌, ◌≡◌, List, [], arith, pos, ℕ}
+use Rattle.net_plan.{proofs.Trees.beta_is_unique, specs.Paths.{IsFirstPath, IsFirstUplink, IsPath}}
 use Rattle.net_plan.specs.{Bounds.IsBeta, Places.{IsSwitchOf, link_at}, declared.{ids.{DeviceId.DeviceId, LinkId.LinkId}, tables.Link.Link}}
 use Rattle.std.proofs.lemmas.Int.{ints}
 

@@ -4,7 +4,9 @@ use Rattle.{lens_slack.specs.least.{Parts.IsStartOf, Times.with_times}, tte_unit
 use Rattle.{net_plan.proofs.Amounts.amount_within, std.{proofs.lemmas.Int.ints, specs.Prelude.{◌≤ℤ◌, IfSome}}, tte_units.specs.Amount.{amount, units_of}}
 use Rattle.{net_plan.specs.Ranges.{IsDeviceInRange, IsInRange, IsWithin}, std.proofs.Common.{◌^◌, ◌≡◌, ◌≤◌, None, Option, Some, ap, arith, pos, ℕ, ℤ}}
 use Rattle.net_plan.specs.Rules.{HasOneCm, IsConnected, IsWithinLimits, MastersSuffice}
-use Rattle.{net_plan.specs.declared.tables.Device.Device, schedule_checker.proofs.Selection.all_of_each, schedule_tables.specs.Rules.{IsKept, KeepsBelow}}
+use Rattle.net_plan.specs.declared.tables.Device.{Device}
+use Rattle.schedule_checker.proofs.Elements.{all_of_each}
+use Rattle.schedule_tables.specs.Rules.{IsKept, KeepsBelow}
 use Rattle.schedule_tables.specs.declared.rule.Rule.TheVariants.{CompressionMasters, Connections, Correction, Delays, DevicesDiffer, Joints}
 use Rattle.schedule_tables.specs.declared.rule.Rule.TheVariants.{Limits, LinksDiffer, Masters, Precision, Settling}
 use Rattle.std.specs.List.{All}

@@ -1,5 +1,6 @@
 -- Good masters dispatch the frames of each cycle.
-use Rattle.precision_law.proofs.{block.{Coming.reaches_in_block, Onward.hull_ordered}, clocks.Joiners.joiner_waits, words.Blocks.{master_is_end, not_turned_on_then, old_point, turned_at}}
+use Rattle.precision_law.proofs.{block.Onward.{hull_ordered, reaches_in_block}, clocks.Epochs.joiner_waits}
+use Rattle.precision_law.proofs.{words.Blocks.{master_is_end, not_turned_on_then, old_point, turned_at}}
 use Rattle.precision_law.proofs.words.Blocks.{HasPoint, before_narrow, earlier_in_block, early_show, has_corrected, has_lost, joining_of_setting, looking_by}
 use Rattle.precision_law.proofs.words.Clocks.{before_of, before_place, earlier_before, frames_come_first, good_is_correct, in_earlier, natural_of, one_more}
 use Rattle.{precision_law.proofs.words.Clocks.{reaches_front, room, same_device, setting_is, sizes_are}, run_law.specs.timed.Dispatching.Sends}

@@ -1,5 +1,6 @@
 -- The points that count in a cluster, and their middle.
-use Rattle.{compression.proofs.Elements.in_filter, tte_units.proofs.general_lemmas.{Integers.int_le-is, Lists.all-push, Naturals.{or_half, or_parity}}}
+use Rattle.compression.proofs.Growth.{in_filter}
+use Rattle.tte_units.proofs.general_lemmas.{Integers.int_le-is, Lists.all-push, Naturals.{or_half, or_parity}}
 use Rattle.precision_law.proofs.words.Plans.{AllButOne, AreClusters, Cluster, IsAscending, LiesWithin, Ordered, Ordered-beyond, Point, all-filter, beyond}
 use Rattle.precision_law.proofs.words.Plans.{cluster_of, counts, end_of, end_of-least, firsts, firsts-start, from_beyond, has_master, held-start, in_cases}
 use Rattle.precision_law.proofs.words.Plans.{in_head, in_none, in_tail, mean_of-floor, members_of, members_of-clear, members_of-set, middle_among_others}

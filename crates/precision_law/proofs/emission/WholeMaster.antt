@@ -1,12 +1,10 @@
 -- Where no device is broken, the compression master of a channel that is whole sends its frame, whatever its state.
 use Rattle.precision_law.proofs.block.Dispatched.{IsEarly, early_point, old_early}
-use Rattle.precision_law.proofs.block.Goings.{has_corrected, has_lost, known_dispatch, narrow_at}
+use Rattle.precision_law.proofs.{compression.Frames.record_point, emission.SoundMaster.{channel_cm, cm_is, emits}}
+use Rattle.precision_law.proofs.block.{Instants.{has_corrected, has_lost, known_dispatch, narrow_at}}
+use Rattle.precision_law.proofs.block.{Onward.hull_ordered}
 use Rattle.precision_law.proofs.emission.Aimed.{IsAimed, no_point_fault, taken_by_old}
-use Rattle.precision_law.proofs.emission.Senders.{channel_cm, cm_is}
-use Rattle.precision_law.proofs.emission.SoundMaster.{emits}
-use Rattle.precision_law.proofs.compression.Made.{record_point}
 use Rattle.precision_law.proofs.trips.Gates.{has_it}
-use Rattle.precision_law.proofs.block.Onward.{hull_ordered}
 use Rattle.precision_law.proofs.words.Blocks.{AreUpTo, GivesPoint, bases_are_in_hulls, before_narrow, earlier_in_block}
 use Rattle.precision_law.proofs.words.Blocks.{early_show}
 use Rattle.precision_law.proofs.words.Clocks.{adjustment_stays, any_in, emission_shows, frames_come_first, has_before}

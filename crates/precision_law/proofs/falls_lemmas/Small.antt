@@ -1,9 +1,10 @@
 -- A correction is at most the precision.
-use Rattle.precision_law.proofs.{law.{Precision.{view_at, view_of}, Whole.blocks_known}, words.Blocks.{before_narrow, follows_before, old_shows}}
+use Rattle.precision_law.{specs.falls.Laws.{CorrectionsAreSmall, IsSmall}}
+use Rattle.precision_law.proofs.{falls_lemmas.Views.in_network, law.{Precision.{view_at, view_of}, Whole.blocks_known}}
+use Rattle.precision_law.proofs.{words.Blocks.{before_narrow, follows_before, old_shows}}
 use Rattle.precision_law.proofs.words.Clocks.{before_of, clocks_of_two_cycles, instants_are_in_order, one_channel_is_sound, point_timed, room, set_clocks_show}
 use Rattle.precision_law.proofs.words.{Clocks.steady, Laws.{ComesTo, HasTimeAt, adjustment_left}, Plans.{Corrected, Units}}
 use Rattle.precision_law.proofs.words.{Runs.{IsCaused, Scenario, founded_at, happenings, time_of}, Std.{◌+ℤ◌, ◌≤ℤ◌, arith, ints, pos, subst, suc, ℤ}}
-use Rattle.precision_law.{proofs.falls_lemmas.Views.in_network, specs.falls.Laws.{CorrectionsAreSmall, IsSmall}}
 
 small_by : (s : Scenario) (by : Units) (reading left : ℤ) → (reading +ℤ left) ≤ℤ ((reading +ℤ (left +ℤ by.0)) +ℤ s.network.precision.0)
     → (reading +ℤ (left +ℤ by.0)) ≤ℤ ((reading +ℤ left) +ℤ s.network.precision.0) → IsSmall s.network by

@@ -2,8 +2,10 @@
 -- the time.
 use Rattle.precision_law.proofs.faults.Turned.{timed_not_off}
 use Rattle.{net_plan.proofs.SameIds.same_device, tte_units.specs.declared.units.Units.Units}
-use Rattle.precision_law.proofs.{hearing.{GoodFrames.{IsAtPoint, sooner}, Timely.of_channel_is}, words.Plans.{Channel, Synchronised, device_at, is_end_system, opened}}
-use Rattle.precision_law.proofs.{trips.{Gates.are_open_on, SoundDown.frames_go_down}, words.Blocks.{next_first, not_turned_on_then, one_cm, up_to_then}}
+use Rattle.precision_law.proofs.{hearing.{GoodFrames.{IsAtPoint, sooner}, Timely.of_channel_is}}
+use Rattle.precision_law.proofs.{trips.{Gates.are_open_on, SoundChannel.frames_go_down}}
+use Rattle.precision_law.proofs.words.{Blocks.{next_first, not_turned_on_then, one_cm, up_to_then}}
+use Rattle.precision_law.proofs.words.{Plans.{Channel, Synchronised, device_at, is_end_system, opened}}
 use Rattle.precision_law.proofs.words.Blocks.{AreUpTo, EndsSo, before_narrow, cm_of, earlier_in_block, ends_so, follows_before, hears_as_at, judged_at}
 use Rattle.precision_law.proofs.words.Clocks.{IsRipeArrival, IsRipeRecord, before_of, before_place, child_not_parent, cm_is_no_end, device_of, emission_shows}
 use Rattle.precision_law.proofs.words.Clocks.{frames_come_first, is_heard_of, place_of_ripe, receiver_down, room, time_stays}

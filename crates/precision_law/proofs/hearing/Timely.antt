@@ -1,7 +1,9 @@
 -- What a device hears is timely.
 use Rattle.{drift_clock.proofs.transparent_lemmas.HopLaw.permanent_in_time, tte_units.proofs.general_lemmas.Options.mapped}
 use Rattle.{net_plan.proofs.Amounts.amount_within, precision_law.proofs.Plain.device_of, run_law.specs.records.Causes.last_from}
-use Rattle.precision_law.proofs.{block.Joins.cm_channel, trips.Travels.{GivesDown, adds_up, jitter_back, jitter_of_legs, last_young, many_back, path_down}}
+use Rattle.precision_law.proofs.{block.Instants.cm_channel}
+use Rattle.precision_law.proofs.trips.Travels.{GivesDown, adds_up, jitter_back, jitter_of_legs, last_young, many_back}
+use Rattle.precision_law.proofs.trips.Travels.{path_down}
 use Rattle.precision_law.proofs.words.{Clocks.{frames_down_are_of_cms, natural, permanence_is_sharp, sizes_are, steady}, Laws.{base_of, clock_in, links_back}}
 use Rattle.precision_law.proofs.words.Laws.{EmissionsAreSharp, HeardFramesAreTimely, IsEmission, IsFromAfar, IsHeard, IsTimely, IsTrip, IsView, Leg, View}
 use Rattle.precision_law.proofs.words.Plans.{Channel, Cm, Device, DeviceId, Down, IsCmOf, IsDeviceOf, IsPath, IsReach, IsSwitchOf, Joints, LinkId}

@@ -1,8 +1,8 @@
 -- An end system that is on is synchronised when the second block is over whose cycle's dispatches begin behind that.
-use Rattle.precision_law.proofs.law.{Cover.{behind_of, later_end}, OnTime.begins_late, Precision.no_clique}
-use Rattle.precision_law.proofs.progress_lemmas.{Corrected.synchronised_by, Told.has_time_by}
+use Rattle.precision_law.proofs.{law.{OnTime.begins_late, Precision.{behind_of, later_end, no_clique}}}
+use Rattle.precision_law.proofs.progress_lemmas.CommonTime
+use CommonTime.{IsOn, IsSynchronised, KeepsFrom, has_time_by, stays_synchronised, synchronised_by}
 use Rattle.precision_law.proofs.records.Views.{room_of}
-use Rattle.precision_law.proofs.progress_lemmas.Staying.{IsOn, IsSynchronised, KeepsFrom, stays_synchronised}
 use Rattle.precision_law.proofs.words.Blocks.{before_narrow, block_ends, follows_before, up_to_is, view_of, view_with}
 use Rattle.precision_law.proofs.words.Clocks.{corrections_come_first, room}
 use Rattle.precision_law.proofs.words.Laws.{BlockIsOver, BlocksCover, BlocksGoSo, FirmDevicesCorrect, Follows}

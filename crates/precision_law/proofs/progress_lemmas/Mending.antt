@@ -1,17 +1,15 @@
 -- Where no device is broken, a switch of a channel that is whole is synchronised when the second block is over whose
 -- cycle's dispatches begin behind that.
 use Rattle.net_plan.proofs.SameIds.{same_device}
-use Rattle.precision_law.proofs.block.Goings.{has_lost, old_point}
-use Rattle.precision_law.proofs.block.Onward.{hull_ordered, last_of}
-use Rattle.precision_law.proofs.emission.{SoundMaster.calm_master_sends, WholeMaster.{IsFrameSent, leasts_grow, whole_master_sends}}
-use Rattle.precision_law.proofs.law.Cover.{later_block}
+use Rattle.precision_law.proofs.{block.{Instants.{has_lost, old_point}, Onward.{hull_ordered, last_of}}}
+use Rattle.precision_law.proofs.{hearing.{GoodFrames.IsAtPoint, Timely.of_channel_is}, law.Precision.later_block}
+use Rattle.precision_law.proofs.{records.RunViews.IsViewWith, verdict.CorrectionPoints.corrects_on}
+use Rattle.precision_law.proofs.emission.{SoundMaster.calm_master_sends}
+use Rattle.precision_law.proofs.emission.{WholeMaster.{IsFrameSent, leasts_grow, whole_master_sends}}
+use Rattle.precision_law.proofs.progress_lemmas.CommonTime
+use CommonTime.{IsOn, IsSynchronised, IsTimed, KeepsFrom, has_time_itself, has_time_on, stays_on, stays_synchronised}
+use CommonTime.{synchronised_by}
 use Rattle.precision_law.proofs.progress_lemmas.Arriving.{AreBlocksKnown, coming, hull_before, later_soon, next_over}
-use Rattle.precision_law.proofs.progress_lemmas.Corrected.{synchronised_by}
-use Rattle.precision_law.proofs.progress_lemmas.Staying.{IsOn, IsSynchronised, IsTimed, KeepsFrom, stays_on}
-use Rattle.precision_law.proofs.progress_lemmas.Staying.{stays_synchronised}
-use Rattle.precision_law.proofs.progress_lemmas.Told.{has_time_itself, has_time_on}
-use Rattle.precision_law.proofs.verdict.FirmDevices.{corrects_on}
-use Rattle.precision_law.proofs.hearing.{GoodFrames.IsAtPoint, Timely.of_channel_is}
 use Rattle.precision_law.proofs.faults.Turned.{on_not_turned_on}
 use Rattle.precision_law.proofs.words.Blocks.{FramesGoSo, block_ends, later_end}
 use Rattle.precision_law.proofs.words.Clocks.{room, within_run}
@@ -28,7 +26,6 @@ use Rattle.precision_law.proofs.words.Plans.{device_at, opened}
 use Rattle.precision_law.proofs.words.Runs.{happenings, state_after, up_to}
 use Rattle.precision_law.proofs.words.Std.{◌<ℤ◌, ◌<◌, ◌∙◌, List, by_lt_z}
 use Rattle.precision_law.proofs.block.Dispatched.{NoCliqueBefore}
-use Rattle.precision_law.proofs.records.RunViews.{IsViewWith}
 use Rattle.precision_law.proofs.words.Clocks.{switches_are_good}
 use Rattle.precision_law.proofs.words.Laws.{IsGood, IsInHull}
 use Rattle.precision_law.proofs.words.Plans.{IsBeta}

@@ -1,6 +1,6 @@
 -- What a view gives: room, steady clocks, and records that are due.
-use Rattle.schedule_tables.{proofs.Margins.some_link, specs.Rules.KeepsRules}
 use Rattle.precision_law.proofs.{clocks.Readings.clocks_are_steady, records.Times.{AreSorted, sorted}}
+use Rattle.schedule_tables.{proofs.Margins.some_link, specs.Rules.KeepsRules}
 use Rattle.precision_law.proofs.words.{Laws.{HaveRoom, IsSteady, IsView, View, sizes_of}, Std.{◌*◌, ◌+◌, ◌≡◌, ◌≤◌, arith, refl, subst, sym, ℕ}}
 use Rattle.precision_law.proofs.words.Plans.{DeviceId, HasMargins, Network, all_at, amount, compression_time, margins, pcf_port_time, rules_give_trees}
 

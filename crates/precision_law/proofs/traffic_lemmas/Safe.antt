@@ -1,9 +1,13 @@
 -- Each run is safe, by what the precision says of blocks.
-use Rattle.precision_law.proofs.{faults.Masters.{good_is_correct, one_channel_is_sound, switches_are_good}, traffic_lemmas.Words.{BringsBlocks, BringsChannels}}
-use Rattle.precision_law.{proofs.faults.Ways.{sound_switches_begin_on, sound_ways_are_whole}, specs.traffic.Ports.{OwedFramesCome, PortsStayApart, RunsAreSafe}}
-use Rattle.precision_law.proofs.{law.Whole.{blocks_known, clocks_agree, ends_come_in}, traffic_lemmas.delivery.Sent.Brings}
-use Rattle.precision_law.proofs.traffic_lemmas.{delivery.Delivering.owed_frames_come, faults.{Firm.sound_switches_keep_time, TurnedOn.timed_are_not_turned_on}}
-use Rattle.precision_law.proofs.traffic_lemmas.{faults.Senders.senders_are_broken, ports.{Apart.ports_stay_apart, Givings.givings_keep_away}}
+use Rattle.precision_law.{specs.traffic.Ports.{OwedFramesCome, PortsStayApart, RunsAreSafe}}
+use Rattle.precision_law.proofs.{law.Whole.{blocks_known, clocks_agree, ends_come_in}}
+use Rattle.precision_law.proofs.faults.{Masters.{good_is_correct, one_channel_is_sound, switches_are_good}}
+use Rattle.precision_law.proofs.faults.{Sound.{sound_switches_begin_on, sound_ways_are_whole}}
+use Rattle.precision_law.proofs.traffic_lemmas.{Words.{BringsBlocks, BringsChannels}}
+use Rattle.precision_law.proofs.traffic_lemmas.{delivery.{Delivering.owed_frames_come, Forwarding.Brings}}
+use Rattle.precision_law.proofs.traffic_lemmas.{ports.{Apart.ports_stay_apart, Gates.givings_keep_away}}
+use Rattle.precision_law.proofs.traffic_lemmas.faults.GoodDevices
+use GoodDevices.{senders_are_broken, sound_switches_keep_time, timed_are_not_turned_on}
 use Rattle.precision_law.{proofs.traffic_lemmas.delivery.Owing.due_frames_are_owed, specs.traffic.Owing.{DueFramesAreOwed, DueFramesCome}}
 use Rattle.precision_law.proofs.traffic_lemmas.delivery.Latency.{deliveries_keep_pace, deliveries_take_their_time}
 use Rattle.precision_law.specs.traffic.Latency.{DeliveriesKeepPace, DeliveriesTakeTheirTime}

@@ -12,16 +12,18 @@ pub use Rattle.net_plan.specs.declared.tables.{Link.Link, VirtualLink.VirtualLin
 pub use Rattle.pcf_codec.specs.Fields.{field}
 pub use Rattle.tte_units.specs.declared.frames.pcf.Pcf.{Pcf}
 pub use Rattle.precision_law.proofs.block.Hulls.{has_before}
-pub use Rattle.precision_law.proofs.clocks.Epochs.{adjustment_stays, clocks_reach_sharply}
-pub use Rattle.precision_law.proofs.law.{OnTime.begins_late, Together.{before_narrow, block_ends, follows_before}}
-pub use Rattle.precision_law.proofs.records.{Points.{before_of, earlier_before, last_in, setting_is, within_run}, Times.{between, earlier_parts, in_between}}
+pub use Rattle.precision_law.proofs.{clocks.Epochs.{adjustment_stays, clocks_reach_sharply}}
+pub use Rattle.precision_law.proofs.{law.{OnTime.begins_late, Precision.{before_narrow, block_ends, follows_before}}}
+pub use Rattle.precision_law.proofs.records.{Points.{before_of, earlier_before, last_in, setting_is, within_run}}
+pub use Rattle.precision_law.proofs.records.{Times.{between, earlier_parts, in_between}}
+pub use Rattle.run_law.proofs.law.FirstDeliveries.{IsFoundedAt, founded_at, in_filter, none_kept, numbered_in, split}
+pub use Rattle.schedule_tables.proofs.SlotLemmas.{in_range}
 pub use Rattle.precision_law.proofs.records.Views.{in_order, room, steady}
 pub use Rattle.precision_law.specs.{BlockLaws.ComesTo, Blocks.{IsInBlock, IsOldAt, Stands, adjustment_left, state_left}}
 pub use Rattle.precision_law.specs.{Epochs.{epoch_time, has_time, last_setting}, Hulls.{Hull, hull_of, last_correction}, Sizes.Sizes}
 pub use Rattle.precision_law.specs.Views.{IsGood, IsView, View}
 pub use Rattle.run_law.proofs.control.Verdicts.{none_first}
 pub use Rattle.run_law.proofs.device.States.{reaches_by}
-pub use Rattle.run_law.proofs.law.FirstPlaces.{IsFoundedAt, founded_at, in_filter, none_kept, numbered_in, split}
 pub use Rattle.run_law.proofs.runs.{Lacking.behind_first, Places.{in_left, in_parts, parted}}
 pub use Rattle.run_law.specs.control.Wires.{Signal, control, launched, timed}
 pub use Rattle.run_law.specs.declared.{judgement.{Judgement.{Judgement, TheVariants.Integrates}, Reason.Reason, Why.Why}, note.NoteBody.NoteBody}
@@ -35,7 +37,6 @@ pub use Rattle.run_law.specs.runs.{DueRecords.{IsCaused, IsDue}, Runs.IsFounded}
 pub use Rattle.run_law.specs.scenario.{Devices.{is_end, is_relay, start_of}, Scenarios.{Scenario, is_broken, is_turned_on_at}, Ways.{way_from, way_to}}
 pub use Rattle.run_law.specs.timed.Arrivals.{entry_arrival, entry_entering, is_taken_in, octets_fault, octets_or_fault, row_fault, taken_or_fault}
 pub use Rattle.run_law.specs.timed.{Arrivals.timed_arrival, Dispatching.{is_accepted, last_accepted}, Receptions.last_taken}
-pub use Rattle.schedule_tables.proofs.EntryLemmas.{in_range}
 pub use Rattle.schedule_tables.specs.{Entries.{IsEntry, IsOnChannel, source_by, source_of, target_by, target_of}, Rules.KeepsRules}
 pub use Rattle.schedule_tables.specs.Windows.{OccursIn, port_time, window_of}
 pub use Rattle.schedule_tables.specs.declared.{entry.Entry.Entry, rule.Rule.TheVariants.Joints}

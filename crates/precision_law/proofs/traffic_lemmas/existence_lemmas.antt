@@ -1,5 +1,4 @@
 pub mod Sweep
-pub mod Times
 pub mod bounds
 pub mod decisions
 pub mod Existence

@@ -1,12 +1,8 @@
 -- No frame meets a frame of the schedule on a port.
 pub mod Dispatched
-pub mod OneDispatch
 pub mod Ends
 pub mod Cycles
-pub mod TwoDispatches
 pub mod Arrived
 pub mod Openers
 pub mod Gates
-pub mod Givings
-pub mod Leavings
 pub mod Apart

@@ -1,6 +1,2 @@
 -- The span of a cycle: from behind the last correction of one to the first of the next, clocks show that cycle.
-pub mod Synchronised
-pub mod Corrected
 pub mod Spans
-pub mod Forward
-pub mod Reaching

@@ -1,6 +1,7 @@
 -- The gates of the sound channel are open while the frames of a cycle come.
 use Rattle.precision_law.proofs.{block.Dispatched.old_early, words.Runs.{is_relay, is_synchronised, is_turned_on_at, offset_in_cycle, state_before}}
-use Rattle.precision_law.proofs.{block.Onward.hull_ordered, words.Plans.{Channel, DeviceId, Integrating, Network, State, Synchronised, amount}}
+use Rattle.precision_law.proofs.{block.Onward.hull_ordered}
+use Rattle.precision_law.proofs.{words.Plans.{Channel, DeviceId, Integrating, Network, State, Synchronised, amount}}
 use Rattle.precision_law.proofs.words.{Blocks.{before_narrow, block_ends, old_shows}, Std.{int_rem_euclid_is, ints, le-ltb, mod-mul-add, pos, suc, ℕ, ℤ}}
 use Rattle.precision_law.proofs.words.Clocks.{frames_come_first, natural, natural_of, one_more, room, sizes_are, switches_are_good}
 use Rattle.precision_law.proofs.words.Laws.{AreOpenFrom, AreOpenOn, BlocksGoSo, IsGood, HasTimeAt, HaveRoom, Hull, IsInBlock, IsNarrow, IsOpen, IsView, ShowsIn}

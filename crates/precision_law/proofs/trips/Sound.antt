@@ -1,7 +1,9 @@
 -- The sound channel delivers: up to its compression master, and down from it.
 use Rattle.precision_law.proofs.{clocks.Readings.reach_is_there, words.Std.{inl, inr, ints, le-ltb, nat_lt, not, option_and_then, pos, refl, subst, true, ℕ, ℤ}}
-use Rattle.precision_law.proofs.{faults.Masters.good_is_correct, words.Runs.{start_of, state_after, state_before, state_with, time_of, wire_of, with_clock}}
-use Rattle.precision_law.proofs.{faults.Ways.sound_switches_begin_on, words.Laws.{IsGood, IsOpen, IsPermanentAt, IsSoundSwitch, IsView, View}}
+use Rattle.precision_law.proofs.{faults.{Masters.good_is_correct, Sound.sound_switches_begin_on}}
+use Rattle.precision_law.proofs.words.{Laws.{IsGood, IsOpen, IsPermanentAt, IsSoundSwitch, IsView, View}}
+use Rattle.precision_law.proofs.words.Runs.{start_of, state_after, state_before, state_with, time_of, wire_of}
+use Rattle.precision_law.proofs.words.Runs.{with_clock}
 use Rattle.{precision_law.proofs.records.Views.{room, steady}, tte_units.specs.declared.frames.pcf.PcfKind.TheVariants.Integration}
 use Rattle.precision_law.proofs.words.Plans.{DeviceId, Integrating, IsReach, LinkId, Network, Pcf, State, amount, device_at, point_of, state_at_start}
 use Rattle.precision_law.proofs.words.Runs.{BeginsOn, ChangesState, Happening, IsCaused, IsIn, NoteBody, Reason, Why, earlier, first_reason, founded_at}

@@ -1,5 +1,7 @@
 -- What the legs of a trip add up to, and the path that they go.
-use Rattle.precision_law.proofs.{block.Joins.arrival_link, words.Clocks.{arrived_frame, child_channel, gives_down, leaving_is, leg_hop, reached, same_cycle}}
+use Rattle.precision_law.proofs.{block.Instants.arrival_link}
+use Rattle.precision_law.proofs.words.Clocks.{arrived_frame, child_channel, gives_down, leaving_is, leg_hop, reached}
+use Rattle.precision_law.proofs.words.Clocks.{same_cycle}
 use Rattle.precision_law.proofs.words.Laws.{IsLeg, IsTrip, IsView, Leg, View, clock_in, links_back}
 use Rattle.precision_law.proofs.words.Plans.{Channel, DeviceId, Down, Hop, IsHop, IsPath, IsSwitchOf, Link, LinkId, Network, Pcf, Way, amount, closed}
 use Rattle.precision_law.proofs.words.Plans.{device_at, growth, jitter_of, jitter_on, link_at, opened, target_by, travel}

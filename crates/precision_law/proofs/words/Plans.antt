@@ -1,10 +1,13 @@
 -- What the proofs name of the network, its tables, its frames and the devices, passed on from one place. Declares nothing.
 pub use Rattle.sync_state.specs.correction.Correction.{correction_of}
-pub use Rattle.compression.proofs.Elements.{Ordered, Ordered-beyond, all-filter, from_beyond, in_cases, in_filter_from, in_head, in_none, in_tail}
-pub use Rattle.compression.proofs.Firsts.{counts, firsts-has, firsts-start, members_of-clear, members_of-set, with_first-new, with_first-old}
-pub use Rattle.compression.proofs.{Growth.{cluster_of-beyond, end_of-least, end_of-same}, Held.{beyond-push_out, held-push_beyond, held-start}}
-pub use Rattle.compression.proofs.{MiddleLaws.{middle_among_others, middle_from_first_to_last}, Times.{in_rest, one_list_of_clusters, one_time_law}}
-pub use Rattle.compression.proofs.Together.{one_cluster}
+pub use Rattle.compression.proofs.{Middles.{middle_among_others, middle_from_first_to_last}}
+pub use Rattle.compression.proofs.{Times.{in_rest, one_cluster, one_list_of_clusters, one_time_law}}
+pub use Rattle.compression.proofs.Growth.{Ordered, Ordered-beyond, all-filter, beyond-push_out, cluster_of-beyond}
+pub use Rattle.compression.proofs.Growth.{counts, end_of-least, end_of-same, firsts-has, firsts-start, from_beyond}
+pub use Rattle.compression.proofs.Growth.{held-push_beyond, held-start, in_cases, in_filter_from, in_head, in_none}
+pub use Rattle.compression.proofs.Growth.{in_tail, members_of-clear, members_of-set, with_first-new, with_first-old}
+pub use Rattle.net_plan.proofs.Trees.{beta_exists, paths_are_unique, rules_give_trees}
+pub use Rattle.schedule_tables.proofs.Margins.{margins, shape_rules}
 pub use Rattle.compression.specs.Ascent.{IsAscending, last_from}
 pub use Rattle.compression.specs.Clusters.{AreClusters, Cluster, Point, beyond, cluster_of, end_of, firsts, has_master, members_of, of_cycle_within, point_at}
 pub use Rattle.compression.specs.{Clusters.with_first, Emission.emission, Middle.{AllButOne, LiesWithin, last_but_one, middle_of, middle_point, relative}}
@@ -15,7 +18,6 @@ pub use Rattle.sync_state.specs.membership.BestFrame.{IsBehind, IsBest, IsBestOf
 pub use Rattle.sync_state.specs.membership.Hearing.{Hearing, IsOutside, IsWithinOn, within_on}
 pub use Rattle.sync_state.specs.membership.{Members.{IsMember, count_of, none, single, union}, Summary.{AreOutside, Summarizes, Summary, best_on, silence}}
 pub use Rattle.sync_state.specs.declared.membership.frame.HeardFrame.{HeardFrame}
-pub use Rattle.net_plan.proofs.{Beta.beta_exists, Shape.rules_give_trees, Trees.paths_are_unique}
 pub use Rattle.net_plan.specs.{Bounds.{IsBeta, beta_at, jitter_of, jitter_on}, Paths.{IsPath, IsTree, IsUplink}}
 pub use Rattle.net_plan.specs.Places.{IsCmOf, IsDeviceOf, IsSwitchOf, device_at, is_end_system, is_master, link_at}
 pub use Rattle.net_plan.specs.{Ranges.{IsDeviceInRange, IsLinkInRange, IsWithin}, Rules.{HasOffSwitch, IsChildOf}}
@@ -23,7 +25,6 @@ pub use Rattle.net_plan.specs.declared.{event.{Event.Event, What.{What, TheVaria
 pub use Rattle.net_plan.specs.declared.tables.{Device.Device, Link.Link, Role.{Role, TheVariants.{Cm, Master, Relay}}, Way.{Way, TheVariants.{Down, Up}}}
 pub use Rattle.pcf_codec.specs.Fields.{field}
 pub use Rattle.tte_units.specs.declared.frames.{channel.Channel.{Channel, TheVariants.{A, B}}, members.Members.Members, pcf.Pcf.Pcf}
-pub use Rattle.schedule_tables.proofs.Margins.{margins, shape_rules}
 pub use Rattle.schedule_tables.specs.{Delays.{delay_by, delay_of, delay_on, pcf_port_time}, Entries.target_by}
 pub use Rattle.schedule_tables.specs.Margins.{HasMargins, clock_error, compression_time, drift_of}
 pub use Rattle.schedule_tables.specs.declared.rule.Rule.TheVariants.{CompressionMasters, Connections, Joints, Masters}

@@ -1,12 +1,13 @@
 -- What the proofs name of scenarios, runs and records, passed on from one place. Declares nothing.
-pub use Rattle.run_law.proofs.law.FirstDelays.{delay_least, hold_most, last_is}
-pub use Rattle.run_law.proofs.law.FirstPlaces.{IsFoundedAt, IsSplit, by_number, due_is_there, founded_at, front_founded, in_at, in_filter, in_front_of}
-pub use Rattle.run_law.proofs.law.FirstPlaces.{none_kept, number_is, numbered_front, numbered_in, numbered_within, same_earlier, split}
+pub use Rattle.run_law.proofs.law.FirstDeliveries.{IsFoundedAt, IsSplit, by_number, delay_least, due_is_there}
+pub use Rattle.run_law.proofs.law.FirstDeliveries.{founded_at, front_founded, hold_most, in_at, in_filter, in_front_of}
+pub use Rattle.run_law.proofs.law.FirstDeliveries.{last_is, none_kept, number_is, numbered_front, numbered_in}
+pub use Rattle.run_law.proofs.law.FirstDeliveries.{numbered_within, same_earlier, split}
+pub use Rattle.run_law.proofs.scenario.Decisions.{IsDecided, decided_and, decided_less, decided_less_int, decided_or}
+pub use Rattle.run_law.proofs.scenario.Decisions.{decided_same, decided_some, is_faulty}
 pub use Rattle.run_law.proofs.runs.Lacking.{behind_first}
 pub use Rattle.run_law.proofs.runs.Places.{before_later_time, before_next_time, chain, earlier_time, in_left, in_parts, in_right, never_self, parted}
 pub use Rattle.run_law.proofs.runs.SameSteps.{same_judgement}
-pub use Rattle.run_law.proofs.scenario.Conditions.{is_faulty}
-pub use Rattle.run_law.proofs.scenario.Decisions.{IsDecided, decided_and, decided_less, decided_less_int, decided_or, decided_same, decided_some}
 pub use Rattle.run_law.specs.control.Arrivals.{are_others, clock_on_arrival, control_arrival, frame_fault, frame_or_fault, is_cold_start, is_gate_shut}
 pub use Rattle.run_law.specs.control.Arrivals.{is_of_other_domain, is_of_other_member, point_on_arrival}
 pub use Rattle.run_law.specs.control.Collections.{dispatch_value, ends_stretch, is_number, master_of, observation_window, point_by, point_fault, points_of}

@@ -1,8 +1,11 @@
 -- What was heard has a summary, and a summary has a verdict.
 use Rattle.run_law.proofs.Words.{◌++◌, ◌∷◌, ◌≡◌, ◌⊎◌, A, B, Bool, List, None, Option, Some, Summary, Units, [], append-nil, append_assoc, false, inl, inr, refl}
 use Rattle.{run_law.proofs.Words.{subst, sym, true}, sync_state.specs.membership.{BestFrame.IsBetterOf, Hearing.Hearing}}
-use Rattle.run_law.proofs.scenario.{Choices.{outnumbered, qualifies}, Decisions.{decided_and, decided_less, decided_less_int, decided_or, decided_same}}
-use Rattle.sync_state.proofs.{StateFacts.deviates, membership_lemmas.SummaryLemmas.{hears_on_a, hears_on_b, hears_outside, same_hearing, silence_summarizes}}
+use Rattle.run_law.proofs.scenario.Decisions.{decided_and, decided_less, decided_less_int, decided_or, decided_same}
+use Rattle.run_law.proofs.scenario.Decisions.{outnumbered, qualifies}
+use Rattle.sync_state.proofs.{StateFacts.deviates}
+use Rattle.sync_state.proofs.membership_lemmas.SummaryLemmas.{hears_on_a, hears_on_b, hears_outside, same_hearing}
+use Rattle.sync_state.proofs.membership_lemmas.SummaryLemmas.{silence_summarizes}
 use Rattle.sync_state.specs.{Standing.{IsAtIntegration, Standing}, Verdicts.{HasVerdict, deviation_on}, correction.Correction.correction_of}
 use Rattle.sync_state.specs.declared.{answers.Verdict.TheVariants.{AsyncClique, Corrected, SyncClique}, membership.frame.HeardFrame.HeardFrame}
 use Rattle.{sync_state.specs.membership.{Members.{count_of, union}, Summary.{Summarizes, silence}}, tte_units.specs.declared.frames.channel.Channel.Channel}

@@ -1,5 +1,6 @@
 -- What a frame is judged as, and what it ripens to.
-use Rattle.{compression.proofs.Times.one_list_of_clusters, run_law.specs.{control.Collections.ripe_by_role, device.LocalClocks.changes_adjustment}}
+use Rattle.compression.proofs.Times.{one_list_of_clusters}
+use Rattle.run_law.specs.{control.Collections.ripe_by_role, device.LocalClocks.changes_adjustment}
 use Rattle.{compression.specs.{Clusters.Point, Role.role}, run_law.specs.scenario.Devices.is_cm}
 use Rattle.{compression.specs.declared.taken.Taken.Taken, run_law.specs.control.Corrections.cycle_after, std.proofs.Common.{MatchBool, arith, cond}}
 use Rattle.run_law.proofs.Words.{◌≡◌, Bool, DeviceId, Happening, Integrates, Integrating, Joining, Judgement, List, Members, Network, None, NoteBody, Option}

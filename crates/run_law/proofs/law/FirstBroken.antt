@@ -4,7 +4,8 @@ use Rattle.run_law.proofs.Words.{◌++◌, ◌∷◌, ◌≡◌, Arrival, Arrive
 use Rattle.run_law.proofs.Words.{IsDue, IsFounded, LinkId, List, Network, NoteBody, Ok, Option, Pcf, Reason, Scenario, Some, Standpoint, State, Units, Why}
 use Rattle.run_law.proofs.Words.{amount, ap, arrival_of, control, control_arrival, eqb-true, false, frame_fault, frame_or_fault, inl, inr}
 use Rattle.{run_law.proofs.Words.{is_broken, is_joined_by, is_off, not, place_of, refl, standpoint, subst, sym, true, ℕ}, std.specs.Prelude.{Err, Result}}
-use Rattle.run_law.{proofs.law.FirstPlaces.{founded_at, numbered_front, numbered_in}, specs.timed.Arrivals.{octets_fault, octets_or_fault, timed_arrival}}
+use Rattle.run_law.{proofs.law.FirstDeliveries.{founded_at, numbered_front, numbered_in}}
+use Rattle.run_law.{specs.timed.Arrivals.{octets_fault, octets_or_fault, timed_arrival}}
 use Rattle.run_law.specs.{control.{Losses.IsLost}, records.Causes.{IsOfThisTime, device_of}, timed.Receptions.last_taken}
 use Rattle.{run_law.specs.law.FirstLaws.{BrokenAreStill, IsLeftToBroken}, std.proofs.{Common.arith, lemmas.Bool.{and_right, both_ways, not_from_true}}}
 use Rattle.run_law.specs.declared.judgement.Why.TheVariants as whys

@@ -1,5 +1,6 @@
 -- Places one before another, and records in a list.
-use Rattle.{compression.proofs.Elements.{in_cases, in_none}, run_law.{proofs.Words.{suc, sym, true, zero, ℕ}, specs.records.Order.is_before}}
+use Rattle.compression.proofs.Growth.{in_cases, in_none}
+use Rattle.run_law.{proofs.Words.{suc, sym, true, zero, ℕ}, specs.records.Order.is_before}
 use Rattle.run_law.proofs.Words.{◌&&◌, ◌++◌, ◌+◌, ◌-◌, ◌<◌, ◌==◌, ◌∙◌, ◌∷◌, ◌≡◌, ◌≤◌, ◌⊎◌, Bool, Contains, IsBefore, IsIn, List, None, Option, Some, [], ap}
 use Rattle.run_law.proofs.Words.{arith, cases_lt, cons_option, eqb-true, false, filter_map, if◌then◌else◌, inl, inr, length, nat_lt, not, refl, slice_get}
 use Rattle.{run_law.proofs.runs.Places.in_parts, std.proofs.lemmas.Bool.{and_from, and_parts, cond-true, eq-eqb, lt-ltb, ltb-true, or_cases, or_left, or_right}}

@@ -1,6 +1,8 @@
 -- A record that is due is determined by its place.
 use Rattle.{compression.specs.declared.compressed.Compressed.Compressed, net_plan.proofs.SameIds.{same_device, same_link, same_vl}, std.proofs.Common.negsuc}
-use Rattle.{net_plan.specs.declared.event.What.TheVariants.On, sync_state.proofs.LawLemmas.one_verdict, tte_units.proofs.general_lemmas.Integers.same_number}
+use Rattle.net_plan.specs.declared.event.What.TheVariants.{On}
+use Rattle.sync_state.proofs.{VerdictLemmas.one_verdict, membership_lemmas.SummaryLemmas.one_summary}
+use Rattle.tte_units.proofs.general_lemmas.Integers.{same_number}
 use Rattle.run_law.proofs.Words.{◌∙◌, ◌∷◌, ◌≡◌, ◌≤ℤ◌, Arrival, ArrivesAs, BecomesPermanent, ChangesState, Departs, DeviceId, Event, Happening}
 use Rattle.run_law.proofs.Words.{IsArrivedRecord, IsCaused, IsDetermined, IsDropped, IsDue, Judgement, LinkId, List, Members, Note, NoteBody, Reason, Scenario}
 use Rattle.run_law.proofs.Words.{State, Units, What, Why, [], amount, ap, arith, happening, inl, inr, ints, is_joined_by, key, members_in}
@@ -10,7 +12,6 @@ use Rattle.{run_law.{proofs.runs.SameSteps.same_ripening, specs.{control.Emissio
 use Rattle.run_law.specs.{control.Corrections.{ComesToCorrection, standing_before}, runs.DueRecords.{IsClockRecord, IsCorrectedRecord, IsEventRecord}}
 use Rattle.{run_law.specs.{control.Leaving.leaves}, sync_state.specs.declared.answers.Verdict.Verdict}
 use Rattle.run_law.specs.records.Ranks.{sign}
-use Rattle.sync_state.{proofs.membership_lemmas.OneSummary.one_summary}
 use Rattle.run_law.specs.declared.judgement.Why.TheVariants as whys
 use Rattle.run_law.specs.declared.note.NoteBody.TheVariants as notes
 use Rattle.run_law.specs.declared.steps.Arrival.TheVariants as arrivals

@@ -1,8 +1,11 @@
 -- The hypothesis judges an event in one way.
 use Rattle.run_law.proofs.Words.{◌*◌, ◌<◌, ◌==◌, ◌^◌, ◌∙◌, ◌≡◌, ◌⊎◌, Event, IsWithinHypothesis, List, Network, amount, ap, arith, cases_lt, if◌then◌else◌, inl}
-use Rattle.run_law.{proofs.{Words.{inr, pos, refl, subst, suc, sym, zero, ℕ}, scenario.Conditions.turns_on_again}, specs.declared.outside.Outside.Outside}
-use Rattle.run_law.proofs.scenario.Conditions.{fast_rate, long_hold, no_master, other_channel, other_wire, second_break, sends_unbroken, too_early, too_few}
-use Rattle.run_law.{proofs.scenario.Decisions.{IsDecided, decided_less_int, decided_same}, specs.scenario.Hypothesis.{IsOutsideBy, Violates, condition_number}}
+use Rattle.run_law.proofs.{Words.{inr, pos, refl, subst, suc, sym, zero, ℕ}}
+use Rattle.run_law.proofs.scenario.Decisions.{IsDecided, decided_less_int, decided_same, fast_rate, long_hold}
+use Rattle.run_law.proofs.scenario.Decisions.{no_master, other_channel, other_wire, second_break, sends_unbroken}
+use Rattle.run_law.proofs.scenario.Decisions.{too_early, too_few, turns_on_again}
+use Rattle.run_law.specs.{declared.outside.Outside.Outside}
+use Rattle.run_law.specs.{scenario.Hypothesis.{IsOutsideBy, Violates, condition_number}}
 use Rattle.run_law.specs.declared.outside.Outside.TheVariants.{Channel, Hold, Late, NotBroken, NotMaster, NotOff, Order, Rate, SecondBreak, TooFewMasters, Wire}
 use Rattle.{run_law.specs.law.Laws.HypothesisIsDecided, std.proofs.lemmas.Bool.cases_order}
 

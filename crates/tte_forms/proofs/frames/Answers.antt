@@ -1,10 +1,13 @@
 -- The answer of `show` for a source, and for a file that spells a sequence of frames.
-use Rattle.{pcf_codec.{proofs.Outcomes.spelt_read, specs.{Decoding.decoded, Spelling.pcf_length}}, tte_units.specs.declared.frames.pcf.Pcf.Pcf}
+use Rattle.pcf_codec.{proofs.Spellings.spelt_read, specs.{Decoding.decoded, Spelling.pcf_length}}
+use Rattle.tte_forms.{specs.Putting.Shown}
+use Rattle.tte_forms.proofs.{Octets.{for_read, for_too_many}, Puts.{Ends-gives, PutsLines-none}}
+use Rattle.tte_forms.proofs.{frames.Frames.{behind, no_frame}}
+use Rattle.tte_units.specs.declared.frames.pcf.Pcf.{Pcf}
 use Rattle.{pcf_codec.{proofs.Sequences.length-spelling, specs.Sequence.{IsLongestFront, SpellsAll}}, std.proofs.Common.{refl, suc, sym, take, ℕ}}
 use Rattle.{pcf_codec.specs.declared.refusal.PcfRefusal.PcfRefusal, std.proofs.lemmas.{Bool.{le-ltb, lt-ltb}, List.{append-nil, drop-drop, nil_from_length}}}
 use Rattle.std.proofs.Common.{◌*◌, ◌++◌, ◌+◌, ◌-◌, ◌<◌, ◌∙◌, ◌∷◌, ◌≡◌, ◌≢◌, ◌≤◌, Err, List, [], ap, append_assoc, arith, drop, length, length-append}
 use Rattle.{std.{proofs.Math.Seq.{drop-append_seam, take-append_seam}, specs.Prelude.{IfSome, Option}}, tte_forms.specs.frames.Law.{ShowsFrames, frame_lines}}
-use Rattle.tte_forms.{proofs.{Octets.{for_read, for_too_many}, Puts.{Ends-gives, PutsLines-none}, frames.Frames.{behind, no_frame}}, specs.Putting.Shown}
 use Rattle.tte_forms.specs.{Answering.{Answers, Ends, Gives, with_line}, declared.status.Status.{Status, TheVariants.{Done, FrameRefused, TooLong}}}
 use Rattle.tte_forms.specs.frames.{Answer.{file_limit, frame_at, frame_count, frames_answer, judgement_of, show_answer}, FrameLine.{frame_line, refusal_line}}
 

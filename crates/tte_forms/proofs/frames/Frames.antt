@@ -3,7 +3,8 @@ use Rattle.{pcf_codec.specs.Decoding.decoded, std.{proofs.lemmas.List.append-nil
 use Rattle.{pcf_codec.specs.declared.refusal.PcfRefusal.PcfRefusal, tte_forms.specs.Putting.{PutsLines, Shown}, tte_units.specs.declared.frames.pcf.Pcf.Pcf}
 use Rattle.std.proofs.Common.{◌++◌, ◌+◌, ◌-◌, ◌<◌, ◌∙◌, ◌∷◌, ◌≡◌, ◌≤◌, Err, List, Ok, [], ap, append_assoc, arith, inl, inr, refl, suc, sym}
 use Rattle.{std.proofs.Common.{zero, ℕ}, tte_io.specs.Told.AppendsFront}
-use Rattle.tte_forms.proofs.Puts.{Ends-gives, PutsLines-append, PutsLines-fails, PutsLines-more, PutsSome-behind, WriteFails-behind}
+use Rattle.tte_forms.proofs.Puts.{Ends-gives, PutsLines-append, PutsLines-fails, PutsLines-more, PutsSome-behind}
+use Rattle.tte_forms.proofs.Puts.{WriteFails-behind}
 use Rattle.tte_forms.specs.{Answering.{Answer, Ends, Gives}, declared.status.Status.Status, frames.FrameLine.{frame_line, refusal_line}}
 use Rattle.tte_forms.specs.{declared.status.Status.TheVariants.{Done, FrameRefused, WriteFault}, frames.Answer.{frame_at, frames_answer, judgement_of}}
 

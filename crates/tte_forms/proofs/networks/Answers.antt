@@ -1,6 +1,7 @@
 -- The answer for the octets of a network file.
 use Rattle.{net_file.specs.Schema.network_read, schedule_checker.specs.{Refusals.{RefusalIsOne}, declared.refusal.RuleBroken.RuleBroken}}
-use Rattle.{net_file.specs.declared.refusal.FileRefusal.FileRefusal, tte_forms.proofs.{Octets.{for_all, for_more}, OneAnswers.{answer_widened, unput_answer}}}
+use Rattle.net_file.specs.declared.refusal.FileRefusal.{FileRefusal}
+use Rattle.tte_forms.proofs.{Octets.{for_all, for_more}, Puts.{answer_widened, unput_answer}}
 use Rattle.{net_plan.specs.{Bounds.{BetaIsUnique, IsBeta, gamma_of}, declared.network.Network.Network}, tte_forms.specs.declared.accepting.NoNetwork.NoNetwork}
 use Rattle.std.proofs.{Common.{◌∙◌, ◌∷◌, ◌≡◌, ◌⊎◌, Err, List, Ok, Option, [], arith, inl, inr, pos, refl, sym, ℕ}, lemmas.Int.ints}
 use Rattle.tte_forms.specs.{Answering.{Answer, AnswersOne, ForOctets, Gives, GivesAnswer}, declared.status.Status.{Status, TheVariants.{Done, WriteFault}}}

@@ -1,12 +1,15 @@
 -- The packets that stand in a file have their lines.
-use Rattle.{pcf_codec.proofs.Outcomes.is_spelling, std.proofs.lemmas.{Bool.Decides.nat_tests, List.append-nil}, tte_units.specs.declared.frames.pcf.Pcf.Pcf}
+use Rattle.std.{proofs.lemmas.{Bool.Decides.nat_tests, List.append-nil}}
+use Rattle.std.{specs.{Fmt.decimal, Prelude.{◌==◌, None, Option, Result, Some, codes, nat_le}}}
+use Rattle.pcf_codec.proofs.Spellings.{is_spelling}
+use Rattle.tte_observers.proofs.captures_lemmas.{Packets.{answer_behind, capture_answer-fits, packets_next}}
+use Rattle.tte_observers.proofs.captures_lemmas.{pcap_lemmas.{Heads.finds_head, Packets.{finds_packets, packet_stands}}}
+use Rattle.tte_units.specs.declared.frames.pcf.Pcf.{Pcf}
 use Rattle.{pcf_codec.specs.{Decoding.decoded, Fields.field}, std.proofs.{Common.ℕ, lemmas.Bool.and_parts}, tte_forms.proofs.frames.Frames.behind}
 use Rattle.{pcf_codec.specs.{EtherType.{HasPcfType, pcf_type}, declared.refusal.PcfRefusal.PcfRefusal}, tte_forms.specs.frames.FrameLine.refusal_text}
 use Rattle.std.proofs.Common.{◌*◌, ◌++◌, ◌+◌, ◌-◌, ◌<◌, ◌∙◌, ◌∷◌, ◌≡◌, ◌≤◌, Bool, Err, List, Ok, [], ap, arith, false, inl, inr, length, refl, suc, true, zero}
-use Rattle.{std.specs.{Fmt.decimal, Prelude.{◌==◌, None, Option, Result, Some, codes, nat_le}}, tte_observers.proofs.captures_lemmas.Files.capture_answer-fits}
 use Rattle.{tte_forms.specs.Answering.{Answer, line_answer, with_line}, tte_observers.specs.captures.pcap.Reading.{opened, packet_at}}
 use Rattle.{tte_forms.specs.declared.status.Status.TheVariants.{CaptureRefused, Done}, tte_observers.specs.captures.pcap.Layout.{IsHead, IsPacket, head_length}}
-use Rattle.tte_observers.proofs.captures_lemmas.{Packets.{answer_behind, packets_next}, pcap_lemmas.{Heads.finds_head, Packets.{finds_packets, packet_stands}}}
 use Rattle.tte_observers.specs.captures.{Answer.{capture_answer, found_answer, opened_answer, packets_answer}, pcap.ReadingLaw.{HasHeadFault, HasPacketFault}}
 use Rattle.tte_observers.specs.captures.CaptureLine.{has_pcf_type, head_refusal_line, no_frame_words, packet_line, packet_refusal_line, words_of}
 use Rattle.tte_observers.specs.captures.Law.{HasPackets, IsFile, IsJudged, ShowsOctets, ShowsPackets, StandFrom, packet_lines, refused_behind, whole_answer}

@@ -1,11 +1,59 @@
--- The answer for the packets of a capture, packet by packet.
-use Rattle.std.proofs.Common.{◌++◌, ◌+◌, ◌-◌, ◌<◌, ◌∙◌, ◌∷◌, ◌≡◌, ◌≤◌, Err, List, Ok, Result, [], ap, append_assoc, arith, inl, inr, length, refl, subst, suc}
-use Rattle.{std.{proofs.{Common.{sym, ℕ}, lemmas.List.append-nil}, specs.{Io.KnownBytes.Appends, Prelude.{None, Option, Some}}}, tte_io.specs.Told.AppendsFront}
-use Rattle.tte_forms.proofs.{Puts.{Ends-gives, PutsLines-fails, PutsLines-more, PutsLines-none}, frames.Frames.{Gives-behind, behind}}
-use Rattle.tte_forms.specs.{Answering.{Answer, Ends, Gives, line_answer}, declared.status.Status.{Status, TheVariants.{CaptureRefused, Done, WriteFault}}}
-use Rattle.{tte_forms.specs.Putting.{PutsLines, Shown}, tte_io.specs.Faults.next_count, tte_observers.specs.captures.Answer.{found_answer, packets_answer}}
-use Rattle.tte_observers.specs.captures.{CaptureLine.{packet_line, packet_refusal_line}, pcap.{Layout.{head_length, stamp_length}, Reading.packet_at}}
-use Rattle.tte_observers.specs.declared.captures.pcap.{capture.{CaptureHead.CaptureHead, Packet.Packet}, refusal.CaptureRefusal.CaptureRefusal}
+-- The answer of `capture` for its source, packet by packet.
+use Rattle.std.{specs.{Io.KnownBytes.Appends, Prelude.{IfSome, None, Option, Some}}}
+use Rattle.std.proofs.{lemmas.{Bool.{cases_lt, le-ltb, lt-ltb}, List.append-nil}}
+use Rattle.std.proofs.Common
+use Common.{◌++◌, ◌+◌, ◌-◌, ◌<◌, ◌∙◌, ◌∷◌, ◌≡◌, ◌≤◌, Err, List, Ok, Result, [], ap, append_assoc, arith, inl, inr}
+use Common.{length, refl, subst, suc, sym, ℕ}
+use Rattle.tte_forms.proofs.{Octets.{for_read, for_too_many}}
+use Rattle.tte_forms.proofs.{Puts.{Ends-gives, PutsLines-fails, PutsLines-more, PutsLines-none}}
+use Rattle.tte_forms.proofs.{frames.Frames.{Gives-behind, behind}}
+use Rattle.tte_forms.specs.{Answering.{Answer, Answers, Ends, Gives, line_answer}, Putting.{PutsLines, Shown}}
+use Rattle.tte_forms.specs.{declared.status.Status.{Status, TheVariants.{CaptureRefused, Done, TooLong, WriteFault}}}
+use Rattle.tte_io.specs.{Faults.next_count, Told.AppendsFront}
+use Rattle.tte_observers.specs.captures.{CaptureLine.{packet_line, packet_refusal_line}}
+use Rattle.tte_observers.specs.captures.{pcap.{Layout.{head_length, stamp_length}, Reading.{opened, packet_at}}}
+use Rattle.tte_observers.specs.captures.Answer.{capture_answer, capture_limit, found_answer, opened_answer}
+use Rattle.tte_observers.specs.captures.Answer.{packets_answer}
+use Rattle.tte_observers.specs.declared.captures.pcap.{capture.{CaptureHead.CaptureHead, Packet.Packet}}
+use Rattle.tte_observers.specs.declared.captures.pcap.{refusal.CaptureRefusal.{CaptureRefusal, TheVariants.Header}}
+
+-- ---- the answer of `capture` for a source
+
+-- an empty file, or a short one, has no header
+opened_short : (file : List ℕ) → length file < head_length → opened file ≡ Err (Header (length file))
+unfolding opened
+opened_short file short = rw (lt-ltb (length file) head_length short) refl
+
+-- a header has its length
+pub head_whole : (file : List ℕ) (head : CaptureHead) → opened file ≡ Ok head → head_length ≤ length file
+head_whole file head is = elim (cases_lt (length file) head_length) [
+  | inl short ↦ let refused = opened_short file short in let no : ⊥ = cc in absurd no
+  | inr size ↦ size
+]
+
+pub capture_answer-fits : (file : List ℕ) → length file ≤ capture_limit → capture_answer file ≡ opened_answer file (opened file)
+unfolding capture_answer
+capture_answer-fits file short = rw (le-ltb capture_limit (length file) short) refl
+
+capture_answer-long : (file : List ℕ) → capture_limit < length file → capture_answer file ≡ record { status = TooLong; lines = [] }
+unfolding capture_answer
+capture_answer-long file long = rw (lt-ltb capture_limit (length file) long) refl
+
+pub answers-read : (left : Option (List ℕ)) (file : List ℕ) (status : Status) {old new : Shown}
+    → IfSome left (λ all. file ≡ all) → length file ≤ capture_limit
+    → Gives (opened_answer file (opened file)) status old new → Answers capture_answer left status old new
+answers-read left file status {old} {new} all short g =
+    for_read left file (λ xs. Gives (capture_answer xs) status old new) all
+    (subst (λ a. Gives a status old new) (sym (capture_answer-fits file short)) g)
+
+pub answers-long : (left : Option (List ℕ)) (status : Status) (old new : Shown) → IfSome left (λ all. capture_limit < length all)
+    → Ends TooLong status old new → Answers capture_answer left status old new
+answers-long left status old new long ends =
+    for_too_many capture_limit left (λ xs. Gives (capture_answer xs) status old new) long
+    (λ xs many. subst (λ a. Gives a status old new) (sym (capture_answer-long xs many))
+    (Ends-gives TooLong status new (PutsLines-none old) ends))
+
+-- ---- the answer for the packets of a capture, packet by packet
 
 -- the answer behind a packet, from a place on
 abbrev pub answer_behind : ℕ → ℕ → CaptureHead → List ℕ → ℕ → Answer

@@ -1,4 +1,2 @@
 pub mod Heads
 pub mod Packets
-pub mod Stamps
-pub mod Trips

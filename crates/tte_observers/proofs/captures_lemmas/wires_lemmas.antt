@@ -4,13 +4,6 @@ pub mod Puts
 pub mod Spelt
 pub mod Seen
 pub mod Given
-pub mod Sent
-pub mod Befallen
-pub mod Passing
-pub mod Fronts
 pub mod Along
-pub mod Ended
-pub mod Headed
-pub mod Networks
 pub mod Safely
 pub mod Words

@@ -1,11 +1,13 @@
 -- How `stamp` ends.
-use Rattle.{net_plan.specs.Ranges.IsInRange, tte_forms.proofs.Octets.{for_all, for_more}, tte_traces.{proofs.Sources.trace_given, specs.Answer.IsRunStatus}}
+use Rattle.net_plan.specs.Ranges.{IsInRange}
+use Rattle.tte_forms.{proofs.{Octets.{for_all, for_more}, Puts.answer_widened}}
+use Rattle.tte_forms.{specs.{Answering.{ForOctets, GivesAnswer}, declared.status.Status.TheVariants.WriteFault}}
+use Rattle.tte_observers.specs.stamps.Answer.{IsStampStatus, StampEnds, StampStops, StampTakesLittle}
+use Rattle.tte_traces.{proofs.{Ends.trace_given, Runs.trace_answers_exist}, specs.Answer.IsRunStatus}
 use Rattle.{std.proofs.Common.{◌<ℤ◌, ◌<◌, ◌≢◌, ◌⊎◌, negsuc}, tte_observers.proofs.stamps_lemmas.Words.{refl, stamp_lines, subst, unsigned_abs, ℕ, ℤ}}
 use Rattle.std.proofs.lemmas.Int.{ints}
-use Rattle.tte_forms.{proofs.OneAnswers.answer_widened, specs.{Answering.{ForOctets, GivesAnswer}, declared.status.Status.TheVariants.WriteFault}}
 use Rattle.tte_observers.proofs.stamps_lemmas.Words.{◌≡◌, ◌≤ℤ◌, ◌≤◌, Answer, GranuleRefused, IsStampAnswer, IsTraceAnswer, List, MeansAccepted, Network, Option}
 use Rattle.tte_observers.proofs.stamps_lemmas.Words.{ReadFault, Shown, Status, Units, amount, arith, cases_lt, granule_answer, inl, inr, least_granule, pos}
-use Rattle.{tte_observers.specs.stamps.Answer.{IsStampStatus, StampEnds, StampStops, StampTakesLittle}, tte_traces.proofs.Existing.trace_answers_exist}
 
 module _ (granule : Units) (network : Network) (trace : List ℕ) where
   pub refused_alone : amount granule < least_granule network → {b : Answer} → IsStampAnswer granule trace network b

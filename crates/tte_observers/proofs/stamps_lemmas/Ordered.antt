@@ -1,7 +1,8 @@
 -- The order of the events of a trace.
 use Rattle.{run_law.proofs.records.Order.contains, std.{proofs.lemmas.List.Elements.All-contains, specs.List.All}}
 use Rattle.run_law.{proofs.runs.Places.{in_parts, in_right, parted}, specs.{law.FirstLaws.IsEventInRange, scenario.Hypothesis.AreWithinHypothesis}}
-use Rattle.tte_observers.proofs.stamps_lemmas.{Staying.{AreUpToLast, FollowOn, MayFollow}, granules_lemmas.Traces.behind_later}
+use Rattle.tte_observers.proofs.stamps_lemmas.{Staying.{AreUpToLast, FollowOn, MayFollow}}
+use Rattle.tte_observers.proofs.stamps_lemmas.{granules_lemmas.Stamped.behind_later}
 use Rattle.tte_observers.proofs.stamps_lemmas.Words.{◌++◌, ◌∙◌, ◌∷◌, ◌≡◌, ◌≤ℤ◌, ◌≤◌, AreAdmitted, Event, IsIn, List, Network, [], admitted_in_order, amount, ap}
 use Rattle.tte_observers.proofs.stamps_lemmas.Words.{append-nil, append_assoc, arith, inl, inr, last_time, pos, refl, subst, sym, ℕ}
 use Rattle.{tte_traces.proofs.EventOrder.{last_before, last_of, not_earlier}, world_drive.proofs.exact_lemmas.Events.{last_is, last_or_none}}

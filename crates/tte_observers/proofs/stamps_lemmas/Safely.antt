@@ -2,7 +2,8 @@
 use Rattle.net_plan.specs.Ranges.{IsInRange}
 use Rattle.{run_law.specs.declared.note.Note.Note, tte_observers.proofs.stamps_lemmas.Words.{sym, ℕ}, world_drive.specs.exact.Records.AreAllRecords}
 use Rattle.tte_observers.{proofs.stamps_lemmas.SameRecords.up_to_mark, specs.stamps.Safely.{IsStampRefusal, IsStampedRun, IsStampedToFault, StampsTell}}
-use Rattle.{tte_observers.proofs.stamps_lemmas.Telling.stamps_tell, tte_traces.proofs.Safely.{IsSafe, admitted_under, of_fault, of_whole, trace_safe}}
+use Rattle.tte_observers.proofs.stamps_lemmas.Telling.{stamps_tell}
+use Rattle.tte_traces.proofs.Runs.{IsSafe, admitted_under, of_fault, of_whole, trace_safe}
 use Rattle.tte_observers.proofs.stamps_lemmas.Words.{◌+◌, ◌∷◌, ◌≤◌, Answer, AreAdmitted, AreRecordsSoFar, Event, IsStampAnswer, List, MeansAccepted, Network}
 use Rattle.tte_observers.proofs.stamps_lemmas.Words.{Units, [], admitted_in_order, amount, arith, inl, inr, last_time, least_granule, refl, stamp_lines, subst}
 

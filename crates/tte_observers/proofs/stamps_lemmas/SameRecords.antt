@@ -1,6 +1,8 @@
 -- Two runs of one scenario have the same records before a time that neither ends before.
-use Rattle.{precision_law.proofs.records.Cutting.cut_run, run_law.specs.{records.{Order.IsBefore, Ranks.place_of}, runs.{DueRecords.IsDue, Runs.IsRun}}}
-use Rattle.{run_law.proofs.law.FirstPlaces.{same_earlier, split}, tte_observers.proofs.stamps_lemmas.Words.{◌∙◌, ◌∷◌, ◌≡◌, ◌≤◌, List, Scenario, [], ap, sym, ℕ}}
+use Rattle.precision_law.proofs.records.Times.{cut_run}
+use Rattle.run_law.{proofs.law.FirstDeliveries.{same_earlier, split}}
+use Rattle.run_law.{specs.{records.{Order.IsBefore, Ranks.place_of}, runs.{DueRecords.IsDue, Runs.IsRun}}}
+use Rattle.tte_observers.proofs.stamps_lemmas.Words.{◌∙◌, ◌∷◌, ◌≡◌, ◌≤◌, List, Scenario, [], ap, sym, ℕ}
 use Rattle.run_law.{proofs.runs.{Determined.due_is_determined, Places.{before_later_time, before_of_time}}, specs.records.Happenings.{Happening, earlier}}
 use Rattle.run_law.proofs.runs.OneRun.{one_run}
 

@@ -1,13 +1,131 @@
--- What the observer of `stamp` has put, and what it puts at one more line.
-use Rattle.{run_law.proofs.{runs.Places.{in_left, in_right}, scenario.Devices.within_front}, world_drive.specs.Observing.{Befell, Told}}
-use Rattle.{std.proofs.Common.{Err, Ok, Result}, tte_observers.proofs.stamps_lemmas.Words.{pos, refl, shown_as, stamp_lines, subst, suc, sym, told_by, zero, ℕ}}
-use Rattle.{std.specs.Prelude.{IfErr, MatchResult}, tte_io.specs.declared.ends.Sink.Ghosts, world_drive.proofs.Earlier.records_none}
-use Rattle.{tte_forms.proofs.Puts.{PutFails-behind, PutsLines-append}, tte_observers.specs.stamps.Stamping.{PutsAll, PutsStamps, StopsStamps}}
-use Rattle.tte_forms.specs.Putting.{PutFails}
-use Rattle.tte_observers.proofs.stamps_lemmas.{Ordered.{begun, hypothesis_up_to_last}, SameRecords.up_to_mark, Staying.{AreUpToLast, MayFollow, stamps_stay}}
-use Rattle.tte_observers.proofs.stamps_lemmas.Words.{◌++◌, ◌∙◌, ◌∷◌, ◌≡◌, ◌≤ℤ◌, ◌≤◌, AreFrom, AreRecordsSoFar, Event, ExactWorld, IsIn, List, Network, Note}
-use Rattle.tte_observers.proofs.stamps_lemmas.Words.{PutsLines, PutsLines-none, [], amount, ap, append-nil, arith, inl, inr, last_time, line_at, line_stamps}
-use Rattle.world_drive.{proofs.exact_lemmas.Events.{last_is, last_or_none}, specs.declared.observing.Cut.{Cut, TheVariants.{OutOfMemory, WriteFault}}}
+-- What the observer of `stamp` puts along the run, line by line, and so what its answers begin with.
+use Rattle.std.{proofs.Common.{Err, Ok, Result}, specs.Prelude.{IfErr, MatchResult}}
+use Rattle.drift_world.specs.Running.{behind_events}
+use Rattle.run_law.proofs.{runs.{NetworkRuns.run_is_one, Places.{in_left, in_right}}, scenario.Devices.within_front}
+use Rattle.tte_forms.{proofs.Puts.{PutFails-behind, PutsLines-append}, specs.Putting.PutFails}
+use Rattle.tte_io.specs.declared.ends.Sink.{Ghosts}
+use Rattle.tte_observers.{specs.stamps.Stamping.{PutsAll, PutsStamps, StopsStamps}}
+use Rattle.tte_observers.proofs.stamps_lemmas.{SameRecords.{IsUpTo, up_to_mark}}
+use Rattle.tte_observers.proofs.stamps_lemmas.{Staying.{AreUpToLast, MayFollow, stamps_stay}}
+use Rattle.tte_observers.proofs.stamps_lemmas.Ordered
+use Ordered.{admitted_follow, admitted_up_to_last, begun, hypothesis_up_to_last, last_grows}
+use Rattle.tte_observers.proofs.stamps_lemmas.Words
+use Words.{◌++◌, ◌+◌, ◌∙◌, ◌∷◌, ◌≡◌, ◌≤ℤ◌, ◌≤◌, Answer, AreAdmitted, AreFrom, AreRecordsBefore, AreRecordsSoFar, Event}
+use Words.{ExactWorld, IsIn, IsTraceAnswer, List, Network, None, Note, Option, PutsLines, PutsLines-none, Some, []}
+use Words.{admitted_in_order, amount, ap, append-nil, append_assoc, arith, clock_reading, inl, inr, last_time, length}
+use Words.{line_at, line_stamps, pos, refl, shown_as, stamp_lines, stamps_behind, subst, suc, sym, told_by, zero, ℕ}
+use Rattle.tte_traces.{proofs.{Admitted.{admitted_one, events_admitted}, Answers.{AnswersEither, answer_stops}}}
+use Rattle.tte_traces.{specs.{Along.{BeginWith, IsFrontOf, IsShortAt, PutsAlong}, FaultLine.fault_lines}}
+use Rattle.world_drive.{proofs.{Earlier.records_none, exact_lemmas.Events.{last_is, last_or_none}}}
+use Rattle.world_drive.specs.{Observing.{Befell, Sees, Stops, Told}}
+use Rattle.world_drive.specs.{declared.observing.Cut.{Cut, TheVariants.{OutOfMemory, WriteFault}}}
+use Rattle.world_drive.specs.{exact.Records.AreAllRecords}
+
+-- ---- each answer of `stamp` begins with the stamps of the lines that were taken
+
+module _ (granule : ℕ) (network : Network) (octets : List ℕ) (events : List Event) (notes : List Note) (run : AreRecordsSoFar network events notes) where
+  -- those of further events behind them
+  stay : (more : List Event) (others : List Note) (mark : List ℕ) → AreAdmitted network octets (events ++ more)
+      → IsUpTo (amount (last_time (events ++ more))) mark → AreRecordsBefore network (events ++ more) mark others → AreAdmitted network octets events
+      → stamp_lines granule network (events ++ more) others ≡ stamp_lines granule network events notes ++ stamps_behind granule network others events more
+  stay more others mark all up whole own =
+      stamps_stay granule network events more notes others (admitted_up_to_last network octets events own)
+      (admitted_follow network octets events more all) run whole
+      (λ p before. up p (up_to_mark (amount (last_time events)) (amount (last_time (events ++ more))) [] (last_grows network octets events more all) p before))
+
+  -- an answer of these and further events
+  begins : (more : List Event) (a : Answer) → AreAdmitted network octets events → AreAdmitted network octets (events ++ more)
+      → AnswersEither (stamp_lines granule) network octets (events ++ more) a → BeginWith a.lines (stamp_lines granule network events notes)
+  begins more a own all (inl w) =
+      let last = (admitted_in_order network octets (events ++ more) all).last w.records.0 w.records.1 in
+      let up : IsUpTo (amount (last_time (events ++ more))) ((amount w.records.0 + 1) ∷ []) =
+      up_to_mark (amount (last_time (events ++ more))) (amount w.records.0 + 1) []
+      (subst (λ t. amount (last_time (events ++ more)) ≤ amount t + 1) (sym last) (omega arith)) in (
+        stamps_behind granule network w.notes events more,
+        ap (λ (b : Answer). b.lines) w.answer ∙ stay more w.notes ((amount w.records.0 + 1) ∷ []) all up w.records.2 own,
+      )
+  begins more a own all (inr f) =
+      let last = amount (last_time (events ++ more)) in
+      let up : IsUpTo last (last ∷ 2 ∷ []) = up_to_mark last last (2 ∷ []) (omega arith) in
+      let rest = stamps_behind granule network f.notes events more in
+      let fault = fault_lines (length (events ++ more) + 1) f.fault in (
+        rest ++ fault,
+        ap (λ (b : Answer). b.lines) f.answer ∙ ap (λ (ls : List (List ℕ)). ls ++ fault) (stay more f.notes (last ∷ 2 ∷ []) all up f.records own)
+            ∙ append_assoc (stamp_lines granule network events notes) rest fault,
+      )
+
+  stamps_begin : AreAdmitted network octets events
+      → IsFrontOf (IsTraceAnswer (stamp_lines granule) octets network) (stamp_lines granule network events notes)
+  stamps_begin own a i =
+      let stop = answer_stops (stamp_lines granule) network octets i.events a i.is in
+      let more = admitted_one network octets events i.events own i.admitted stop in
+      begins more.0 a own (subst (AreAdmitted network octets) more.1 i.admitted)
+      (subst (λ es. AnswersEither (stamp_lines granule) network octets es a) more.1 i.is)
+
+-- ---- the observer of `stamp` puts its lines along the run
+
+-- ---- an observer whose granule is given by it
+
+module _ {O : Type 0} (granule_of : O → ℕ) where
+  abbrev pub stamp_sees : Sees O
+  stamp_sees network events notes instant old put it =
+      (granule_of it ≡ granule_of old.observer) × PutsStamps (granule_of old.observer) network events old.told put
+
+  abbrev pub stamp_stops : Stops O
+  stamp_stops network events notes cut old put = StopsStamps (granule_of old.observer) network events cut old.told put
+
+-- ---- what it has put
+
+so_far : {granule : ℕ} {network : Network} {events : List Event} (notes : List Note) {old put : Told}
+    → AreRecordsSoFar network events notes → PutsStamps granule network events old put
+    → PutsLines (stamp_lines granule network events notes) (shown_as old) (shown_as put)
+so_far {granule} {network} {events} notes {old} {put} run p =
+    let same = run_is_one network (clock_reading network events) events (behind_events (amount (last_time events))) p.notes notes p.records run in
+    subst (λ ns. PutsLines (stamp_lines granule network events ns) (shown_as old) (shown_as put)) same p.puts
+
+-- by the end
+all_put : {granule : ℕ} {network : Network} (octets : List ℕ) {events : List Event} (notes : List Note)
+    {old put : Told} → AreAdmitted network octets events → AreAllRecords network events notes
+    → PutsStamps granule network events old put → PutsLines (stamp_lines granule network events notes) (shown_as old)
+    (shown_as put)
+all_put {granule} {network} octets {events} notes {old} {put} all records p =
+    let t = amount (last_time events) in
+    let last = (admitted_in_order network octets events all).last records.0 records.1 in
+    let le : t ≤ amount records.0 + 1 = subst (λ u. t ≤ amount u + 1) (sym last) (omega arith) in
+    let mark = (amount records.0 + 1) ∷ [] in
+    let run = subst (λ es. AreRecordsBefore network es mark notes) (sym (append-nil events)) records.2 in
+    let stay = stamps_stay granule network events [] p.notes notes (admitted_up_to_last network octets events all)
+    (tt {0}) p.records run
+    (up_to_mark t (amount records.0 + 1) [] le) in
+    let same : stamp_lines granule network events notes ≡ stamp_lines granule network events p.notes =
+    ap (λ es. stamp_lines granule network es notes) (sym (append-nil events)) ∙ stay ∙ append-nil (stamp_lines granule network events p.notes) in
+    subst (λ ls. PutsLines ls (shown_as old) (shown_as put)) (sym same) p.puts
+
+-- the events that befell where a drive was cut short are admitted
+admitted_short : (network : Network) (octets : List ℕ) (events : List Event) (next : Option Event) (befallen : List Event) (notes : List Note)
+    → IsShortAt network octets events next befallen notes → AreAdmitted network octets befallen
+admitted_short network octets events (Some event) befallen notes at = elim at.1 [
+  | inl way ↦ subst (AreAdmitted network octets) (sym way.0) (events_admitted network octets events (event ∷ []) at.0)
+  | inr own ↦ subst (AreAdmitted network octets) (sym own.0) at.0
+]
+admitted_short network octets events None befallen notes at = subst (AreAdmitted network octets) (sym at.1) at.0.admitted
+
+pub stamps_along : {O : Type 0} (granule_of : O → ℕ) (begun : O)
+    → PutsAlong begun (stamp_sees granule_of) (stamp_stops granule_of) (stamp_lines (granule_of begun)) (IsTraceAnswer (stamp_lines (granule_of begun)))
+stamps_along granule_of begun = record {
+  at_first = λ network. refl;
+  so_far = λ network events notes old put o run seen. so_far notes run seen.1;
+  all = λ network octets events notes old put o admitted records seen.
+      all_put octets notes admitted records seen.1;
+  front = λ network octets events notes admitted run. stamps_begin (granule_of begun) network octets events notes run admitted;
+  short = λ network octets events next befallen notes cut old put at stops. (
+    stamp_lines (granule_of begun) network befallen stops.notes,
+    stops.stops,
+    stamps_begin (granule_of begun) network octets befallen stops.notes stops.records (admitted_short network octets events next befallen notes at),
+  );
+}
+
+-- ---- what the observer of `stamp` has put, and what it puts at one more line
 
 -- ---- at first
 

@@ -1,9 +1,11 @@
 -- The stamps of lines stay under further events.
-use Rattle.tte_observers.proofs.stamps_lemmas.{SameRecords.{IsUpTo, same_before, up_to_mark}, SameStamps.{AreSameAt, same_behind, stamps_parts}}
+use Rattle.tte_observers.proofs.stamps_lemmas.{LineStamps.{AreSameAt, same_behind, stamps_parts}}
+use Rattle.tte_observers.proofs.stamps_lemmas.{SameRecords.{IsUpTo, same_before, up_to_mark}}
+use Rattle.tte_observers.proofs.stamps_lemmas.{Words.{stamps_behind, subst, sym, ℕ}}
+use Rattle.tte_traces.proofs.Runs.{lasts_under}
+use Rattle.world_drive.{proofs.Earlier.{no_further, so_far_at}, specs.exact.Records.HaveEnded}
 use Rattle.tte_observers.proofs.stamps_lemmas.Words.{◌++◌, ◌+◌, ◌∙◌, ◌∷◌, ◌≡◌, ◌≤◌, AreFrom, AreRecordsBefore, AreRecordsSoFar, Event, IsIn, List, Network}
 use Rattle.tte_observers.proofs.stamps_lemmas.Words.{Note, Scenario, [], amount, ap, append-nil, clock_reading, last_time, length, stamp_lines}
-use Rattle.{tte_observers.proofs.stamps_lemmas.Words.{stamps_behind, subst, sym, ℕ}, world_drive.proofs.Earlier.{no_further, so_far_at}}
-use Rattle.{tte_traces.proofs.Lasting.lasts_under, world_drive.specs.exact.Records.HaveEnded}
 
 -- no event is later than the last
 abbrev pub AreUpToLast : List Event → Type 0

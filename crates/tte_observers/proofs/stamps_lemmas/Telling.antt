@@ -2,10 +2,12 @@
 use Rattle.{drift_clock.proofs.ExactSegments.{exact_begins, exact_laws, exact_steps}, tte_observers.proofs.stamps_lemmas.SameRecords.{IsUpTo, up_to_mark}}
 use Rattle.{drift_clock.specs.Segment.{fresh_segment, segment_count, segment_reading, stepped_segment}, tte_traces.proofs.EventOrder.{last_of, not_earlier}}
 use Rattle.{drift_world.proofs.Agreements.reads_same, tte_observers.specs.stamps.{Safely.StampsTell, granules.{Laws.IsRunInGranules, Lines.IsLineOf}}}
-use Rattle.precision_law.{proofs.traffic_lemmas.safety_lemmas.Lawful.lawful, specs.traffic.safety.Under.{IsUnder, scenario_of}}
+use Rattle.precision_law.{proofs.traffic_lemmas.safety_lemmas.Lawful.lawful}
+use Rattle.precision_law.{specs.traffic.safety.Under.{IsUnder, scenario_of}}
+use Rattle.tte_observers.proofs.stamps_lemmas.{Words.{last_time, least_granule, line_at, refl, subst, suc, sym, ℕ}}
+use Rattle.tte_observers.proofs.stamps_lemmas.{granules_lemmas.Stamped.{agree, tell_order}}
 use Rattle.tte_observers.proofs.stamps_lemmas.Words.{◌++◌, ◌∙◌, ◌∷◌, ◌≡◌, ◌≤◌, AreAdmitted, AreFrom, AreRecordsBefore, DeviceId, Event, List, Network, Note}
 use Rattle.tte_observers.proofs.stamps_lemmas.Words.{Scenario, [], admitted_in_order, amount, ap, append-nil, append_assoc, arith, clock_reading, happenings}
-use Rattle.tte_observers.proofs.stamps_lemmas.{Words.{last_time, least_granule, line_at, refl, subst, suc, sym, ℕ}, granules_lemmas.Order.{agree, tell_order}}
 
 -- up to a time a clock reads what it read before further events, which are not earlier
 reads_on : (network : Network) (device : DeviceId) (x t : ℕ) → x ≤ t → (past more : List Event) → AreFrom t more

@@ -10,10 +10,10 @@ pub use Rattle.run_law.specs.records.{Happenings.happenings, Order.IsIn}
 pub use Rattle.run_law.specs.scenario.Scenarios.{Scenario}
 pub use Rattle.tte_observers.specs.stamps.granules.Granules.{least_granule, stamp_of}
 pub use Rattle.tte_forms.proofs.Puts.{PutsLines-none}
+pub use Rattle.tte_traces.proofs.{Admitted.admitted_in_order, Runs.AreFrom}
 pub use Rattle.tte_forms.specs.{Answering.Answer, Putting.{PutsLines, Shown}}
 pub use Rattle.tte_forms.specs.declared.status.Status.{Status, TheVariants.{GranuleRefused, ReadFault}}
 pub use Rattle.tte_forms.specs.networks.Accepting.{MeansAccepted}
-pub use Rattle.tte_traces.proofs.{Admitted.admitted_in_order, Lasting.AreFrom}
 pub use Rattle.tte_traces.specs.{Answer.IsTraceAnswer, Lines.AreAdmitted, Report.shown_as}
 pub use Rattle.tte_units.specs.Amount.{amount}
 pub use Rattle.tte_units.specs.declared.units.Units.{Units}

@@ -1,7 +1,9 @@
 -- The answer of `vote` is one, and valid input is answered to its end.
 use Rattle.{net_plan.{proofs.SameIds.same_vl, specs.Bearers.vl_names}, std.{proofs.lemmas.Option.same_Some, specs.Prelude.slice_get}}
 use Rattle.{schedule_checker.specs.Refusals.RefusalIsOne, tte_forms.specs.networks.Accepting.IsNetworkAnswer, tte_traces.proofs.Answers.trace_answer_one}
-use Rattle.{trace_text.proofs.Bearing.place_found, tte_forms.specs.Answering.line_answer, tte_traces.{proofs.Given.all_done, specs.Along.IsAllAdmitted}}
+use Rattle.trace_text.proofs.WordsBack.{place_found}
+use Rattle.tte_forms.specs.Answering.{line_answer}
+use Rattle.tte_traces.{proofs.Given.all_done, specs.Along.IsAllAdmitted}
 use Rattle.{tte_forms.proofs.networks.Answers.{accepted_alone, network_answer_one}, tte_observers.proofs.votes_lemmas.Words.{vote_lines, ℕ}}
 use Rattle.tte_observers.proofs.votes_lemmas.Words.{◌∙◌, ◌≡◌, Answer, AreNamed, Bool, Done, Event, IsTraceAnswer, IsVoteAnswer, List, MayThey, MeansAccepted}
 use Rattle.tte_observers.proofs.votes_lemmas.Words.{NameRefused, Names, Network, Some, VirtualLink, VlId, Voters, ap, false, inl, inr, subst, sym, true}

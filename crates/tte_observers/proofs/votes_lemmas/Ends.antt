@@ -1,11 +1,13 @@
 -- How `vote` ends.
 use Rattle.net_plan.specs.{Bearers.vl_names, Ranges.IsInRange}
-use Rattle.{std.proofs.{Common.{◌≢◌, get_or, slice_get}, lemmas.List.length-map}, tte_forms.{proofs.OneAnswers.answer_widened, specs.Answering.ForOctets}}
+use Rattle.std.proofs.{Common.{◌≢◌, get_or, slice_get}, lemmas.List.length-map}
+use Rattle.tte_forms.{proofs.Puts.answer_widened, specs.Answering.ForOctets}
+use Rattle.tte_observers.specs.votes.{Answer.{IsNamed, IsVoteStatus}, Ending.VoteEnds}
+use Rattle.tte_traces.proofs.{Ends.trace_given, Runs.trace_answers_exist}
 use Rattle.{std.proofs.lemmas.Option.{slice_get_read, slice_get_within}, tte_observers.specs.votes.Streaming.{IsOfRun, VoteStops, VoteTakesLittle}}
 use Rattle.tte_observers.proofs.votes_lemmas.Words.{◌<◌, ◌∙◌, ◌≡◌, ◌⊎◌, GivesAnswer, IsTraceAnswer, IsVoteAnswer, List, MeansAccepted, NameRefused, Names}
 use Rattle.tte_observers.proofs.votes_lemmas.Words.{Network, Option, ReadFault, Shown, Some, Status, VirtualLink, VlId, VoteRefused, WriteFault, ap, arith}
 use Rattle.{tte_observers.proofs.votes_lemmas.Words.{for_all, for_more, inl, inr, length, refl, subst, sym, vote_lines, ℕ}, tte_traces.specs.Answer.IsRunStatus}
-use Rattle.{tte_observers.specs.votes.{Answer.{IsNamed, IsVoteStatus}, Ending.VoteEnds}, tte_traces.proofs.{Existing.trace_answers_exist, Sources.trace_given}}
 
 -- a virtual link that is read is the network's
 pub vl_read : (xs ys : List VirtualLink) (i : ℕ) (x : VirtualLink) → xs ≡ ys → i < length ys → x ≡ get_or xs i x → slice_get ys i ≡ Some x

@@ -1,8 +1,9 @@
 -- What `vote` puts are the votes in a run that goes well, in which two outvote the third.
 use Rattle.{drift_world.specs.Running.last_time, net_plan.specs.Ranges.IsInRange, tte_units.specs.Amount.amount}
-use Rattle.tte_observers.{proofs.votes_lemmas.Outvoted.{outvoted, outvoted_before}, specs.votes.Safely.{IsNoVote, IsVotedRun, IsVotedToFault, TwoOutvote}}
+use Rattle.tte_observers.{proofs.votes_lemmas.{VoteLines.{outvoted, outvoted_before}, Words.{vote_lines, ℕ}}}
+use Rattle.tte_observers.{specs.votes.Safely.{IsNoVote, IsVotedRun, IsVotedToFault, TwoOutvote}}
+use Rattle.tte_traces.proofs.Runs.{IsSafe, good_before, good_run, of_fault, of_whole, trace_safe}
 use Rattle.tte_observers.proofs.votes_lemmas.Words.{Answer, IsVoteAnswer, List, MeansAccepted, Names, Network, [], append-nil, inl, inr, refl, subst, sym}
-use Rattle.{tte_observers.proofs.votes_lemmas.Words.{vote_lines, ℕ}, tte_traces.proofs.Safely.{IsSafe, good_before, good_run, of_fault, of_whole, trace_safe}}
 
 -- an answer of `vote` for an accepted network is safe
 pub vote_safe : (names : Names) (network : Network) → IsInRange network → (octets trace : List ℕ) (a : Answer) → MeansAccepted octets network

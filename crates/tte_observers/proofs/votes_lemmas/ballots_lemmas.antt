@@ -1,5 +1,1 @@
-pub mod Casting
 pub mod Ballots
-pub mod Filled
-pub mod Kept
-pub mod First

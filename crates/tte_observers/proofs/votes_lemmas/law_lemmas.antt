@@ -1,4 +1,1 @@
-pub mod Found
-pub mod Delivered
-pub mod Voted
 pub mod Outvoted

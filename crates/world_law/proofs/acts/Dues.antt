@@ -2,8 +2,9 @@
 use Rattle.std.proofs.Common.{◌<◌, Contains, negsuc, true}
 use Rattle.std.proofs.lemmas.{Bool.cases_eq, List.Elements.{Contains-append_left, Contains-push, Contains-push_cases}}
 use Rattle.tte_units.proofs.general_lemmas.Lists.{none_in}
-use Rattle.world_law.proofs.{acts.Acting.point_number, devices.Borne.by_last, rows.{AtHand.{has_frame, value_is}, Dispatching.IsLawful}}
-use Rattle.world_law.proofs.runs.Firsts.{dispatches_same, reaches_back, up_back}
+use Rattle.world_law.proofs.{acts.Acting.point_number, devices.Borne.by_last}
+use Rattle.world_law.proofs.{rows.{AtHand.{has_frame, value_is}, Dispatching.IsLawful}}
+use Rattle.world_law.proofs.{runs.Worlds.{dispatches_same, reaches_back, up_back}}
 use Rattle.world_law.proofs.Words.{◌-ℤ◌, ◌<ℤ◌, ◌∙◌, ◌∷◌, ◌≡◌, ◌≤ℤ◌, ◌≤◌, ◌⊎◌, ClockTask, Compressed, DeviceId, Dispatches, Emits, HadComeTo}
 use Rattle.world_law.proofs.Words.{Happening, HasDoneTask, IsActing, IsAtCorrection, IsIn, IsLeft, IsPending, Judgement, LinkId, List, Node, Reaches}
 use Rattle.world_law.proofs.Words.{RowId, Scenario, Sends, Some, Task, VlId, [], adjustment_before, ap, arith, changed_at, correcting}

@@ -1,27 +1,83 @@
--- Where nothing that a world has under way is before a place, and nothing to come, no act of a device that is not worked off
--- is before it.
-use Rattle.world_law.proofs.runs.Settled.{frame_source, settled_of}
-use Rattle.world_law.proofs.runs.TaskPlaces.{acts_before, placed_so}
-use Rattle.world_law.proofs.acts.Dues.{IsPresent, act_due, came_not, done_or}
-use Rattle.world_law.proofs.Words.{◌+◌, ◌≤ℤ◌, IsPending, before_later, is_at_source, task_place}
-use Rattle.world_law.proofs.devices.Working.{came_sooner}
-use Rattle.{net_plan.specs.declared.tables.Role.Role, sync_state.specs.Standing.state_at_start}
-use Rattle.{run_law.specs.declared.judgement.Why.TheVariants.On, world_law.proofs.{devices.TurnedOn.{IsQuiet, quiet_rest}, lists.Lists.{behind_no, map_none}}}
-use Rattle.{run_law.specs.scenario.Devices.{has_role, start_of}, world_law.proofs.devices.OwnRecords.keeps_state}
-use Rattle.world_law.proofs.Words.{◌++◌, ◌<◌, ◌∙◌, ◌∷◌, ◌≡◌, ◌≤◌, AreOfNetwork, Bool, Compressed, Device, DeviceId, Emits, Happening}
-use Rattle.world_law.proofs.Words.{HaveBefallen, Integrating, IsActing, IsBefore, IsHeld, IsIn, IsKept}
-use Rattle.world_law.proofs.Words.{Judgement, List, Network, Node, Note, NoteBody, Off, Scenario, Some, Stands, State, Task, World}
-use Rattle.world_law.proofs.Words.{[], act_place, after_last, ap, append-nil, append_assoc, arith, cases_Bool, cases_lt, chain, device_at, earlier}
-use Rattle.world_law.proofs.Words.{ends_stretch, false, filter_map, happenings, in_filter, in_left, in_parts}
-use Rattle.world_law.proofs.Words.{in_right, inl, inr, is_broken, is_turning, length, moves, nat_lt, next_cycle}
-use Rattle.world_law.proofs.Words.{option_map_or, place_of, point_by, point_in, points_of, pos, rank, reading_for, refl}
-use Rattle.world_law.proofs.Words.{slice_get_within}
-use Rattle.world_law.proofs.{Words.{state_after, state_before, state_with, sym, time_of, true, ℕ}, devices.Resting.{IsPast, IsWorked, are_past, at_rest}}
-use Rattle.world_law.proofs.{acts.Acting.IsUnmoved, runs.Foremost.{NoActBefore, acting_task, none_but_acts, not_on_after}}
-use Rattle.world_law.proofs.{giving.GivenParts.no_later_breaks, runs.Firsts.{earlier_still, of_high_rank}}
-use Rattle.world_law.proofs.lists.Orders.{cases_int}
-use Rattle.world_law.{proofs.rows.Dispatching.{IsLawful, dispatching_task, lawful}, specs.world.Moves.{NothingBefore, NothingComesBefore}}
+-- Acts and dispatches of devices: told apart by their cause, and none before what a world has under way.
+use Rattle.net_plan.specs.declared.tables.Role.{Role}
+use Rattle.run_law.{proofs.law.FirstDeliveries.numbered_front}
+use Rattle.run_law.{specs.{declared.judgement.Why.TheVariants.On, scenario.Devices.{has_role, start_of}}}
+use Rattle.sync_state.specs.Standing.{state_at_start}
+use Rattle.world_law.{specs.world.Moves.{NothingBefore, NothingComesBefore}}
+use Rattle.world_law.proofs.{acts.{Acting.IsUnmoved, Dues.{IsPresent, act_due, came_not, done_or}}}
+use Rattle.world_law.proofs.{giving.GivenParts.no_later_breaks, lists.{Lists.{behind_no, map_none}, Orders.cases_int}}
+use Rattle.world_law.proofs.{rows.Dispatching.{IsLawful, dispatching_task, lawful}}
+use Rattle.world_law.proofs.Words
+use Words.{if◌then◌else◌, ◌++◌, ◌+◌, ◌<◌, ◌∙◌, ◌∷◌, ◌≡◌, ◌≤ℤ◌, ◌≤◌, ◌⊎◌, AreOfNetwork, Bool, Compressed, Device}
+use Words.{DeviceId, Dispatches, Emits, Happening, HaveBefallen, Integrating, IsActing, IsBefore, IsDue, IsFounded}
+use Words.{IsHeld, IsIn, IsKept, IsPending, IsSendLost, Judgement, LinkId, List, Network, Node, None, Note, NoteBody}
+use Words.{Off, Scenario, Some, Stands, State, Task, VlId, World, [], act_place, after_last, ap, append-nil}
+use Words.{append_assoc, arith, before_later, by_number, cases_Bool, cases_lt, chain, device_at, dispatch_body, earlier}
+use Words.{ends_stretch, false, filter, filter_map, happenings, in_filter, in_left, in_parts, in_right, inl, inr}
+use Words.{is_accepted, is_at_source, is_broken, is_cut, is_turning, last_in, length, moves, nat_lt, next_cycle}
+use Words.{numbered, option_map_or, place_of, point_by, point_in, points_of, pos, rank, reading_for, refl}
+use Words.{slice_get_within, state_after, state_before, state_with, subst, sym, task_place, time_of, true, way_from, ℕ}
+use Rattle.world_law.proofs.devices.{Standing.{IsPast, IsQuiet, IsWorked, are_past, at_rest, quiet_rest}}
+use Rattle.world_law.proofs.devices.{Unmoved.keeps_state, Working.came_sooner}
+use Rattle.world_law.proofs.runs.{Agreement.in_earlier}
+use Rattle.world_law.proofs.runs.{Foremost.{NoActBefore, acting_task, none_but_acts, not_on_after}}
+use Rattle.world_law.proofs.runs.{TaskPlaces.{acts_before, placed_so}}
+use Rattle.world_law.proofs.runs.{Worlds.{earlier_still, frame_source, of_high_rank, settled_of}}
+use Rattle.run_law.specs.declared.note.NoteBody.TheVariants as kinds
 use Rattle.run_law.specs.declared.note.NoteBody.TheVariants as notes
+
+-- ---- a dispatch is told apart from other losses by its cause
+
+pub same_some : {x y : Happening} → Some x ≡ Some y → x ≡ y
+same_some e = cc
+
+none_some : {x : Happening} → None ≡ Some x → ⊥
+none_some e = cc
+
+-- an event of the instant is the cause of no dispatch
+pub send_apart : {s : Scenario} (hs coming : List Happening) {js : List Happening} {device : DeviceId} {now : ℕ}
+    {link other : LinkId} {cause : ℕ} {vl : VlId} {cycle : ℕ} → IsFounded place_of (IsDue s) hs
+    → ((z : Happening) → IsIn z coming → time_of z ≡ now)
+    → ((h : Happening) → numbered js cause ≡ Some h → numbered (hs ++ coming) cause ≡ Some h)
+    → IsSendLost s js device now link cause → Dispatches s (hs ++ coming) device now other cause vl cycle → ⊥
+send_apart {s} hs coming {device} {now} founded of_now on lost d =
+    let event = on lost.event lost.is.there in
+    let all = hs ++ coming in
+    let same : earlier now all ≡ earlier now hs = earlier_still now hs coming (λ z i. let at = of_now z i in
+    omega arith) in
+    elim d.at_hand [
+      | inl sender ↦ none_some (subst (λ n. numbered all n ≡ Some lost.event) sender.1 event)
+      | inr took ↦ elim (last_in None (filter (λ h. is_accepted device d.entry.row.vl h.note.body) (earlier now all)) took.1.taken took.1.last) [
+        | inl none ↦ none_some none
+        | inr i ↦
+            let inside = subst (λ l. IsIn took.1.taken l) same
+            (in_filter (λ h. is_accepted device d.entry.row.vl h.note.body) (earlier now all) took.1.taken i) in
+            let lt : time_of took.1.taken < now = in_earlier now hs took.1.taken inside in
+            let there : IsIn took.1.taken hs = in_filter (λ h. Rattle.std.specs.Prelude.nat_lt (time_of h) now) hs took.1.taken inside in
+            let it = subst (λ n. numbered all n ≡ Some took.1.taken) (sym took.1.number)
+            (numbered_front hs coming took.1.taken.note.number took.1.taken (by_number s hs took.1.taken founded there)) in
+            let same : lost.event ≡ took.1.taken = same_some (sym event ∙ it) in
+            let at = lost.is.same_time in
+            let times : time_of lost.event ≡ time_of took.1.taken = ap time_of same in
+            omega arith
+      ]
+    ]
+
+module _ (s : Scenario) (device : DeviceId) (now : ℕ) (link : LinkId) (cause : ℕ) (vl : VlId) (cycle : ℕ) where
+  -- what a record that tells of a dispatch says
+  pub dispatch_told : {body : NoteBody} → body ≡ dispatch_body s device now link cause vl cycle
+      → (body ≡ kinds.Lost device link cause) ⊎ (body ≡ kinds.TtSent device link cause vl cycle)
+  dispatch_told e = grind (arith, cases_Bool, is_cut, way_from)
+
+  -- the record of a dispatch stands behind all others of the acts
+  pub dispatch_late : 9 ≤ rank (dispatch_body s device now link cause vl cycle)
+  dispatch_late =
+      elim (is_cut s link (way_from s.network device link) now) as (λ b. 9 ≤ rank
+      (if b then kinds.Lost device link cause
+      else kinds.TtSent device link cause vl cycle)) [ true ↦ omega arith | false ↦ omega arith ]
+
+-- ---- where nothing that a world has under way is before a place, and nothing to come, no act of a device that is not worked off
+-- is before it.
 
 -- ---- records behind the acts of their instant, which leave the device at rest, do not change its points
 

@@ -1,9 +1,12 @@
 -- A frame that comes up from below is that of one master, where octets are sent by end systems alone.
-use Rattle.{net_plan.{proofs.Shape.rules_give_trees, specs.Ranges.IsDeviceInRange}, world_law.{proofs.giving.GivenParts.some_same, specs.world.World.IsFromEnd}}
-use Rattle.{net_plan.{proofs.TableFacts.no_path}, std.{proofs.Common.IsSomeAnd, specs.Prelude.{is_some}}}
+use Rattle.std.{proofs.Common.IsSomeAnd, specs.Prelude.is_some}
+use Rattle.net_plan.{proofs.Trees.{no_path, rules_give_trees}, specs.Ranges.IsDeviceInRange}
+use Rattle.run_law.{proofs.law.FirstDeliveries.{front_founded, numbered_in}}
+use Rattle.run_law.{specs.machines.Calls.{IsOfMaster, IsOneMaster}}
+use Rattle.schedule_tables.{proofs.Margins.shape_rules, specs.declared.rule.Rule.TheVariants.Joints}
+use Rattle.tte_units.proofs.general_lemmas.Lists.{in_all}
+use Rattle.world_law.{proofs.giving.GivenParts.some_same, specs.world.World.IsFromEnd}
 use Rattle.{net_plan.specs.Places.{IsSwitchOf, is_end_system, is_master}, run_law.specs.control.Arrivals.{are_others, is_of_other_member}}
-use Rattle.{run_law.proofs.law.FirstPlaces.{front_founded, numbered_in}, schedule_tables.specs.declared.rule.Rule.TheVariants.Joints}
-use Rattle.{run_law.specs.machines.Calls.{IsOfMaster, IsOneMaster}, schedule_tables.proofs.Margins.shape_rules, tte_units.proofs.general_lemmas.Lists.in_all}
 use Rattle.{run_law.specs.scenario.Devices.{IsParentOf, has_role, is_parent_of, member_of}, tte_units.proofs.general_lemmas.Options.{at_known, closed, opened}}
 use Rattle.{tte_units.specs.declared.frames.members.Members.Members, world_law.proofs.frames.Proper.{has_come, is_sound, launch_signal, not_control, received}}
 use Rattle.world_law.proofs.Words.{◌++◌, ◌==◌, ◌^◌, ◌∙◌, ◌∷◌, ◌≡◌, ◌≤◌, ◌⊎◌, Bool, Device, DeviceId, Down, Event, Gives, Happening, IsCaused, IsDue, IsFounded}

@@ -1,6 +1,7 @@
 -- A frame that waits is one that the network has: its `arrived` record was due.
 use Rattle.{pcf_codec.specs.Decoding.decoded, std.proofs.{Common.{Err, arith}, lemmas.Bool.not-false}, world_law.proofs.Words.{with_clock, ℕ}}
-use Rattle.run_law.{proofs.law.FirstPlaces.numbered_in, specs.{device.Standpoints.first_reason, machines.Calls.IsLinkAt, scenario.Ways.receiver_of}}
+use Rattle.run_law.{proofs.law.FirstDeliveries.numbered_in}
+use Rattle.run_law.{specs.{device.Standpoints.first_reason, machines.Calls.IsLinkAt, scenario.Ways.receiver_of}}
 use Rattle.run_law.specs.control.Arrivals.{clock_on_arrival, frame_fault, frame_or_fault, frame_taken, is_cold_start, is_gate_shut, is_of_other_domain}
 use Rattle.{run_law.specs.control.Arrivals.is_of_other_member, tte_units.specs.declared.frames.pcf.PcfKind.{PcfKind, TheVariants.Integration}}
 use Rattle.world_law.proofs.Words.{◌&&◌, ◌++◌, ◌==◌, ◌∙◌, ◌∷◌, ◌≡◌, ◌≤◌, Arrival, Arrives, ArrivesAs, Bool, DeviceId, Down, Happening, IsArrivedRecord}
@@ -115,7 +116,7 @@ has_come s hs arrival device link cause clock {frame} founded i body of =
     let a : IsArrivedRecord s at.front device (time_of arrival) link cause clock = subst (λ b. IsCaused s at.front arrival.note.time b) body
     due.cause in
     let so = arrived_so s at.front device (time_of arrival) link cause clock a in
-    let before = Rattle.run_law.proofs.law.FirstPlaces.front_founded place_of (IsDue s) at.front (arrival ∷ at.rest)
+    let before = Rattle.run_law.proofs.law.FirstDeliveries.front_founded place_of (IsDue s) at.front (arrival ∷ at.rest)
     (rw at.whole at founded) in
     let put = founded_at s at.front so.putting before (numbered_in at.front cause so.putting so.there) in
     let put_frame =

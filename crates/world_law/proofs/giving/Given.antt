@@ -1,8 +1,13 @@
 -- The first of what is to come is given: the world stands again.
-use Rattle.world_law.proofs.runs.Settled.{none_pending}
-use Rattle.world_law.proofs.devices.{Plains.{adjustments_plain, changes_at_plain, filter_plain, plains_parts, states_plain, told_by_others}, Working.worked_on}
-use Rattle.world_law.proofs.{rows.AtHand.frames_by_others, runs.TaskPlaces.acts_before}
-use Rattle.run_law.proofs.{law.FirstPlaces.numbered_next, runs.NetworkRuns.one_more}
+use Rattle.run_law.proofs.{law.FirstDeliveries.numbered_next, runs.NetworkRuns.one_more}
+use Rattle.world_law.proofs.{lists.Lists.behind_yes, rows.AtHand.frames_by_others}
+use Rattle.world_law.proofs.devices.{Working.worked_on}
+use Rattle.world_law.proofs.devices.Borne
+use Borne.{adjustments_plain, changes_at_plain, filter_plain, plains_parts, states_plain, told_by_others}
+use Rattle.world_law.proofs.runs.{Foremost.{StandsOver, over_of}, TaskPlaces.acts_before}
+use Rattle.world_law.proofs.runs.Worlds.{AreSettled, acting_back, arrives_later, arriving_more, departing_more}
+use Rattle.world_law.proofs.runs.Worlds.{earlier_still, first_is_next, gives_rank, length_is, no_higher, none_pending}
+use Rattle.world_law.proofs.runs.Worlds.{numbered_more, numbered_still}
 use Rattle.world_law.specs.world.World.{AreUntold, Befell, IsActedUpTo, IsAtRest, IsJustTold, Stored, is_turning, note_of}
 use Rattle.std.proofs.lemmas.{List.length_push, Option.slice_get_cases}
 use Rattle.world_law.proofs.Words.{◌++◌, ◌+◌, ◌<◌, ◌∙◌, ◌∷◌, ◌≡◌, ◌≤◌, ◌⊎◌, AreAtPorts, AreOfNetwork, AreOnWires, AreWaiting}
@@ -15,9 +20,6 @@ use Rattle.world_law.proofs.Words.{filter, filter_map, happening, happenings, in
 use Rattle.world_law.proofs.Words.{is_joined_by, key, length, members_in, moves, nat_le, never_self, no_cluster}
 use Rattle.world_law.proofs.Words.{numbered, numbers_end, observation_window, place_of, plains, point_by, points_of, port_place, rank, refl}
 use Rattle.world_law.proofs.Words.{ripe_place, state_after, state_before, subst, suc, sym, time_of, true, units_of, up_to, wire_place, ℕ}
-use Rattle.world_law.proofs.{lists.Lists.behind_yes, runs.Firsts.{acting_back, arrives_later, earlier_still, gives_rank, no_higher}}
-use Rattle.world_law.proofs.runs.{Firsts.{arriving_more, departing_more, numbered_more, numbered_still}, Settled.AreSettled, Worlds.{first_is_next, length_is}}
-use Rattle.world_law.proofs.runs.Over.{StandsOver, over_of}
 use Rattle.world_law.{proofs.giving.Storing.stored_then, specs.world.Moves.{AreAwaited, AreGiven, ArePut, AreTaken, GivenStep, StandsAt}}
 use Rattle.world_law.proofs.giving.GivenAs.{coming_then}
 use Rattle.world_law.proofs.giving.GivenParts.{IsGiving, over_itself, same_permanent, some_same, up_to_place, worked_by_then}

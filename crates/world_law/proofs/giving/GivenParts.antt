@@ -2,7 +2,7 @@
 use Rattle.{run_law.proofs.runs.Places.nothing_between, world_law.proofs.Words.{rank, refl, subst, suc, sym, time_of, ℕ}}
 use Rattle.run_law.specs.{control.Permanence.IsPermanent, scenario.{Scenarios.events_up_to}}
 use Rattle.std.proofs.lemmas.Bool.{le-leb}
-use Rattle.world_law.proofs.runs.{Firsts.source_back, Settled.AreSettled, TaskPlaces.{no_task_at, second}, Worlds.first_before}
+use Rattle.world_law.proofs.runs.{TaskPlaces.{no_task_at, second}, Worlds.{AreSettled, first_before, source_back}}
 use Rattle.world_law.proofs.Words.{◌++◌, ◌<◌, ◌∙◌, ◌∷◌, ◌≡◌, ◌≤◌, ◌⊎◌, DeviceId, Happening, HaveBefallen, IsBefore, IsForward, IsIn}
 use Rattle.world_law.proofs.Words.{IsSource, LinkId, List, NoSourceBefore, NoteBody, Option, Pcf, Scenario, Some, Units, [], amount, ap, arith}
 use Rattle.world_law.proofs.Words.{before_behind, before_later, before_or_not, behind, chain, either_way, in_left, inl, inr, is_at_source, is_broken, key}

@@ -1,26 +1,209 @@
--- What is due by one of two lists of records that tell the same up to a source is due by the other.
+-- Records that tell the same up to a source leave devices, and what is due, the same.
 use Rattle.run_law.specs.control.Corrections.{standing_before}
 use Rattle.sync_state.specs.membership.Summary.{Summarizes}
-use Rattle.world_law.proofs.Words.{◌++◌, ◌<◌, ◌==◌, ◌∙◌, ◌∷◌, ◌≡◌, ◌≤◌, ◌⊎◌, Arrival, ArrivesAs, BecomesPermanent, Bool}
-use Rattle.world_law.proofs.Words.{ChangesState, ComesToCorrection, Compressed, Departs, Departure, DeviceId, Dispatches, Emits, Happening}
-use Rattle.world_law.proofs.Words.{IsActing, IsBefore, IsCaused, IsDropped, IsDue, IsForward, IsFounded, IsIn, IsLost, IsOwnSource}
-use Rattle.world_law.proofs.Words.{IsSendLost, IsSource, Judgement, LinkId, List, None, NoteBody, Pcf, Reason, Ripe, Scenario, Signal, Some, State}
-use Rattle.world_law.proofs.Words.{Units, Verdict, VlId, Why, [], adjustment_at_hearing, amount, ap, arith, arrival_of}
-use Rattle.world_law.proofs.Words.{bears_on, before_permanence, by_number, cases_lt, cause_of, chain, control, correcting, dispatching}
-use Rattle.world_law.proofs.Words.{doing, earlier, emitting, eq-eqb, false, filter, heard_as, heard_since, in_filter, inl, inr, is_accepted, is_at_source, is_joined_by}
-use Rattle.world_law.proofs.Words.{last_in, last_taken, length, members_in, next_point, not, numbered, numbered_within}
-use Rattle.world_law.proofs.Words.{observation_window, place_of, plan_of, points_of, rank, refl, sending, state_at_hearing, subst, sym}
-use Rattle.world_law.proofs.Words.{task_place, time_of, timed, true, ℕ}
-use Rattle.world_law.proofs.giving.GivenParts.{same_permanent}
-use Rattle.world_law.proofs.putting.Alike.{happening_alike, standpoint_in}
-use Rattle.world_law.proofs.putting.Numberless.{timed_by}
-use Rattle.world_law.proofs.putting.PutIn.{at_place}
-use Rattle.world_law.proofs.runs.Firsts.{arrives_later, dispatches_back, dispatches_same, earlier_still, gives_rank, numbered_parts, reaches_back}
-use Rattle.world_law.proofs.runs.Firsts.{standing_in, up_back}
-use Rattle.world_law.proofs.runs.Sourced.{arrival_of_it, departure_of_it, point_of_it, ripening_of_it}
-use Rattle.world_law.specs.world.World.{IsDueAs}
+use Rattle.world_law.{specs.world.World.{IsDueAs, IsOut}}
+use Rattle.world_law.proofs.{giving.GivenParts.same_permanent, rows.AtHand.{IsNoTaking, taken_parts, taken_same}}
+use Rattle.world_law.proofs.Words
+use Words.{◌&&◌, ◌++◌, ◌<◌, ◌==◌, ◌||◌, ◌∙◌, ◌∷◌, ◌≡◌, ◌≤◌, ◌⊎◌, AreOfNetwork, Arrival, ArrivesAs, BecomesPermanent}
+use Words.{Bool, ChangesState, ComesToCorrection, Compressed, Departs, Departure, DeviceId, Dispatches, Emits}
+use Words.{Happening, HasTurnedOn, IsActing, IsAtRest, IsBefore, IsCaused, IsDropped, IsDue, IsForward, IsFounded}
+use Words.{IsHeld, IsIn, IsJoiningNow, IsKept, IsLeft, IsLost, IsOwnSource, IsSendLost, IsSource, Judgement, LinkId}
+use Words.{List, Network, Node, None, NoteBody, Pcf, Reason, Ripe, Scenario, Signal, Some, State, Units, Verdict, VlId}
+use Words.{Why, [], adjustment_after, adjustment_at_hearing, adjustment_with, amount, and_right, ap, append_assoc}
+use Words.{arith, arrival_of, bears_on, before_permanence, borne, by_number, cases_lt, cases_order, cause_of, chain}
+use Words.{changed_at, control, correcting, cycle_in, dispatching, doing, earlier, emitting, eq-eqb, eqb-true, false}
+use Words.{false_from_ne_true, filter, filter-append, frames_taken, heard_as, heard_since, in_filter, in_left, in_parts}
+use Words.{in_right, inl, inr, is_accepted, is_at_source, is_before, is_joined_by, is_taken_before, last_in, last_taken}
+use Words.{le-ltb, length, list_any, local_before, members_in, moves, nat_le, nat_lt, next_point, not, numbered}
+use Words.{numbered_within, observation_window, place_of, plan_of, points_of, rank, refl, sending, state_after}
+use Words.{state_at_hearing, state_before, state_with, subst, sym, taken_by, task_place, time_of, timed, true, up_to, ℕ}
+use Rattle.world_law.proofs.devices.{Unmoved.{joins_no_other, keeps_adjustment, keeps_state}, Working.worked_on}
+use Rattle.world_law.proofs.devices.Borne.{TellAlike, heard_alike, left_alike, moves_no_other, points_alike, tell_alike}
+use Rattle.world_law.proofs.putting.{Alike.{happening_alike, standpoint_in}}
+use Rattle.world_law.proofs.putting.{Idle.{drop_one, fold_skip, numbered_prefix}, Numberless.timed_by, PutIn.at_place}
+use Rattle.world_law.proofs.runs.Worlds
+use Worlds.{arrival_of_it, arrives_later, departure_of_it, dispatches_back, dispatches_same, earlier_still, gives_rank}
+use Worlds.{numbered_parts, point_of_it, reaches_back, ripening_of_it, standing_in, up_back}
 use Rattle.run_law.specs.declared.judgement.Why.TheVariants as whys
 use Rattle.run_law.specs.declared.note.NoteBody.TheVariants as notes
+
+-- ---- a device on which a record does not bear stands with it as without it
+
+-- ---- each record of the longer list is one of the shorter, or the new one, and the other way round
+
+pub placed_back : (hs front back : List Happening) (w h : Happening) → IsIn h (hs ++ (front ++ w ∷ back)) → (h ≡ w) ⊎ IsIn h (hs ++ (front ++ back))
+placed_back hs front back w h i =
+    elim (in_parts h hs (front ++ w ∷ back) i) [
+      | inl given ↦ inr (in_left h hs (front ++ back) given)
+      | inr more ↦ elim (in_parts h front (w ∷ back) more) [
+        | inl f ↦ inr (in_right h hs (front ++ back) (in_left h front back f))
+        | inr (inl e) ↦ inl e
+        | inr (inr b) ↦ inr (in_right h hs (front ++ back) (in_right h front back b))
+      ]
+    ]
+
+pub in_placed : (front back : List Happening) (w h : Happening) → IsIn h (front ++ back) → IsIn h (front ++ w ∷ back)
+in_placed front back w h i =
+    elim (in_parts h front back i) [ inl f ↦ in_left h front (w ∷ back) f | inr b ↦ in_right h front (w ∷ back) (inr b) ]
+
+pub placed_on : (hs front back : List Happening) (w h : Happening) → IsIn h (hs ++ (front ++ back)) → IsIn h (hs ++ (front ++ w ∷ back))
+placed_on hs front back w h i =
+    elim (in_parts h hs (front ++ back) i) [
+      | inl given ↦ in_left h hs (front ++ w ∷ back) given
+      | inr more ↦ in_right h hs (front ++ w ∷ back) (in_placed front back w h more)
+    ]
+
+-- a record that moves no device that the network lacks is put in
+pub known_aside : {s : Scenario} (hs front back : List Happening) (w : Happening)
+    → ((device : DeviceId) → length s.network.device ≤ device.0 → moves device w.note.body ≡ false)
+    → AreOfNetwork s (hs ++ (front ++ back)) → AreOfNetwork s (hs ++ (front ++ w ∷ back))
+known_aside hs front back w still are = record {
+  unmoved = λ device le h i.
+      elim (placed_back hs front back w h i) [
+        | inl e ↦ rw e (still device le)
+        | inr was ↦ are.unmoved device le h was
+      ];
+  never_on = are.never_on;
+}
+
+module _ (s : Scenario) (hs front back : List Happening) (w : Happening) (device : DeviceId) where
+  -- no other record of the instant moves the device: this one must not
+  pub still_aside : (now : ℕ) → moves device w.note.body ≡ false
+      → ((h : Happening) → IsIn h (hs ++ (front ++ back)) → time_of h ≡ now → IsAtRest s device now h.note.body)
+      → (h : Happening) → IsIn h (hs ++ (front ++ w ∷ back)) → time_of h ≡ now → IsAtRest s device now h.note.body
+  still_aside now rests still h i now_is =
+      elim (placed_back hs front back w h i) [
+        | inl e ↦ inl (rw e rests)
+        | inr was ↦ still h was now_is
+      ]
+
+  pub turned_aside : {frontier : List ℕ} {now : ℕ} → HasTurnedOn s hs (front ++ back) frontier device now
+      → state_after s (earlier now (hs ++ (front ++ back))) device ≡ state_after s (earlier now (hs ++ (front ++ w ∷ back))) device
+      → HasTurnedOn s hs (front ++ w ∷ back) frontier device now
+  turned_aside it same = record {
+    off = sym same ∙ it.off;
+    number = it.number;
+    event = it.event;
+    befell = it.befell;
+    turned = λ b.
+        let was = it.turned b in
+        record { by = was.by; there = placed_on hs front back w was.by was.there; at = was.at; turning = was.turning };
+  }
+
+  joining_aside : {now : ℕ} → IsJoiningNow s hs (front ++ back) device now → IsJoiningNow s hs (front ++ w ∷ back) device now
+  joining_aside j =
+      record { looking = j.looking; by = j.by; there = in_placed front back w j.by j.there; sent = j.sent; joins = j.joins }
+
+module _ (s : Scenario) (hs front back : List Happening) (w : Happening) (device : DeviceId) (misses : bears_on device w.note.body ≡ false) where
+  borne_aside : borne device (hs ++ (front ++ back)) ≡ borne device (hs ++ (front ++ w ∷ back))
+  borne_aside =
+      ap (borne device) (sym (append_assoc hs front back)) ∙ sym (drop_one (λ h. bears_on device h.note.body) (hs ++ front) back w misses)
+      ∙ ap (borne device) (append_assoc hs front (w ∷ back))
+
+  pub left_aside : {t : ℕ} {node : Node} → IsLeft s (hs ++ (front ++ back)) device t node → IsLeft s
+      (hs ++ (front ++ w ∷ back)) device t node
+  left_aside left = left_alike (hs ++ (front ++ w ∷ back)) borne_aside left
+
+  tells_aside : (t : ℕ) → TellAlike s (hs ++ (front ++ back)) (hs ++ (front ++ w ∷ back)) device t
+  tells_aside t = tell_alike s (hs ++ (front ++ back)) (hs ++ (front ++ w ∷ back)) device t borne_aside
+
+  pub changed_aside : (t : ℕ) → changed_at (hs ++ (front ++ back)) device t ≡ changed_at (hs ++ (front ++ w ∷ back)) device t
+  changed_aside t = (tells_aside t).change
+
+  -- the state of the records of earlier times
+  pub earlier_aside : (t : ℕ) → state_after s (earlier t (hs ++ (front ++ back))) device ≡ state_after s (earlier t (hs ++ (front ++ w ∷ back))) device
+  earlier_aside t = (tells_aside t).state
+
+  pub before_aside : (t : ℕ) → state_before s (hs ++ (front ++ back)) device t ≡ state_before s (hs ++ (front ++ w ∷ back)) device t
+  before_aside t = rw (earlier_aside t)
+
+  pub stated_aside : (t : ℕ) → state_after s (up_to t (hs ++ (front ++ back))) device ≡ state_after s (up_to t (hs ++ (front ++ w ∷ back))) device
+  stated_aside t =
+      rw (sym (append_assoc hs front back))
+      (sym (fold_skip (λ state h. state_with device state h.note.body) (λ h. nat_le (time_of h) t) (hs ++ front) back w
+      (λ old. keeps_state device old w.note.body (moves_no_other device w.note.body misses)) _)
+      ∙ (rw (append_assoc hs front (w ∷ back))))
+
+  pub adjusted_aside : (t : ℕ) → adjustment_after s (up_to t (hs ++ (front ++ back))) device
+      ≡ adjustment_after s (up_to t (hs ++ (front ++ w ∷ back))) device
+  adjusted_aside t =
+      rw (sym (append_assoc hs front back))
+      (sym (fold_skip (λ adjustment h. adjustment_with s device (cycle_in h) adjustment h.note.body)
+      (λ h. nat_le (time_of h) t) (hs ++ front) back w
+      (λ old. keeps_adjustment s device (cycle_in w) old w.note.body (moves_no_other device w.note.body misses)) _)
+      ∙ (rw (append_assoc hs front (w ∷ back))))
+
+  -- what the device took is told alike, where it takes nothing by the record
+  pub frames_aside : IsNoTaking device w.note.body → frames_taken s (hs ++ (front ++ back)) device ≡ frames_taken s (hs ++ (front ++ w ∷ back)) device
+  frames_aside takes =
+      let old = (hs ++ front) ++ back in
+      let new = (hs ++ front) ++ w ∷ back in
+      rw (sym (append_assoc hs front back))
+      (taken_same device (local_before s old device) (local_before s new device) old
+      (λ h i. rw (tell_alike s old new device (time_of h) (sym
+      (drop_one (λ g. bears_on device g.note.body) (hs ++ front) back w misses))).adjustment)
+      ∙ taken_parts device (local_before s new device) (hs ++ front) back
+      ∙ ap (λ l. taken_by device (local_before s new device)
+      (hs ++ front) ++ (l ++ taken_by device (local_before s new device) back))
+      (sym (takes (local_before s new device (time_of w))))
+      ∙ sym (taken_parts device (local_before s new device) (hs ++ front) (w ∷ back))
+      ∙ (rw (append_assoc hs front (w ∷ back))))
+
+  -- ---- the device
+
+  pub kept_aside : {M : Type 0} {stands : M → Network → DeviceId → Node → Type 0} {frontier : List ℕ} {now : ℕ}
+      {machine : M} → time_of w ≡ now
+      → frames_taken s (hs ++ (front ++ back)) device ≡ frames_taken s (hs ++ (front ++ w ∷ back)) device
+      → IsKept stands s hs (front ++ back) frontier now device machine
+      → IsKept stands s hs (front ++ w ∷ back) frontier now device machine
+  kept_aside {frontier} {now} at frames k = record {
+    node = k.node;
+    is = k.is;
+    sound = k.sound;
+    up = k.up;
+    acted = k.acted;
+    told = λ over. elim (k.told over) [
+      | inl past ↦ inl past
+      | inr (inl just) ↦ inr (inl (record { looking = sym (before_aside now) ∙ just.looking; other = just.other }))
+      | inr (inr joining) ↦ inr (inr (joining_aside s hs front back w device joining))
+    ];
+    left = left_aside k.left;
+    taken = k.taken ∙ frames;
+    worked = worked_on _ frontier (changed_aside k.up) (λ p b. b) k.worked;
+    bare = k.bare;
+    ready = k.ready;
+    still = λ same. still_aside s hs front back w device now (moves_no_other device w.note.body misses) (k.still same);
+    turned = λ on. turned_aside s hs front back w device (k.turned on) (earlier_aside now);
+    cleared = k.cleared;
+    phase = k.phase;
+  }
+
+  pub out_aside : {M : Type 0} {stands : M → Network → DeviceId → Node → Type 0} {frontier : List ℕ}
+      {now : ℕ} {machine : M}
+      → IsOut stands s hs (front ++ back) frontier now device machine
+      → IsOut stands s hs (front ++ w ∷ back) frontier now device machine
+  out_aside {now} k = record {
+    node = k.node;
+    is = k.is;
+    broken = k.broken;
+    shows = k.shows;
+    state = k.state ∙ stated_aside now;
+    adjustment = k.adjustment ∙ adjusted_aside now;
+    ready = k.ready;
+    phase = k.phase;
+  }
+
+  -- the device, sound or broken, stands with the record as without it
+  pub held_aside : {M : Type 0} {stands : M → Network → DeviceId → Node → Type 0} {frontier : List ℕ}
+      {now : ℕ} {machine : M}
+      → time_of w ≡ now
+      → frames_taken s (hs ++ (front ++ back)) device ≡ frames_taken s (hs ++ (front ++ w ∷ back)) device
+      → IsHeld stands s hs (front ++ back) frontier now device machine
+      → IsHeld stands s hs (front ++ w ∷ back) frontier now device machine
+  held_aside at frames (inl k) = inl (kept_aside at frames k)
+  held_aside at frames (inr k) = inr (out_aside k)
+
+-- ---- what is due by one of two lists of records that tell the same up to a source is due by the other
 
 -- ---- kinds of records
 
@@ -485,3 +668,99 @@ module _ {s : Scenario} {n : ℕ} {at : List ℕ} {put : NoteBody} {js gs : List
     begun = due.begun;
     cause = caused_aside a i due.cause;
   }
+
+-- ---- the records with one more at its place among them tell the same up to its source
+
+-- a place that is not before another is not by the test
+pub not_is : (p q : List ℕ) → (IsBefore p q → ⊥) → is_before p q ≡ false
+not_is p [] not = refl
+not_is [] (y ∷ ys) not = absurd (not tt)
+not_is (x ∷ xs) (y ∷ ys) not =
+    elim (cases_order x y) [
+      | inr (inl lt) ↦ absurd (not (inl lt))
+      | inr (inr gt) ↦
+          rw (le-ltb x y (omega arith))
+          (ap (λ b. b && is_before xs ys) (false_from_ne_true (x == y) (λ f. let same = eqb-true x y f in
+          absurd (omega arith))))
+      | inl e ↦
+          rw (le-ltb x y (omega arith))
+          (and_right (x == y) (is_before xs ys) (not_is xs ys (λ b. not (inr (e, b)))))
+    ]
+
+pub filter_none : (q : Happening → Bool) (xs : List Happening) → ((h : Happening) → IsIn h xs → q h ≡ false) → filter q xs ≡ []
+filter_none q [] none = refl
+filter_none q (x ∷ xs) none = rw (none x (inl refl)) (filter_none q xs (λ h i. none h (inr i)))
+
+any_skip : (p : Happening → Bool) (xs bs : List Happening) (w : Happening) → p w ≡ false → list_any p (xs ++ bs) ≡ list_any p (xs ++ w ∷ bs)
+any_skip p [] bs w e = sym (rw e)
+any_skip p (x ∷ xs) bs w e = rw (any_skip p xs bs w e)
+
+-- the record stands at its place in the instant, not before the source, before those behind it; and no arrival up to the
+-- source comes after it
+pub record IsPlaced (t : ℕ) (at : List ℕ) (c : List Happening) (w : Happening) : Type 0 where
+  pub now : time_of w ≡ t
+  pub of_time : (y : Happening) → IsIn y c → time_of y ≡ t
+  pub over : (y : Happening) → IsIn y c → IsBefore (place_of w) (place_of y)
+  pub least : IsBefore (place_of w) at → ⊥
+  pub takes : (device : DeviceId) (vl : VlId) (link : LinkId) (cause : ℕ) → (IsBefore at (t ∷ 2 ∷ device.0 ∷ link.0 ∷ cause ∷ []) → ⊥)
+      → is_taken_before device vl t link cause (time_of w) w.note.body ≡ false
+
+-- nothing of it is before a place that is not behind the source
+none_judged : (at p : List ℕ) (w : Happening) (xs : List Happening) → (IsBefore (place_of w) at → ⊥) → (IsBefore at p → ⊥)
+    → ((y : Happening) → IsIn y xs → (y ≡ w) ⊎ IsBefore (place_of w) (place_of y)) → filter (λ h. is_before (place_of h) p) xs ≡ []
+none_judged at p w xs least under over =
+    let from : IsBefore (place_of w) p → ⊥ = λ b. elim (Rattle.run_law.proofs.runs.Places.either_way at (place_of w)) [
+      | inl lt ↦ under (chain at (place_of w) p lt b)
+      | inr (inl e) ↦ under (rw e b)
+      | inr (inr gt) ↦ least gt
+    ] in
+    filter_none (λ h. is_before (place_of h) p) xs (λ h i. not_is (place_of h) p (λ b. elim (over h i) [
+      | inl e ↦ from (rw e at b)
+      | inr lt ↦ from (chain (place_of w) (place_of h) p lt b)
+    ]))
+
+pub hearing_placed : (s : Scenario) (t : ℕ) (ps c : List Happening) (w : Happening) (device : DeviceId)
+    → earlier t (ps ++ c) ≡ earlier t (ps ++ w ∷ c) → bears_on device w.note.body ≡ false → HearsAlike s (ps ++ c) (ps ++ w ∷ c) device t
+hearing_placed s t ps c w device before misses =
+    let js = ps ++ c in
+    let gs = ps ++ w ∷ c in
+    let bear = sym (drop_one (λ h. bears_on device h.note.body) ps c w misses) in
+    let still = moves_no_other device w.note.body misses in
+    let joined = any_skip (λ h. time_of h == t && is_joined_by device h.note.body) ps c w
+    (and_right (time_of w == t) (is_joined_by device w.note.body) (joins_no_other device w.note.body still)) in
+    record {
+      heard = heard_alike s js gs device t bear;
+      points = points_alike js gs device bear;
+      state =
+          rw joined
+          (rw before);
+      adjustment =
+          sym (fold_skip (λ adjustment h. adjustment_with s device (cycle_in h) adjustment h.note.body)
+          (λ h. nat_lt (time_of h) t || is_joined_by device h.note.body) ps c w (λ old. keeps_adjustment s device (cycle_in w) old w.note.body still) _);
+    }
+
+-- with it and without it they tell the same
+pub two_placed : (s : Scenario) {t : ℕ} {at : List ℕ} (ps : List Happening) {c : List Happening} {w : Happening} → IsPlaced t at c w
+    → AreNear s t (length ps) at w.note.body (ps ++ c) (ps ++ w ∷ c)
+two_placed s {t} {at} ps {c} {w} p =
+    let late : (y : Happening) → IsIn y c → t ≤ time_of y = λ y i. let e = p.of_time y i in omega arith in
+    let with_w : (y : Happening) → IsIn y (w ∷ c) → t ≤ time_of y = λ y i. elim i [
+      | inl e ↦ let same : time_of y ≡ time_of w = ap time_of e in let now = p.now in omega arith
+      | inr more ↦ late y more
+    ] in
+    let before = earlier_still t ps c late ∙ sym (earlier_still t ps (w ∷ c) with_w) in
+    record {
+      first = λ i le. numbered_prefix ps c i le ∙ sym (numbered_prefix ps (w ∷ c) i le);
+      before = before;
+      taken = λ device link cause vl under.
+          sym (rw (drop_one (λ h. is_taken_before device vl t link cause (time_of h) h.note.body) ps c w
+          (p.takes device vl link cause under)));
+      judged = λ device link cause frame point under.
+          let place = t ∷ 3 ∷ device.0 ∷ amount point ∷ frame.members.0 ∷ link.0 ∷ cause ∷ [] in
+          let q = λ (h : Happening). is_before (place_of h) place in
+          let old = none_judged at place w c p.least under (λ y i. inr (p.over y i)) in
+          let new = none_judged at place w (w ∷ c) p.least under (λ y i. elim i
+          [ inl e ↦ inl e | inr more ↦ inr (p.over y more) ]) in
+          filter-append q ps c ∙ (rw (old ∙ sym new) (sym (filter-append q ps (w ∷ c))));
+      hearing = λ device misses. hearing_placed s t ps c w device before misses;
+    }

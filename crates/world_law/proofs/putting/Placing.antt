@@ -1,19 +1,324 @@
--- What is to come with a record put in at its place, whichever source of the instant it comes from.
-use Rattle.world_law.proofs.Words.{◌++◌, ◌+◌, ◌∙◌, ◌∷◌, ◌≡◌, ◌≤◌, ◌⊎◌, AllBefore, DeviceId, Happening, IsBefore, IsDue, IsForward, IsFounded, IsIn, both_ways}
-use Rattle.world_law.proofs.Words.{IsOwnSource, IsSource, LinkId, List, NoneBefore, NoteBody, Scenario, VlId, [], rows_place, ap, append_assoc, arith, bears_on}
-use Rattle.world_law.proofs.Words.{before_behind, behind, cases_Bool, cases_lt, cases_order, cause_of, chain, either_way, eqb-true, false, in_left}
-use Rattle.world_law.proofs.Words.{in_parts, in_right, inl, inr, is_at_source, is_taken_before, key, length, length-append, members_in, never_self}
-use Rattle.world_law.proofs.{Words.{place_of, rank, refl, subst, sym, time_of, true, ℕ}, putting.PutIn.{own_time, split_three, split_two}}
-use Rattle.world_law.proofs.runs.Settled.{AreSettled, own_here}
-use Rattle.world_law.proofs.{giving.GivenParts.up_to_place, putting.NearPut.{IsPlaced, two_placed}, runs.Firsts.{at_least}}
-use Rattle.world_law.proofs.{putting.Bearing.in_placed, putting.Moving.{IsAllOfIt, IsMoving, not_far, off_source, stays}, runs.Firsts.numbered_parts}
-use Rattle.world_law.proofs.putting.Near.{AreFrom, AreNear, AsFollower, IsAsideOf, due_aside, follower_or_not, hears, is_follower, is_following, known_near}
-use Rattle.world_law.proofs.putting.Near.{near_back, own_aside, own_source}
-use Rattle.world_law.proofs.Words.{ChangesState, IsCaused, State, Units, Why, amount, is_joined_by, numbered, numbered_within, parted, Some}
-use Rattle.world_law.specs.world.World.{IsDueAs}
-use Rattle.world_law.proofs.putting.PutShown.{AsState}
+-- Records are put in at their places among what is to come, and have their numbers once given.
+use Rattle.net_plan.specs.declared.event.What.TheVariants.{End}
+use Rattle.run_law.specs.records.Happenings.{frame_by, happening, octets_by}
+use Rattle.world_law.{specs.{device.Plain.with_number, world.{Moves.{IsPutIn, settled_as}, World.IsDueAs}}}
+use Rattle.world_law.proofs.{devices.Borne.{heard_plain, plains_parts, points_plain}, giving.GivenParts.up_to_place}
+use Rattle.world_law.proofs.Words
+use Words.{◌++◌, ◌+◌, ◌<◌, ◌∙◌, ◌∷◌, ◌≡◌, ◌≤◌, ◌⊎◌, AllBefore, ChangesState, DeviceId, Happening, IsBefore, IsCaused}
+use Words.{IsDue, IsForward, IsFounded, IsIn, IsOwnSource, IsSource, LinkId, List, Network, NoneBefore, Note, NoteBody}
+use Words.{Option, Pcf, Scenario, Some, State, Units, VlId, Why, [], amount, ap, append_assoc, arith, bears_on}
+use Words.{before_behind, behind, both_ways, cases_Bool, cases_lt, cases_order, cause_of, chain, either_way, eqb-true}
+use Words.{false, in_left, in_parts, in_right, inl, inr, ints, is_at_source, is_before, is_joined_by, is_taken_before}
+use Words.{key, length, length-append, members_in, never_self, numbered, numbered_within, parted, place_of, plain}
+use Words.{plains, rank, refl, rows_place, slice_get, subst, suc, sym, time_of, true, units_of, zero, ℕ}
+use Rattle.world_law.proofs.putting.{Alike.happening_alike, Idle.{drop_one, numbered_prefix}}
+use Rattle.world_law.proofs.putting.{Moving.{IsAllOfIt, IsMoving, not_far, off_source, stays}}
+use Rattle.world_law.proofs.putting.{Numberless.{hearing_adjustment_plain, hearing_state_plain, last_taken_plain}}
+use Rattle.world_law.proofs.putting.{PutIn.{own_time, split_three, split_two}}
+use Rattle.world_law.proofs.putting.Near
+use Near.{AreFrom, AreNear, AsFollower, IsAsideOf, IsPlaced, IsThere, caused_near, changes_given, due_aside}
+use Near.{follower_or_not, hears, in_placed, is_follower, is_following, known_near, near_back, not_is, own_aside}
+use Near.{own_near, own_source, two_placed}
+use Rattle.world_law.proofs.runs.{TaskPlaces.second}
+use Rattle.world_law.proofs.runs.{Worlds.{AreSettled, at_least, earlier_still, numbered_parts, own_here}}
 use Rattle.run_law.specs.declared.judgement.Why.TheVariants as whys
 use Rattle.run_law.specs.declared.note.NoteBody.TheVariants as notes
+
+-- ---- a record has its number once it is given: what is due of the others does not rest on that
+
+-- the two are one record, but for the number
+abbrev pub AreOne : Happening → Happening → Type 0
+AreOne z g = with_number 0 z ≡ with_number 0 g
+
+same_body : (z g : Happening) → AreOne z g → z.note.body ≡ g.note.body
+same_body z g one = ap (λ h. h.note.body) one
+
+same_time : (z g : Happening) → AreOne z g → time_of z ≡ time_of g
+same_time z g one = ap time_of one
+
+pub same_place : (z g : Happening) → AreOne z g → place_of z ≡ place_of g
+same_place z g one = ap place_of one
+
+plains_given : (hs f : List Happening) (z g : Happening) → AreOne z g → plains (hs ++ z ∷ f) ≡ plains (hs ++ g ∷ f)
+plains_given hs f z g one =
+    plains_parts hs (z ∷ f) ∙ (rw (ap plain one) (sym (plains_parts hs (g ∷ f))))
+
+of_now : (f : List Happening) (z : Happening) {now : ℕ} → time_of z ≡ now
+    → ((y : Happening) → IsIn y f → time_of y ≡ now) → (y : Happening) → IsIn y (z ∷ f)
+    → now ≤ time_of y
+of_now f z at others y (inl e) = let t : time_of y ≡ time_of z = ap time_of e in omega arith
+of_now f z at others y (inr more) = omega arith
+
+-- the records with the one and with the other tell the same of all up to its place; no record is put in
+pub near_given : (s : Scenario) (hs f : List Happening) (z g : Happening) (now : ℕ) → AreOne z g → time_of z ≡ now
+    → ((y : Happening) → IsIn y f → time_of y ≡ now)
+    → AreNear s now (length hs) (place_of z) (notes.Event 0 End) (hs ++ z ∷ f) (hs ++ g ∷ f)
+near_given s hs f z g now one at others =
+    let js = hs ++ z ∷ f in
+    let gs = hs ++ g ∷ f in
+    let same = plains_given hs f z g one in
+    let at_g = sym (same_time z g one) ∙ at in
+    record {
+      first = λ i le. numbered_prefix hs (z ∷ f) i le ∙ sym (numbered_prefix hs (g ∷ f) i le);
+      before = earlier_still now hs (z ∷ f) (of_now f z at others) ∙ sym
+          (earlier_still now hs (g ∷ f) (of_now f g at_g others));
+      taken = λ device link cause vl under.
+          sym (last_taken_plain js device now link cause vl) ∙ (rw same
+          (last_taken_plain gs device now link cause vl));
+      judged = λ device link cause frame point under.
+          let p = now ∷ 3 ∷ device.0 ∷ amount point ∷ frame.members.0 ∷ link.0 ∷ cause ∷ [] in
+          let not_z = not_is (place_of z) p under in
+          drop_one (λ h. is_before (place_of h) p) hs f z not_z
+          ∙ sym (drop_one (λ h. is_before (place_of h) p) hs f g (ap (λ q. is_before q p) (sym (same_place z g one)) ∙ not_z));
+      hearing = λ device misses. record {
+        heard = sym (heard_plain s js device now) ∙ (rw same (heard_plain s gs device now));
+        points = sym (points_plain js device) ∙ (rw same (points_plain gs device));
+        state =
+            sym (hearing_state_plain s js device now) ∙ (rw same
+            (hearing_state_plain s gs device now));
+        adjustment =
+            sym (hearing_adjustment_plain s js device now) ∙ (rw same
+            (hearing_adjustment_plain s gs device now));
+      };
+    }
+
+-- ---- what follows a record
+
+-- the record of each number is the same, or the one in the place of the other
+numbers_given : (hs f : List Happening) (z g : Happening) → AreOne z g → (cause : ℕ) (h : Happening) → numbered (hs ++ z ∷ f) cause ≡ Some h
+    → IsThere (hs ++ g ∷ f) cause h
+numbers_given hs f z g one zero h e = absurd cc
+numbers_given [] f z g one (suc zero) h e =
+    let is : z ≡ h = cc in
+    (g, refl, sym (same_body z g one) ∙ (rw is), sym (same_time z g one) ∙ ap time_of is)
+numbers_given [] f z g one (suc (suc i)) h e = (h, e, refl, refl)
+numbers_given (x ∷ hs) f z g one (suc zero) h e = (h, e, refl, refl)
+numbers_given (x ∷ hs) f z g one (suc (suc i)) h e = numbers_given hs f z g one (suc i) h e
+
+own_follower : (s : Scenario) (js gs : List Happening) (t m : ℕ) (device : DeviceId) (state : State) (cause : ℕ) (why : Why) (p : List ℕ)
+    → is_following why ≡ true → IsOwnSource s js t m (notes.State device state cause why) p → IsOwnSource s gs t m (notes.State device state cause why) p
+own_follower s js gs t m device state cause whys.SyncClique p f o = grind arith
+own_follower s js gs t m device state cause why p f o = grind arith
+
+abbrev made : Note → Option Pcf → List ℕ → Happening
+made note frame octets = record { note = note; frame = frame; octets = octets }
+
+-- a change of state has no frame
+follower_same : (network : Network) (js gs : List Happening) (note : Note) → AsFollower note.body → happening network js note ≡ happening network gs note
+follower_same network js gs note f =
+    rw (ap (frame_by network js) f.is ∙ sym (ap (frame_by network gs) f.is))
+    (ap (made note (frame_by network gs note.body)) (ap (octets_by network js) f.is ∙ sym
+    (ap (octets_by network gs) f.is)))
+
+-- ---- so what is due by the one is due by the other, and of the same source
+
+-- it stands behind its source, which is not behind the record's place
+pub record IsBehindIt (s : Scenario) (js : List Happening) (z y : Happening) (p : List ℕ) : Type 0 where
+  pub at : time_of y ≡ time_of z
+  pub not_there : is_at_source y.note.body ≡ false
+  pub own : IsOwnSource s js (time_of y) (members_in y) y.note.body p
+  pub under : IsBefore (place_of z) p → ⊥
+
+module _ (s : Scenario) (hs f : List Happening) (z g : Happening) (one : AreOne z g) (forward : IsForward s) (given : IsFounded place_of (IsDue s) hs)
+    (high : 2 ≤ rank z.note.body) (from : AreFrom (time_of z) (rank z.note.body) (z ∷ f)) where
+  near_at : {t : ℕ} → t ≡ time_of z → AreNear s t (length hs) (place_of z) (notes.Event 0 End) (hs ++ z ∷ f)
+      (hs ++ g ∷ f)
+  near_at e =
+      rw e (near_given s hs f z g (time_of z) one refl (λ y i. (from y (inr i)).0))
+
+  few_given : {y : Happening} {p : List ℕ} → IsBehindIt s (hs ++ z ∷ f) z y p → IsDueAs s (hs ++ z ∷ f) y → is_follower y.note.body ≡ false
+      → cause_of y.note.body ≤ length hs
+  few_given {y} {p} b due plain =
+      known_near s hs (z ∷ f) y.note.time (members_in y) (rank z.note.body) (key (members_in z) z.note.body) y.note.body p forward given
+      (rw b.at from) high b.not_there plain b.own
+      (rw b.at b.under) due.cause
+
+  pub due_given : {y : Happening} {p : List ℕ} → IsBehindIt s (hs ++ z ∷ f) z y p → IsDueAs s (hs ++ z ∷ f) y → IsDueAs s (hs ++ g ∷ f) y
+  due_given {y} {p} b due = elim (follower_or_not y.note.body) [
+    | inr plain ↦
+        let few = few_given b due plain in
+        let near = near_at b.at in
+        record {
+          same = due.same ∙ happening_alike s.network (length hs) (hs ++ z ∷ f) (hs ++ g ∷ f) y.note near.first few;
+          begun = due.begun;
+          cause = caused_near (members_in y) y.note.time y.note.body p near
+              b.not_there plain (λ device yes_it. refl) few b.own b.under due.cause;
+        }
+    | inl x ↦ record {
+      same = due.same ∙ follower_same s.network (hs ++ z ∷ f) (hs ++ g ∷ f) y.note x;
+      begun = due.begun;
+      cause = rw x.is (changes_given s (hs ++ z ∷ f) (hs ++ g ∷ f) x.device (time_of y) x.state x.cause x.why
+          (near_at b.at).before
+          (numbers_given hs f z g one x.cause) x.following (rw x.is at due.cause));
+    }
+  ]
+
+  pub own_given : {y : Happening} {p : List ℕ} → IsBehindIt s (hs ++ z ∷ f) z y p → IsDueAs s (hs ++ z ∷ f) y
+      → IsOwnSource s (hs ++ g ∷ f) (time_of y) (members_in y) y.note.body p
+  own_given {y} {p} b due = elim (follower_or_not y.note.body) [
+    | inr plain ↦ own_near s (members_in y) y.note.body p
+        (near_at b.at) (few_given b due plain) b.under b.own
+    | inl x ↦ rw x.is (own_follower s (hs ++ z ∷ f) (hs ++ g ∷ f) (time_of y) (members_in y) x.device x.state x.cause
+        x.why p x.following
+        (rw x.is at b.own))
+  ]
+
+-- ---- a record is put in at its place among what is to come, and the change of state that follows it
+
+-- Changes of state among records, and the number of a record put in.
+
+-- the record is a change of state
+pub record AsState (body : NoteBody) : Type 0 where
+  pub device : DeviceId
+  pub state : State
+  pub cause : ℕ
+  pub why : Why
+  pub is : body ≡ notes.State device state cause why
+
+-- a record of this rank is a change of state
+pub seven : (body : NoteBody) → AsState body ⊎ (rank body ≡ 7 → ⊥)
+seven (notes.State device state cause why) = inl (record { device = device; state = state; cause = cause; why = why; is = refl })
+seven other = inr (λ e. omega arith)
+
+get_here : (ps rest : List Happening) (w : Happening) → slice_get (ps ++ w ∷ rest) (length ps) ≡ Some w
+get_here [] rest w = refl
+get_here (h ∷ ps) rest w = get_here ps rest w
+
+-- a record behind so many has the next number
+pub numbered_here : (ps rest : List Happening) (w : Happening) → numbered (ps ++ w ∷ rest) (suc (length ps)) ≡ Some w
+numbered_here ps rest w = get_here ps rest w
+
+-- a record of this body that is to come, given those before it
+abbrev pub record_of : Network → List Happening → List Happening → ℕ → NoteBody → Happening
+record_of network hs front now body = settled_as network (hs ++ front) now body
+
+-- the record is due where it is caused
+pub due_of : (s : Scenario) (hs front : List Happening) (now : ℕ) (body : NoteBody) → IsCaused s (hs ++ front) (units_of now) body
+    → IsDueAs s (hs ++ front) (record_of s.network hs front now body)
+due_of s hs front now body cause = record { same = refl; begun = omega (arith, ints); cause = cause }
+
+-- where its cause is given, it is that of those given
+pub same_record : (network : Network) (hs front : List Happening) (now : ℕ) (body : NoteBody) → cause_of body ≤ length hs
+    → record_of network hs front now body ≡ settled_as network hs now body
+same_record network hs front now body few =
+    let bare : Note = record { number = 0; time = units_of now; body = body } in
+    happening_alike network (length hs) (hs ++ front) hs bare (λ i le. numbered_prefix hs front i le) few
+
+-- one more is to come with it
+pub put_length : (front back : List Happening) (w : Happening) → length (front ++ w ∷ back) ≡ length (front ++ back) + 1
+put_length front back w = grind (arith, length-append, length)
+
+-- the record stands at its place among what is to come
+pub record IsShownPut (network : Network) (hs : List Happening) (now : ℕ) (body : NoteBody) (coming settled : List Happening) : Type 0 where
+  pub front : List Happening
+  pub back : List Happening
+  pub parts : coming ≡ front ++ back
+  pub before : AllBefore place_of front (place_of (record_of network hs front now body))
+  pub none : NoneBefore place_of back (place_of (record_of network hs front now body))
+  pub shows : settled ≡ front ++ record_of network hs front now body ∷ back
+
+pub one_shown : (network : Network) (hs : List Happening) (now : ℕ) (body : NoteBody)
+    {coming settled : List Happening} → cause_of body ≤ length hs
+    → IsPutIn (settled_as network hs now body) coming settled → IsShownPut network hs now body coming settled
+one_shown network hs now body few put =
+    let same = same_record network hs put.front now body few in
+    let place : place_of (settled_as network hs now body) ≡ place_of (record_of network hs put.front now body) = ap place_of (sym same) in
+    record {
+      front = put.front;
+      back = put.back;
+      parts = put.was;
+      before = subst (AllBefore place_of put.front) place put.before;
+      none = subst (NoneBefore place_of put.back) place put.none;
+      shows = put.is ∙ (rw (sym same));
+    }
+
+-- ---- a record that comes first, and the change of state that follows it: its number is the next
+
+abbrev pub change_of : Network → List Happening → ℕ → NoteBody → List Happening → DeviceId → State → Why → Happening
+change_of network hs now body mid device state why =
+    record_of network hs (record_of network hs [] now body ∷ mid) now (notes.State device state (length hs + 1) why)
+
+-- the two among what is to come
+abbrev pub pair_put : Network → List Happening → ℕ → NoteBody → List Happening → DeviceId → State → Why → List Happening
+    → List Happening
+pair_put network hs now body mid device state why back =
+    record_of network hs [] now body ∷ (mid ++ change_of network hs now body mid device state why ∷ back)
+
+-- the first stands before all that is to come, the change behind what is between
+pub record IsShownPair (network : Network) (hs : List Happening) (now : ℕ) (body : NoteBody) (device : DeviceId) (state : State) (why : Why)
+    (coming settled : List Happening) : Type 0 where
+  pub first : NoneBefore place_of coming (place_of (record_of network hs [] now body))
+  pub mid : List Happening
+  pub back : List Happening
+  pub parts : coming ≡ mid ++ back
+  pub before : AllBefore place_of (record_of network hs [] now body ∷ mid)
+      (place_of (change_of network hs now body mid device state why))
+  pub none : NoneBefore place_of back (place_of (change_of network hs now body mid device state why))
+  pub fresh : (y : Happening) → IsIn y back → place_of (change_of network hs now body mid device state why) ≡ place_of y
+      → ⊥
+  pub shows : settled ≡ pair_put network hs now body mid device state why back
+
+first_of : (front back : List Happening) (p : List ℕ) → AllBefore place_of front p → ((z : Happening) → IsIn z (front ++ back) → IsBefore (place_of z) p → ⊥)
+    → front ≡ []
+first_of [] back p before above = refl
+first_of (x ∷ front) back p before above = absurd (above x (inl refl) (before x (inl refl)))
+
+-- what is put in first stands first where nothing to come is before it; and no change of the device has its number as its cause yet
+pub two_shown : (network : Network) (hs : List Happening) (now : ℕ) (body : NoteBody) (device : DeviceId)
+    (state : State) (why : Why) {coming put_one settled : List Happening} → cause_of body ≤ length hs → rank body < 7
+    → ((z : Happening) → IsIn z coming → IsBefore (place_of z) (place_of (settled_as network hs now body)) → ⊥)
+    → ((z : Happening) → IsIn z coming → (it : AsState z.note.body) → it.cause ≤ length hs)
+    → IsPutIn (settled_as network hs now body) coming put_one
+    → IsPutIn (settled_as network hs now (notes.State device state (length hs + 1) why)) put_one settled
+    → IsShownPair network hs now body device state why coming settled
+two_shown network hs now body device state why {coming} few low above sole put put2 =
+    let same = same_record network hs [] now body few in
+    let none_first = first_of put.front put.back (place_of (settled_as network hs now body)) put.before
+    (λ z i. above z (rw put.was i)) in
+    let rest = sym (put.was ∙ ap (λ l. l ++ put.back) none_first) in
+    let one_is =
+    sym (put.is ∙ ap (λ l. l ++ settled_as network hs now body ∷ put.back) none_first
+    ∙ ap (λ h. h ∷ put.back) (sym same) ∙ ap (λ l. w ∷ l) rest) ∙ put2.was in
+    let x = behind_it put2.front put2.back one_is put2.none in
+    record {
+      first = λ z i b. above z i (subst (λ q. IsBefore (place_of z) q) (ap place_of same) b);
+      mid = x.0;
+      back = put2.back;
+      parts = x.2;
+      before = rw x.1 at put2.before;
+      none = put2.none;
+      fresh = λ y there e.
+          let of_rank : 7 ≡ rank y.note.body = ap second e in
+          elim (seven y.note.body) [
+            | inr none ↦ none (sym of_rank)
+            | inl it ↦
+                let places = e
+                ∙ ap (λ b. time_of y ∷ rank b ∷ Rattle.run_law.specs.records.Ranks.key
+                (Rattle.run_law.specs.records.Ranks.members_in y) b) it.is in
+                let cause : length hs + 1 ≡ it.cause = cc in
+                let most = sole y (rw x.2 (in_right y x.0 put2.back there)) it in
+                omega arith
+          ];
+      shows = put2.is
+          ∙ ap (λ l. l ++ settled_as network hs now (notes.State device state (length hs + 1) why)
+          ∷ put2.back) x.1;
+    }
+  where
+    w : Happening
+    w = record_of network hs [] now body
+
+    change_place : List ℕ
+    change_place = now ∷ 7 ∷ device.0 ∷ (length hs + 1) ∷ []
+
+    behind_it : (front back : List Happening) → w ∷ coming ≡ front ++ back → NoneBefore place_of back change_place
+        → (mid : List Happening) × (front ≡ w ∷ mid) × (coming ≡ mid ++ back)
+    behind_it [] back e none = absurd (none w (rw (sym e) (inl refl)) (inr (refl, inl low)))
+    behind_it (x ∷ mid) back e none =
+        let is : w ≡ x = cc in
+        let rest : coming ≡ mid ++ back = cc in
+        (mid, rw (sym is), rest)
+
+-- ---- what is to come with a record put in at its place, whichever source of the instant it comes from
 
 -- ---- no record stands before its own source
 

@@ -2,7 +2,13 @@
 use Rattle.net_plan.specs.Places.{is_end_system}
 use Rattle.run_law.specs.{machines.Tasks.HasFrame, timed.Dispatching.IsUp}
 use Rattle.schedule_tables.specs.{Schedule.IsClearBefore, declared.rule.Rule.TheVariants.{Periods, ScheduleStart, Senders, Spacing}}
-use Rattle.schedule_tables.{proofs.Entries.{begun_below, occur_together}, proofs.EntryLemmas.one_entry, specs.Delays.pcf_port_time, specs.Entries.source_by}
+use Rattle.schedule_tables.{proofs.{Margins.{begun_below, occur_together}, SlotLemmas.one_entry}}
+use Rattle.schedule_tables.{specs.{Delays.pcf_port_time, Entries.source_by}}
+use Rattle.world_law.proofs.{Words.{option_map_or, place_of, pos, refl, sym, task_place, time_of, true, value_of}}
+use Rattle.world_law.proofs.{acts.Acting.{IsUnmoved, comes_so, undone_so}, devices.Unmoved.{not_turned_on, state_still}}
+use Rattle.world_law.proofs.{frames.Masters.ends_differ, putting.PutIn.split_two}
+use Rattle.world_law.proofs.rows.AtHand.{IsReaching, ShowsAt, at_hand, cycles_apart, has_frame, row_ends, shows_at}
+use Rattle.world_law.proofs.rows.AtHand.{value_is}
 use Rattle.std.proofs.Common.{IsSomeAnd}
 use Rattle.tte_units.specs.declared.speed.Speed.TheVariants.{Gbit1, Mbit100}
 use Rattle.tte_units.{proofs.general_lemmas.Lists.in_all, specs.OctetTime.octet_time, specs.declared.speed.Speed.Speed}
@@ -11,9 +17,6 @@ use Rattle.world_law.proofs.Words.{IsSteady, KeepsRules, Link, LinkId, List, Net
 use Rattle.world_law.proofs.Words.{Up, VlId, Way, World, ℕ, ℤ, amount, ap, arith, before_later, both_ways, cases_lt, device_at, dispatch_body}
 use Rattle.world_law.proofs.Words.{dispatching, doing, false, frames_taken, happenings, in_parts, in_right, inl, inr, ints, is_end, link_at, local_before}
 use Rattle.world_law.proofs.Words.{◌*◌, ◌++◌, ◌+◌, ◌<◌, ◌^◌, ◌∙◌, ◌∷◌, ◌≡◌, ◌≤◌, AllBefore, AreComing, Device, DeviceId, Dispatches, Down, Entry}
-use Rattle.world_law.proofs.rows.{AtHand.{IsReaching, at_hand, has_frame, value_is}, Reached.{ShowsAt, cycles_apart, row_ends, shows_at}}
-use Rattle.world_law.proofs.{Words.{option_map_or, place_of, pos, refl, sym, task_place, time_of, true, value_of}, devices.OwnRecords.state_still}
-use Rattle.world_law.proofs.{acts.Acting.{IsUnmoved, comes_so, undone_so}, devices.Passes.not_turned_on, frames.Masters.ends_differ, putting.PutIn.split_two}
 use Rattle.world_law.{proofs.runs.FoundedAs.{AreFoundedAs, as_founded}, specs.world.World.IsDueAs}
 use Rattle.tte_units.proofs.general_lemmas.Integers.{whole as not_negative}
 

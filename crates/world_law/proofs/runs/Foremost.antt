@@ -1,15 +1,27 @@
--- Where nothing that a world has under way is before a place, no source that is not worked off is, but for acts.
-use Rattle.{drift_clock.proofs.Reaches.one_reach, std.specs.Prelude.unsigned_abs}
-use Rattle.run_law.proofs.law.FirstPlaces.{numbered_in}
-use Rattle.world_law.proofs.{giving.GivenParts.{in_get, no_later_breaks, some_same}, runs.Firsts.arrives_later}
-use Rattle.{run_law.specs.scenario.Scenarios.turns_on, world_law.specs.{source.Sources.IsRipening, world.{Moves.NothingBefore, World.IsWaitingFor}}}
-use Rattle.world_law.proofs.Words.{dispatching, doing, task_place, both_ways}
-use Rattle.world_law.proofs.Words.{◌&&◌, ◌+◌, ◌<◌, ◌==◌, ◌∙◌, ◌∷◌, ◌≡◌, ◌≤◌, Bool, DeviceId, Dispatches, Happening, HasDone, HasSent, HasTaskAt}
-use Rattle.world_law.proofs.Words.{HaveBefallen, IsActing, IsAtRest, IsBefore, IsIn, IsLeft, IsSource, LinkId, List, Network, Node, Note, NoteBody}
-use Rattle.world_law.proofs.Words.{Scenario, Stands, Task, VlId, Waiting, World, [], amount, ap, arith, cases_Bool, cases_lt, chain, clock_place}
-use Rattle.world_law.proofs.Words.{eqb-true, false, false_from_ne_true, happenings, inl, inr, is_turned_on_at, list_any, moves, place_of, pos, refl, ripe_place}
-use Rattle.world_law.proofs.Words.{task_place}
-use Rattle.world_law.proofs.{Words.{slice_get_within, sym, time_of, true, ℕ}, acts.Acting.{IsUnmoved, correcting_task, emitting_task, sending_task}}
+-- No source is before what a world has under way, also while one is worked off and its record not given.
+use Rattle.std.{proofs.Common.◌↔◌, specs.Prelude.unsigned_abs}
+use Rattle.drift_clock.proofs.Drifts.{one_reach}
+use Rattle.net_plan.specs.Ranges.{IsInRange}
+use Rattle.run_law.{proofs.law.FirstDeliveries.numbered_in}
+use Rattle.run_law.{specs.{runs.DueRecords.EndsAt, scenario.Scenarios.{is_broken, turns_on}}}
+use Rattle.schedule_tables.specs.Rules.{KeepsRules}
+use Rattle.tte_units.specs.declared.units.Units.{Units}
+use Rattle.world_law.proofs.{acts.Acting.{IsUnmoved, correcting_task, emitting_task, sending_task}}
+use Rattle.world_law.proofs.{giving.GivenParts.{in_get, no_later_breaks, some_same}}
+use Rattle.world_law.proofs.{runs.Worlds.{AreSettled, arrives_later, coming_of, run_to, settled_of}}
+use Rattle.world_law.proofs.Words
+use Words.{◌&&◌, ◌++◌, ◌+◌, ◌<◌, ◌==◌, ◌^◌, ◌∙◌, ◌∷◌, ◌≡◌, ◌≤ℤ◌, ◌≤◌, AreAtPorts, AreOfNetwork, AreOnWires, AreWaiting}
+use Words.{Bool, DeviceId, Dispatches, Happening, HasDone, HasSent, HasTaskAt, HaveBefallen, IsActing, IsAtRest}
+use Words.{IsBefore, IsForward, IsHeld, IsIn, IsLeft, IsScenarioRun, IsSource, LinkId, List, Network, Node, Note}
+use Words.{NoteBody, Scenario, Some, Stands, Task, VlId, Waiting, World, [], amount, ap, arith, behind, both_ways}
+use Words.{cases_Bool, cases_lt, chain, clock_place, dispatching, doing, eqb-true, false, false_from_ne_true}
+use Words.{happenings, inl, inr, is_turned_on_at, length, list_any, moves, numbers_end, place_of, pos, refl, ripe_place}
+use Words.{slice_get, slice_get_within, sym, task_place, time_of, true, ℕ}
+use Rattle.world_law.specs.{device.Ready.IsSteady, source.Sources.IsRipening}
+use Rattle.world_law.specs.world.{Moves.{NothingBefore, StandsAt}}
+use Rattle.world_law.specs.world.{World.{AreStored, AreUntold, AreWays, IsClockOf, IsWaitingFor}}
+
+-- ---- where nothing that a world has under way is before a place, no source that is not worked off is, but for acts
 
 -- no act that is not worked off is before the place
 abbrev pub NoActBefore : Scenario → List Happening → List ℕ → List ℕ → Type 0
@@ -128,3 +140,128 @@ pub unmoved_by : (s : Scenario) (device : DeviceId) (now : ℕ) (body : NoteBody
     → moves device body ≡ false
 unmoved_by s device now body off (inl e) = e
 unmoved_by s device now body off (inr on) = absurd (both_ways _ off on.1)
+
+-- ---- a world while a source is worked off and its own record is not given yet
+
+-- up to the first place the records given are the run, and each source before the second is worked off
+pub record StandsOver {C M : Type 0} (reading : C → ℕ → ℕ) (stands : M → Network → DeviceId → Node → Type 0)
+    (s : Scenario) (world : World C M) (notes : List Note) (from to : List ℕ) : Type 0 where
+  pub same : world.network ≡ s.network
+  pub range : IsInRange s.network
+  pub rules : KeepsRules s.network
+  pub forward : IsForward s
+  pub steady : (device : DeviceId) → IsSteady (s.reading device) (amount s.network.precision)
+  pub precise : pos 0 ≤ℤ s.network.precision.0
+  pub run : IsScenarioRun s from notes
+  pub on : (p : List ℕ) → IsBefore p from → IsBefore p to
+  pub of_now : (p : List ℕ) → IsBefore p (world.now ∷ []) → IsBefore p from
+  pub not_later : (p : List ℕ) → IsBefore p to → IsBefore p ((world.now + 1) ∷ [])
+  pub limit : world.now ≤ 2 ^ 60
+  pub lines : world.lines ≡ length s.events
+  pub given : world.given ≡ length notes
+  pub ended : (time : Units) → EndsAt s.events time ↔ ((world.ended ≡ true) × (time.0 ≡ pos world.now))
+  pub befallen : HaveBefallen s from world.now
+  pub clocks : (device : DeviceId) → device.0 < length s.network.device → (clock : C)
+      × (slice_get world.clocks device.0 ≡ Some clock) × IsClockOf reading s world.now device clock
+  pub broken : (device : DeviceId) → device.0 < length s.network.device
+      → slice_get world.broken device.0 ≡ Some (is_broken s device world.now)
+  pub ways : AreWays s world.now world.ups world.downs
+  pub room : length notes + length world.settled < numbers_end
+  pub known : AreOfNetwork s (happenings s.network notes ++ world.settled)
+  pub devices : (device : DeviceId) → device.0 < length s.network.device → (machine : M)
+      × (slice_get world.machines device.0 ≡ Some machine)
+      × IsHeld stands s (happenings s.network notes) world.settled to world.now device machine
+  pub early : world.early ≡ true → (p : List ℕ) → IsBefore p to → IsBefore p (world.now ∷ 2 ∷ [])
+  pub untold : AreUntold (happenings s.network notes) to world.now world.pending world.befell
+  pub wires : AreOnWires s (happenings s.network notes) to world.now world.pending world.wires
+  pub ports : AreAtPorts s (happenings s.network notes) to world.ports
+  pub waiting : AreWaiting s (happenings s.network notes) to world.now world.waiting
+  pub stored : AreStored (happenings s.network notes) world.stored
+  pub are : AreSettled s (happenings s.network notes) world.settled from to world.now
+  pub shown : (device : DeviceId) → device.0 < length s.network.device → world.ended ≡ true
+      → IsBefore (clock_place world.now device) to ↔ (device.0 < world.shown)
+
+-- the source at this place is worked off, and its records are among those to come
+abbrev pub StandsBehind : {C M : Type 0} → (C → ℕ → ℕ) → (M → Network → DeviceId → Node → Type 0) → Scenario → World C M
+    → List Note → List ℕ → Type 0
+StandsBehind reading stands s world notes at = StandsOver reading stands s world notes at (behind at)
+
+module _ {C M : Type 0} {reading : C → ℕ → ℕ} {stands : M → Network → DeviceId → Node → Type 0} {s : Scenario}
+    {world : World C M} {notes : List Note} where
+  pub over_of : (st : Stands reading stands s world notes)
+      → StandsOver reading stands s world notes st.frontier st.frontier
+  over_of st = record {
+    same = st.same;
+    range = st.range;
+    rules = st.rules;
+    forward = st.forward;
+    steady = st.steady;
+    precise = st.precise;
+    run = st.run;
+    on = λ p b. b;
+    of_now = st.of_now;
+    not_later = st.not_later;
+    limit = st.limit;
+    lines = st.lines;
+    given = st.given;
+    ended = st.ended;
+    befallen = st.befallen;
+    clocks = st.clocks;
+    broken = st.broken;
+    ways = st.ways;
+    room = st.room;
+    known = st.known;
+    devices = st.devices;
+    early = st.early;
+    untold = st.untold;
+    wires = st.wires;
+    ports = st.ports;
+    waiting = st.waiting;
+    stored = st.stored;
+    are = settled_of st.are;
+    shown = st.shown;
+  }
+
+  -- where nothing to come is before the second place, that is the frontier
+  pub stand_of : {from to : List ℕ} → StandsOver reading stands s world notes from to
+      → ((z : Happening) → IsIn z world.settled → IsBefore (place_of z) to → ⊥)
+      → StandsAt reading stands s world notes to
+  stand_of {from} {to} o none = (
+    record {
+      same = o.same;
+      range = o.range;
+      rules = o.rules;
+      forward = o.forward;
+      steady = o.steady;
+      precise = o.precise;
+      frontier = to;
+      run = run_to notes to o.run o.are (λ w source waits b. waits b) none o.on;
+      of_now = λ p b. o.on p (o.of_now p b);
+      not_later = o.not_later;
+      limit = o.limit;
+      lines = o.lines;
+      given = o.given;
+      ended = o.ended;
+      befallen = record {
+        past = o.befallen.past;
+        told = λ i e at. o.on _ (o.befallen.told i e at);
+        begun = o.befallen.begun;
+        sent = o.befallen.sent;
+      };
+      clocks = o.clocks;
+      broken = o.broken;
+      ways = o.ways;
+      room = o.room;
+      known = o.known;
+      devices = o.devices;
+      early = o.early;
+      untold = o.untold;
+      wires = o.wires;
+      ports = o.ports;
+      waiting = o.waiting;
+      stored = o.stored;
+      are = coming_of o.are o.on none;
+      shown = o.shown;
+    },
+    refl,
+  )

@@ -1,5 +1,5 @@
 -- Records that are founded but for their numbers: each stands after those before it, and is due given them.
-use Rattle.run_law.proofs.law.FirstPlaces.{front_founded}
+use Rattle.run_law.proofs.law.FirstDeliveries.{front_founded}
 use Rattle.world_law.proofs.Words.{◌++◌, ◌∷◌, ◌≡◌, Happening, IsDue, IsFounded, IsIn, List, Scenario, parted, place_of, subst}
 use Rattle.world_law.specs.world.World.{IsDueAs}
 

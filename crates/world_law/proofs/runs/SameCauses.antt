@@ -1,5 +1,6 @@
 -- What causes a record at a time causes it in each scenario that agrees up to then.
-use Rattle.{run_law.proofs.law.FirstPlaces.numbered_in, std.proofs.Common.arith}
+use Rattle.std.proofs.Common.{arith}
+use Rattle.run_law.proofs.law.FirstDeliveries.{numbered_in}
 use Rattle.run_law.specs.{control.Leaving.departure, scenario.Ways.{cut_set, delay_at, hold_at, hold_set, wire_of, wire_set}}
 use Rattle.{world_law.proofs.Words.{state_before, sym, time_of, timed, timed_arrival, way_from, ℕ}}
 use Rattle.world_law.proofs.Words.{◌∙◌, ◌≡◌, ◌≤◌, Agree, Arrival, Arrives, ArrivesAs, BecomesPermanent, ChangesState, Compressed, Departs, Departure}

@@ -4,7 +4,9 @@ use Rattle.{std.proofs.lemmas.List.Elements.Contains-append_cases, world_law.spe
 use Rattle.world_law.proofs.Words.{◌++◌, ◌+◌, ◌-◌, ◌<◌, ◌∷◌, ◌≡◌, ◌≤◌, ◌⊎◌, AllBefore, DeviceId, Event, Happening, IsBefore, IsCaused, IsDue, IsEventRecord}
 use Rattle.world_law.proofs.Words.{List, Network, Some, Units, What, [], amount, ap, arith, in_front, in_right, inl, inr, key, length}
 use Rattle.world_law.proofs.Words.{members_in, place_of, rank, refl, scenario, slice_get, subst, suc, sym, time_of, zero, ℕ}
-use Rattle.world_law.proofs.runs.{Applies.{agree_back, clock_cause, earlier_by_rank, event_cause, event_place, kinds, up_to_it}, SameCauses.caused_same}
+use Rattle.world_law.proofs.runs.{SameCauses.caused_same}
+use Rattle.world_law.proofs.runs.Worlds
+use Worlds.{agree_back, clock_cause, earlier_by_rank, event_cause, event_place, kinds, up_to_it}
 
 -- what stands in two lists behind each other stands in one of them
 get_parts : {X : Type 0} (xs ys : List X) (x : X) (i : ℕ) → slice_get (xs ++ ys) i ≡ Some x

@@ -17,7 +17,24 @@ pub use Rattle.net_plan.specs.declared.tables.{Link.Link, Way.{Way, TheVariants.
 pub use Rattle.pcf_codec.specs.Fields.{field}
 pub use Rattle.pcf_codec.specs.declared.refusal.PcfRefusal.{PcfRefusal}
 pub use Rattle.tte_units.specs.declared.frames.{channel.Channel.Channel, members.Members.Members, pcf.Pcf.Pcf}
-pub use Rattle.run_law.proofs.law.{FirstDeliveries.last_in, FirstPlaces.{by_number, founded_at, none_kept, numbered_front, numbered_in, numbered_within}}
+pub use Rattle.run_law.proofs.law.FirstDeliveries.{by_number, founded_at, last_in, none_kept, numbered_front}
+pub use Rattle.run_law.proofs.law.FirstDeliveries.{numbered_in, numbered_within}
+pub use Rattle.world_law.proofs.{rows.AtHand.{IsNoTaking, value_is}}
+pub use Rattle.world_law.proofs.acts.{Acting.{IsAlike, point_number, undone_alike, waiting_alike}}
+pub use Rattle.world_law.proofs.acts.{NoActs.{dispatch_late, points_same}}
+pub use Rattle.world_law.proofs.devices.{Borne.{by_last, moves_no_other}}
+pub use Rattle.world_law.proofs.devices.{Standing.{all_up_to, are_past, next_is_up_to, quiet_rest}}
+pub use Rattle.world_law.proofs.devices.{Unmoved.{change_still, keeps_adjustment, not_turned_on, same_before}}
+pub use Rattle.world_law.proofs.putting.{Near.{hears, held_aside, known_aside, turned_aside}}
+pub use Rattle.world_law.proofs.putting.{Putting.{IsOne, IsUnfollowed, is_last, last_unfollowed, one_by}}
+pub use Rattle.world_law.proofs.putting.Moving.{IsAllOfIt, IsMoving, StandsHere, acts_on, comes_first, device_still}
+pub use Rattle.world_law.proofs.putting.Moving.{devices_then, ports_move, ports_still, stands_on, turned_by}
+pub use Rattle.world_law.proofs.putting.Moving.{waiting_still, wires_move, wires_still}
+pub use Rattle.world_law.proofs.putting.Placing.{AsState, IsShownPut, due_of, one_shown, put_length, record_of}
+pub use Rattle.world_law.proofs.putting.Placing.{two_shown}
+pub use Rattle.world_law.proofs.runs.{Agreement.changed_before, Foremost.{StandsBehind, not_on_after}}
+pub use Rattle.world_law.proofs.runs.Worlds.{AreSettled, at_least, dispatches_same, earlier_still, length_is, no_higher}
+pub use Rattle.world_law.proofs.runs.Worlds.{numbered_parts, reaches_back, up_back}
 pub use Rattle.run_law.proofs.records.Order.{after_more, any_in, same_kept}
 pub use Rattle.run_law.proofs.runs.Places.{before_behind, chain, either_way, in_left, in_parts, in_right, never_self, parted}
 pub use Rattle.run_law.proofs.control.Points.{no_cluster}
@@ -53,26 +70,12 @@ pub use Rattle.drift_clock.specs.transparent.Points.{point_of}
 pub use Rattle.tte_units.proofs.general_lemmas.{Bools.or_none, Integers.{never_both, whole, whole as natural}, Lists.none_in}
 pub use Rattle.tte_units.specs.Amount.{amount, units_of}
 pub use Rattle.tte_units.specs.declared.units.Units.{Units}
-pub use Rattle.world_law.proofs.acts.{Acted.{IsAlike, undone_alike, waiting_alike}, Acting.point_number, NoActs.points_same}
-pub use Rattle.world_law.proofs.acts.Dispatched.{dispatch_late}
-pub use Rattle.world_law.proofs.devices.{Borne.{by_last, moves_no_other}, OwnRecords.{change_still, keeps_adjustment, same_before}, Passes.not_turned_on}
-pub use Rattle.world_law.proofs.devices.{Resting.are_past, TurnedOn.{all_up_to, next_is_up_to, quiet_rest}}
 pub use Rattle.world_law.proofs.giving.GivenParts.{no_later_breaks, some_same}
 pub use Rattle.world_law.proofs.lists.{Lists.{behind_no, behind_yes, filter_no, filter_yes}, Orders.cases_int}
-pub use Rattle.world_law.proofs.putting.Bearing.{held_aside, known_aside, turned_aside}
-pub use Rattle.world_law.proofs.putting.PutShown.{AsState}
 pub use Rattle.world_law.proofs.putting.Idle.{numbered_prefix}
-pub use Rattle.world_law.proofs.putting.{Moving.{IsAllOfIt, IsMoving, ports_move, turned_by, wires_move}, Near.hears}
 pub use Rattle.world_law.proofs.putting.PutIn.{own_time}
-pub use Rattle.world_law.proofs.putting.PutOne.{IsOne, IsUnfollowed, is_last, last_unfollowed, one_by}
-pub use Rattle.world_law.proofs.putting.PutShown.{IsShownPut, due_of, one_shown, put_length, record_of, two_shown}
-pub use Rattle.world_law.proofs.putting.StandsOn.{StandsHere, acts_on, comes_first, device_still, devices_then, ports_still, stands_on, waiting_still, wires_still}
-pub use Rattle.world_law.proofs.rows.AtHand.{IsNoTaking, value_is}
 pub use Rattle.world_law.proofs.rows.Dispatching.{IsLawful}
-pub use Rattle.world_law.proofs.runs.{Agreement.changed_before, Foremost.not_on_after}
-pub use Rattle.world_law.proofs.runs.Firsts.{at_least, dispatches_same, earlier_still, no_higher, numbered_parts, reaches_back, up_back}
 pub use Rattle.world_law.proofs.runs.TaskPlaces.{acts_before, acts_first, no_task_at, of_device, placed_so, row_order, second}
-pub use Rattle.world_law.proofs.runs.{Over.StandsBehind, Settled.AreSettled, Worlds.length_is}
 pub use Rattle.world_law.specs.device.{Deeds.{HadComeTo, HasDoneFrom, HasDoneTask, HasSentFrom, HasWorkedTo}, Left.{HasTaskBy, IsLeft, is_timed}, Own.{bears_on, moves}}
 pub use Rattle.world_law.specs.device.Ready.{IsReadyAt, IsSteady}
 pub use Rattle.world_law.specs.device.{Recorded.{HasCleared, dispatch_body}, Takings.{frames_taken, taken_in}}

@@ -1,5 +1,6 @@
 use Rattle.{audit_devices.specs.Keeping.records_before, sync_state.specs.membership.Summary.Summarizes}
-use Rattle.audit_sweep.proofs.{HeardPoints.{heard_before_corrections, unchanged_before}, Words.{◌∷◌, [], refl, scenario_under, subst}}
+use Rattle.audit_sweep.proofs.{Hearings.{heard_before_corrections, unchanged_before}}
+use Rattle.audit_sweep.proofs.{Words.{◌∷◌, [], refl, scenario_under, subst}}
 use Rattle.audit_sweep.proofs.clocks.heard.Goals as goal
 
 pub returns : goal.returns

@@ -1,4 +1,6 @@
-use Rattle.{audit_law.proofs.law_lemmas.Numbered.by_number, audit_sweep.specs.Judging.{Befalls, StandsBehind}, run_law.specs.runs.DueRecords.IsArrivedRecord}
+use Rattle.audit_law.proofs.law_lemmas.Founded.{by_number}
+use Rattle.audit_sweep.specs.Judging.{Befalls, StandsBehind}
+use Rattle.run_law.specs.runs.DueRecords.{IsArrivedRecord}
 use Rattle.{audit_law.specs.law.DueRecords.{ChangesState, IsCorrectedRecord}, audit_sweep.proofs.StandingBehind.{heard_behind, none_later_behind}}
 use Rattle.audit_sweep.proofs.Words.{ArrivesAs, BecomesPermanent, Happening, IsBodyOf, IsCaused, IsHeardBefore, IsIn, NoneLater, refl, scenario_under}
 use Rattle.{audit_sweep.proofs.Words.{subst, sym, true, ℕ}, run_law.specs.{control.{Emissions.Emits, Permanence.ripe_as}, timed.Dispatching.Sends}}

@@ -1,17 +1,33 @@
--- What a compression master owes is of a cluster that is kept.
-use Rattle.audit_devices.specs.{Keeping.time_at, stretches.{Keeping.{Keeps, StandsFor, Stretches, entry_before}, Points.{HasPoints, emissions_for}}}
-use Rattle.{audit_devices.specs.declared.stretches.kept.Entry.Entry, audit_law.specs.law.Emitted.{before_place, emission_place}, tte_units.specs.Amount.amount}
-use Rattle.{audit_law.proofs.collections_lemmas.Sending.in_map, run_law.specs.scenario.{Devices.{is_cm, plan_of}, Scenarios.{Scenario, is_broken}}}
-use Rattle.{audit_law.specs.collections.Kept.{History, as_emitted, clusters_in, emitted}, run_law.specs.device.States.{adjustment_at_hearing, state_at_hearing}}
-use Rattle.{audit_law.specs.declared.collections.emitted.Emitted.Emitted, run_law.specs.control.{Collections.{observation_window, points_of}, Hearing.heard_as}}
-use Rattle.{audit_law.specs.declared.collections.gathering.Gathering.Gathering, compression.proofs.Elements.{in_cases, in_head, in_none, in_tail}}
-use Rattle.{audit_sweep.specs.unpaid.emissions.Emissions.{Owes, OwesAt, OwesBehind, OwesWithin, sent_of}, std.proofs.Common.{subst, suc, sym, true, zero, ℕ}}
-use Rattle.{compression.{proofs.ClusterFacts.no_cluster, specs.Clusters.{AreClusters, Cluster, Point}}, run_law.specs.records.Order.{IsBefore, IsIn, is_before}}
-use Rattle.{compression.proofs.Standing.AreClusters-unique, net_plan.specs.declared.network.Network.Network, tte_units.proofs.general_lemmas.Lists.got_within}
-use Rattle.{compression.specs.declared.compressed.Compressed.Compressed, run_law.proofs.records.Order.{has_passed, index_of, is_there}}
-use Rattle.{drift_clock.specs.Reach.IsReach, run_law.specs.control.Emissions.Emits, std.specs.{List.last_or, Prelude.Contains}}
-use Rattle.{net_plan.specs.declared.ids.DeviceId.DeviceId, run_law.{proofs.law.FirstPlaces.in_filter, specs.records.Happenings.Happening}}
-use Rattle.std.proofs.Common.{◌∙◌, ◌∷◌, ◌≡◌, ◌≤◌, Bool, List, None, Option, Some, [], ap, arith, false, filter, inl, inr, length, map, pos, refl, slice_get}
+-- The clusters of which a compression master owes a frame, and the records that pay it.
+use Rattle.std.{specs.{List.last_or, Prelude.Contains}}
+use Rattle.std.proofs.Common
+use Common.{◌∙◌, ◌∷◌, ◌≡◌, ◌≤◌, Bool, List, None, Option, Some, [], ap, arith, false, filter, inl, inr, length, map}
+use Common.{pos, refl, slice_get, subst, suc, sym, true, unsigned_abs, zero, ℕ}
+use Rattle.audit_devices.specs.{Keeping.time_at, declared.stretches.kept.Entry.Entry}
+use Rattle.audit_devices.specs.stretches.{Keeping.{Keeps, StandsFor, Stretches, entry_before}}
+use Rattle.audit_devices.specs.stretches.{Points.{HasPoints, emissions_for}}
+use Rattle.audit_law.{proofs.{collections_lemmas.Clusters.in_map, law_lemmas.Sound.due_in}}
+use Rattle.audit_law.specs.{collections.Kept.{History, as_emitted, clusters_in, emitted}}
+use Rattle.audit_law.specs.{declared.collections.{emitted.Emitted.Emitted, gathering.Gathering.Gathering}}
+use Rattle.audit_law.specs.{law.{DueRecords.{IsCaused, IsDue}, Emitted.{TellsEmission, before_place, emission_place}}}
+use Rattle.audit_sweep.specs.{records.places.Placing.HasRecordAt}
+use Rattle.audit_sweep.specs.{unpaid.emissions.Emissions.{IsTold, Owes, OwesAt, OwesBehind, OwesWithin, sent_of}}
+use Rattle.compression.{specs.{Clusters.{AreClusters, Cluster, Point}, declared.compressed.Compressed.Compressed}}
+use Rattle.compression.proofs.{ClusterFacts.no_cluster, Collectors.AreClusters-unique}
+use Rattle.compression.proofs.{Growth.{in_cases, in_head, in_none, in_tail}}
+use Rattle.drift_clock.{proofs.Drifts.one_reach, specs.Reach.IsReach}
+use Rattle.net_plan.{proofs.SameIds.same_device, specs.declared.{ids.DeviceId.DeviceId, network.Network.Network}}
+use Rattle.run_law.proofs.{law.FirstDeliveries.in_filter, records.Order.{has_passed, index_of, is_there}}
+use Rattle.run_law.proofs.{runs.Determined.same_members}
+use Rattle.run_law.specs.{control.{Collections.{observation_window, points_of}, Emissions.Emits, Hearing.heard_as}}
+use Rattle.run_law.specs.{declared.note.NoteBody.NoteBody, device.States.{adjustment_at_hearing, state_at_hearing}}
+use Rattle.run_law.specs.{runs.Runs.IsFounded, scenario.{Devices.{is_cm, plan_of}, Scenarios.{Scenario, is_broken}}}
+use Rattle.run_law.specs.records.{Happenings.{Happening, time_of}, Order.{IsBefore, IsIn, is_before}}
+use Rattle.run_law.specs.records.{Ranks.{members_in, place_at, place_of, sign}}
+use Rattle.tte_units.{proofs.general_lemmas.Lists.got_within, specs.{Amount.amount, declared.units.Units.Units}}
+use Rattle.run_law.specs.declared.note.NoteBody.TheVariants as notes
+
+-- ---- what a compression master owes is of a cluster that is kept
 
 -- ---- lists
 
@@ -130,3 +146,42 @@ emits_by {s} {hs} {d} a {t} clusters are owes =
     let there = subst (λ (cs : List Cluster). Contains cs emits.cluster) one emits.there in
     let same : a ≡ emitted window calc emits.cluster = ap as_emitted emits.is in
     subst (Contains (emissions_for s.network clusters)) (sym same) (to_map (emitted window calc) clusters emits.cluster there)
+
+-- ---- the records that say that a compression master sent the frame of a cluster stand at one place
+
+-- ---- the record at the place
+
+same_units : (a b : Units) → amount a ≡ amount b → sign a.0 ≡ sign b.0 → a ≡ b
+same_units a b amounts signs = grind (arith, unsigned_abs)
+
+-- what stands at the place of an emission tells of it
+told_at : (u m t : ℕ) (d : DeviceId) (sent : Compressed) (body : NoteBody) → place_at u m body ≡ emission_place t d sent → TellsEmission d sent body
+told_at u m t d sent (notes.Event line what) e = absurd cc
+told_at u m t d sent (notes.Arrived device link cause clock) e = absurd cc
+told_at u m t d sent (notes.Permanent device link cause point verdict) e = absurd cc
+told_at u m t d sent (notes.Compressed other opened at cycle members verdict) e = grind (arith, same_device, same_units, same_members)
+told_at u m t d sent other e = absurd cc
+
+pub told_there : (s : Scenario) (hs : List Happening) (d : DeviceId) (t : ℕ) (sent : Compressed) → HasRecordAt hs (emission_place t d sent) → IsTold s hs d sent
+told_there s hs d t sent there = (there.0, there.1, told_at (time_of there.0) (members_in there.0) t d sent there.0.note.body there.2)
+
+-- ---- the place of the record
+
+-- a record that is due and tells of an emission
+record IsSaid (s : Scenario) (device : DeviceId) (sent : Compressed) (x : Happening) : Type 0 where
+  pub place : place_of x ≡ emission_place (time_of x) device sent
+  pub reached : IsReach (s.reading device) (pos 0) sent.at.0 (pos (time_of x))
+
+said : (s : Scenario) (before : List Happening) (device : DeviceId) (sent : Compressed) (x : Happening) (body : NoteBody)
+    → x.note.body ≡ body → IsCaused s before x.note.time body → TellsEmission device sent body → IsSaid s device sent x
+said s before device sent x (notes.Compressed other opened at cycle members verdict) is c e = grind arith
+said s before device sent x other is c e = absurd e
+
+pub there_told : (s : Scenario) (hs : List Happening) (d : DeviceId) (t : ℕ) (sent : Compressed) → IsFounded place_of (IsDue s) hs
+    → IsReach (s.reading d) (pos 0) sent.at.0 (pos t) → IsTold s hs d sent → HasRecordAt hs (emission_place t d sent)
+there_told s hs d t sent founded reach told =
+    let x = told.0 in
+    let due = due_in place_of (IsDue s) hs x founded told.1 in
+    let is = said s due.before d sent x x.note.body refl due.due.cause told.2 in
+    let times = one_reach (s.reading d) (pos 0) sent.at.0 (time_of x) t is.reached reach in
+    (x, told.1, is.place ∙ ap (λ u. emission_place u d sent) times)

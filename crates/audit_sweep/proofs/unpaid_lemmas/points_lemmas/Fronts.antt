@@ -1,12 +1,14 @@
 -- A correction point, judged by the records up to its time and by those of a lower rank than corrections.
 use Rattle.{audit_devices.specs.Keeping.records_before, run_law.specs.records.Order.{IsBefore, IsIn, is_before}, std.proofs.lemmas.List.Elements.filter-append}
 use Rattle.{audit_devices.specs.{Showing.IsAfter, clocks.Points.IsHeard}, run_law.{proofs.control.Joined.state_by, specs.records.Ranks.{key, rank}}}
-use Rattle.audit_law.proofs.law_lemmas.{Correcting.{comes_by, late_earlier, late_heard, late_part, time_before}, Determined.joins_looking, Numbered.founded_at}
+use Rattle.audit_law.proofs.law_lemmas.{Correcting.{comes_by, late_earlier, late_heard, late_part, time_before}}
+use Rattle.audit_law.proofs.law_lemmas.{Founded.{founded_at, joins_looking}}
+use Rattle.run_law.proofs.{law.FirstDeliveries.{IsSplit, none_kept, same_earlier}}
+use Rattle.run_law.proofs.{records.Order.{all_kept, before_is, is_there}, runs.Lacking.behind_first}
 use Rattle.{audit_law.specs.law.CorrectionNumbers.{ComesToPoint, heard_since_point, standing_at}, sync_state.specs.membership.Summary.{Summarizes, Summary}}
 use Rattle.audit_sweep.proofs.unpaid_lemmas.points_lemmas.Words.{◌+◌, ◌<◌, ◌∙◌, ◌∷◌, ◌≡◌, DeviceId, Happening, Integrating, IsDue, IsFounded, List, NoteBody}
 use Rattle.audit_sweep.proofs.unpaid_lemmas.points_lemmas.Words.{Scenario, Shown, Shows, Some, Verdict, [], ap, arith, earlier, false, inl, inr, members_in}
 use Rattle.{audit_sweep.proofs.unpaid_lemmas.points_lemmas.Words.{place_of, refl, subst, sym, time_of, true, up_to, ℕ}, sync_state.proofs.StateFacts.no_point}
-use Rattle.run_law.proofs.{law.FirstPlaces.{IsSplit, none_kept, same_earlier}, records.Order.{all_kept, before_is, is_there}, runs.Lacking.behind_first}
 use Rattle.run_law.{proofs.runs.Places.{chain, in_left, never_self}, specs.device.{LocalClocks.changes_adjustment, States.{is_joined_by, state_before}}}
 use Rattle.{std.{proofs.{Common.{◌++◌, Bool, filter}, lemmas.List.append-nil}, specs.Prelude.◌↔◌}, sync_state.specs.Standing.next_point}
 use Rattle.run_law.specs.declared.note.NoteBody.TheVariants as notes

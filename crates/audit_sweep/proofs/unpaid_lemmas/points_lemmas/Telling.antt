@@ -1,13 +1,40 @@
--- Which records tell of correction points.
-use Rattle.audit_law.{proofs.law_lemmas.Numbered.founded_at, specs.law.{CorrectionPoints.IsPointOf, DueRecords.{ChangesState, IsCaused}}}
-use Rattle.{audit_devices.specs.clocks.Points.ComesTo, sync_state.specs.declared.answers.Verdict.TheVariants.{AsyncClique, Cleared, Corrected, SyncClique}}
-use Rattle.{audit_devices.specs.declared.clocks.correcting.Point.Point, audit_sweep.proofs.unpaid_lemmas.points_lemmas.Words.{subst, sym, time_of, ℕ}}
-use Rattle.audit_sweep.proofs.unpaid_lemmas.points_lemmas.Words.{◌∙◌, ◌∷◌, ◌≡◌, DeviceId, Happening, HasRecordAt, IsDue, IsFounded, IsTold, List, NoteBody}
-use Rattle.audit_sweep.proofs.unpaid_lemmas.points_lemmas.Words.{Option, Scenario, Some, State, Units, Verdict, [], ap, inl, inr, members_in, place_of, refl}
-use Rattle.{device_rules.specs.Answers.verdict_as, run_law.specs.{declared.judgement.Why.Why, records.{Happenings.numbered, Ranks.place_at}}}
-use Rattle.{net_plan.proofs.SameIds.same_device, std.proofs.Common.{◌⊎◌, arith}}
+-- Which records say that a device sends, and which tell of its correction points.
+use Rattle.std.proofs.Common.{◌⊎◌, arith}
+use Rattle.audit_devices.specs.{clocks.Points.ComesTo, declared.clocks.correcting.Point.Point}
+use Rattle.audit_law.{proofs.law_lemmas.Founded.founded_at}
+use Rattle.audit_law.{specs.law.{CorrectionPoints.IsPointOf, DueRecords.{ChangesState, IsCaused}}}
+use Rattle.audit_sweep.proofs.unpaid_lemmas.points_lemmas.Words
+use Words.{◌∙◌, ◌∷◌, ◌≡◌, DeviceId, Happening, HasRecordAt, IsDue, IsFounded, IsSent, IsTold, List, NoteBody, Option}
+use Words.{Scenario, Some, State, Units, Verdict, [], ap, inl, inr, members_in, place_of, refl, subst, sym, time_of, ℕ}
+use Rattle.device_rules.specs.Answers.{verdict_as}
+use Rattle.net_plan.proofs.SameIds.{same_device}
+use Rattle.run_law.specs.{declared.judgement.Why.Why, records.{Happenings.numbered, Ranks.place_at}}
+use Rattle.sync_state.specs.declared.answers.Verdict.TheVariants.{AsyncClique, Cleared, Corrected, SyncClique}
 use Rattle.run_law.specs.declared.judgement.Why.TheVariants as whys
 use Rattle.run_law.specs.declared.note.NoteBody.TheVariants as notes
+
+-- ---- which records say that a device sends
+
+-- what stands at the place of a sending is it
+sent_at : (u m n t c : ℕ) (d : DeviceId) (body : NoteBody) → place_at u m body ≡ place_at t n (notes.Sent d c) → (u ≡ t) × (body ≡ notes.Sent d c)
+sent_at u m n t c d (notes.Event line what) e = absurd cc
+sent_at u m n t c d (notes.Arrived device link cause clock) e = absurd cc
+sent_at u m n t c d (notes.Permanent device link cause point verdict) e = absurd cc
+sent_at u m n t c d (notes.Compressed device opened at cycle of_masters verdict) e = absurd cc
+sent_at u m n t c d (notes.Sent other cycle) e = grind (arith, same_device)
+sent_at u m n t c d other e = absurd cc
+
+module _ (s : Scenario) (hs : List Happening) (d : DeviceId) (t c : ℕ) (place : List ℕ)
+    (is : place ≡ place_at t 0 (notes.Sent d c)) where
+  pub sent_there : HasRecordAt hs place → IsSent s hs d t c
+  sent_there there =
+      let both = sent_at (time_of there.0) (members_in there.0) 0 t c d there.0.note.body (there.2 ∙ is) in
+      (there.0, there.1, record { at = both.0; says = both.1 })
+
+  pub there_sent : IsSent s hs d t c → HasRecordAt hs place
+  there_sent sent = grind (arith, members_in)
+
+-- ---- which records tell of correction points
 
 -- a change of state without a cause is by a clique
 without_cause : (s : Scenario) (ps : List Happening) (device : DeviceId) (t cause : ℕ) (state : State) (why : Why) → cause ≡ 0

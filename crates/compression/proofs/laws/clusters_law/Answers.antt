@@ -1,4 +1,4 @@
-use Rattle.compression.proofs.{Rooms.room_for_each_master, Times.{one_list_of_clusters, one_time_law}}
+use Rattle.compression.proofs.{Growth.room_for_each_master, Times.{one_list_of_clusters, one_time_law}}
 use Rattle.compression.proofs.laws.clusters_law.Goals as goal
 
 pub returns-clause-clusters : goal.returns-clause-clusters

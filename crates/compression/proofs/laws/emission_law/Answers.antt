@@ -1,4 +1,4 @@
-use Rattle.compression.proofs.Emitting.{emitted_in_order}
+use Rattle.compression.proofs.Collectors.{emitted_in_order}
 use Rattle.compression.proofs.laws.emission_law.Goals as goal
 
 pub returns : goal.returns

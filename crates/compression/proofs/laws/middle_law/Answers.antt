@@ -1,4 +1,4 @@
-use Rattle.compression.proofs.MiddleLaws.{middle_among_others, middle_from_first_to_last}
+use Rattle.compression.proofs.Middles.{middle_among_others, middle_from_first_to_last}
 use Rattle.compression.proofs.laws.middle_law.Goals as goal
 
 pub returns-clause-among : goal.returns-clause-among

@@ -1,4 +1,5 @@
-use Rattle.{compression.proofs.Middles.{length-some, middle_of-ends, middle_of-inner}, std.proofs.Common.{◌+◌, ◌-◌, ◌≡◌, length}}
+use Rattle.std.proofs.Common.{◌+◌, ◌-◌, ◌≡◌, length}
+use Rattle.compression.proofs.Middles.{length-some, middle_of-ends, middle_of-inner}
 use Rattle.compression.proofs.middling.middle.Goals as goal
 
 pub returns-then-last-lt2 : goal.returns-then-last-lt2

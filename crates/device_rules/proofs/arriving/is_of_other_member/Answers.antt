@@ -1,4 +1,4 @@
-use Rattle.device_rules.proofs.Places.{no_link, none_below, other_below, read_at}
+use Rattle.device_rules.proofs.Takings.{no_link, none_below, other_below, read_at}
 use Rattle.device_rules.proofs.arriving.is_of_other_member.Goals as goal
 
 pub returns-then-found-device : goal.returns-then-found-device

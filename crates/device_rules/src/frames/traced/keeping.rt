@@ -202,7 +202,7 @@ fn kept_event(pool: &mut Vec<u8>, what: &What) -> Result<KeptFrame, OutOfMemory>
 }
 
 /// What is kept of a further record with this body.
-#[tactic(auto, using(crate::proofs::frames_lemmas::traced_lemmas::Growing::grows_same))]
+#[tactic(auto, using(crate::proofs::frames_lemmas::traced_lemmas::Keeping::grows_same))]
 pub(crate) fn kept_of(
     network: &Network,
     pool: &mut Vec<u8>,

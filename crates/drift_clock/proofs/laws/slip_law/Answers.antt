@@ -1,4 +1,4 @@
-use Rattle.drift_clock.proofs.SlipLaw.{slips_little}
+use Rattle.drift_clock.proofs.Drifts.{slips_little}
 use Rattle.drift_clock.proofs.laws.slip_law.Goals as goal
 
 pub returns : goal.returns

@@ -1,4 +1,5 @@
-use Rattle.end_system.proofs.{Values.{next_correction, passed_correction}, Words.{◌-ℤ◌, ◌∙◌, ◌≡◌, Units, arith, ints, pos, subst, sym}}
+use Rattle.end_system.proofs.{Ripe.{next_correction, passed_correction}}
+use Rattle.end_system.proofs.{Words.{◌-ℤ◌, ◌∙◌, ◌≡◌, Units, arith, ints, pos, subst, sym}}
 use Rattle.end_system.proofs.agenda.correction_behind.Goals as goal
 
 pub returns-then-local-value : goal.returns-then-local-value

@@ -1,4 +1,4 @@
-use Rattle.end_system.proofs.{Values.in_sync, Words.{◌∙◌, ap, sym}}
+use Rattle.end_system.proofs.{Ripe.in_sync, Words.{◌∙◌, ap, sym}}
 use Rattle.run_law.specs.device.States.{is_synchronised}
 use Rattle.end_system.proofs.agenda.dispatch_from.Goals as goal
 

@@ -1,4 +1,5 @@
-use Rattle.{fault_hypothesis.proofs.Standing.link_in_range, std.proofs.Common.sym}
+use Rattle.std.proofs.Common.{sym}
+use Rattle.fault_hypothesis.proofs.Keeping.{link_in_range}
 use Rattle.fault_hypothesis.proofs.conditions.sets_other_wire.Goals as goal
 
 pub is_other_wire-requires : goal.is_other_wire-requires

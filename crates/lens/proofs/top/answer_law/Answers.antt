@@ -1,4 +1,4 @@
-use Rattle.lens.proofs.TopAnswers.{one_answer}
+use Rattle.lens.proofs.FormLemmas.{one_answer}
 use Rattle.lens.proofs.top.answer_law.Goals as goal
 
 pub returns : goal.returns

@@ -1,7 +1,9 @@
-use Rattle.{lens.proofs.TopAnswers.{no_usage_for, words_as}, tte_forms.{proofs.Facts.no_usage, specs.Putting.shown_by}}
+use Rattle.lens.{proofs.{FormLemmas.{no_usage_for, words_as}, draw_lemmas.Naming.{named_completed, named_safely}}}
+use Rattle.lens.specs.{Top.{AnswersReports, AnswersSafely, FailsToRead, TakesFirst, TakesSecond}}
+use Rattle.lens.specs.{declared.forms.Form.Form, draw.Naming.IsNamedStatus}
+use Rattle.tte_forms.{proofs.Facts.no_usage, specs.Putting.shown_by}
 use Rattle.lens.specs.{Forms.form_of, Questions.EndsFor, declared.forms.Form.TheVariants.{DrawNamed, Events, Latency, Least, Plan, Report, Schedule, Sheet, Slack, SlackOf}}
 use Rattle.lens_plan.specs.Answer.{IsPlanStatus}
-use Rattle.lens.{proofs.draw_lemmas.Naming.{named_completed, named_safely}, specs.{Top.{AnswersReports, AnswersSafely, FailsToRead, TakesFirst, TakesSecond}, declared.forms.Form.Form, draw.Naming.IsNamedStatus}}
 use Rattle.{std.specs.Prelude.Option, tte_forms.specs.{Faults.HasCause, declared.status.Status.Status}}
 use Rattle.{std.proofs.Common.{◌≡◌, ◌⊎◌, List, None, Some, inl, inr, rules, subst, ℕ}, tte_forms.specs.networks.Checking.IsCheckStatus}
 use Rattle.lens.proofs.top.lens.Goals as goal

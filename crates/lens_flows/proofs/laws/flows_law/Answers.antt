@@ -1,4 +1,4 @@
-use Rattle.lens_flows.proofs.{Certain.{certain_are_due, certain_are_owed}, Missing.none_is_missing}
+use Rattle.lens_flows.proofs.AllTold.{certain_are_due, certain_are_owed, none_is_missing}
 use Rattle.lens_flows.proofs.laws.flows_law.Goals as goal
 
 pub returns : goal.returns

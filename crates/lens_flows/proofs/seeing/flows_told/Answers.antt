@@ -1,5 +1,7 @@
-use Rattle.{lens_flows.proofs.AllTold.{all_told, flows_each}, run_law.specs.records.Happenings.happenings, tte_reports.proofs.Times.{end_same, end_soon}}
-use Rattle.lens_flows.proofs.{Reading.deliveries_soon, counts_lemmas.KeptDeliveries.deliveries_kept}
+use Rattle.lens_flows.proofs.{AllTold.{all_told, deliveries_soon, flows_each}}
+use Rattle.lens_flows.proofs.{counts_lemmas.KeptDeliveries.deliveries_kept}
+use Rattle.run_law.specs.records.Happenings.{happenings}
+use Rattle.tte_reports.proofs.Reports.{end_same, end_soon}
 use Rattle.{lens_flows.specs.counts.FlowLists.AreFlows, std.specs.Prelude.{All, unsigned_abs}, tte_units.specs.Amount.amount}
 use Rattle.{lens_flows.specs.declared.counts.deliveries.Delivery.Delivery, std.proofs.Common.{◌^◌, ◌∙◌, ◌≤◌, List, ap, arith, rules, subst, sym, ℤ}}
 use Rattle.{std.{proofs.lemmas.Int.to_z-of_z, specs.Int.w64}, tte_audit.specs.Report.events_of}

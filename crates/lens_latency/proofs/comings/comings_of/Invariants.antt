@@ -1,4 +1,5 @@
-use Rattle.{lens_latency.{proofs.Parts.ArePushed, specs.Comings.IsPartOf}, std.specs.Prelude.[]}
+use Rattle.std.specs.Prelude.{[]}
+use Rattle.lens_latency.{proofs.Comings.ArePushed, specs.Comings.IsPartOf}
 use Rattle.lens_latency.proofs.comings.comings_of.Given as goal
 
 abbrev pub invariant-vls : goal.invariant-vls

@@ -1,4 +1,5 @@
-use Rattle.{lens_latency.proofs.Followings.followed_none, std.proofs.Common.[]}
+use Rattle.std.proofs.Common.{[]}
+use Rattle.lens_latency.proofs.Departures.{followed_none}
 use Rattle.lens_latency.proofs.seeing.arrivals_in.Goals as goal
 
 pub take_records-requires-clause-none : goal.take_records-requires-clause-none

@@ -1,4 +1,5 @@
-use Rattle.{lens_overview.proofs.Drawing.picture_same, std.proofs.Common.◌∙◌}
+use Rattle.std.proofs.Common.{◌∙◌}
+use Rattle.lens_overview.proofs.LawAnswers.{picture_same}
 use Rattle.lens_overview.specs.Telling.{news_by}
 use Rattle.lens_overview.proofs.answering.drawn.Goals as goal
 

@@ -1,4 +1,4 @@
-use Rattle.lens_overview.{proofs.Filling.fill_step, specs.declared.shade.Shade.{Shade, TheVariants.Blank}}
+use Rattle.lens_overview.{proofs.LawStrokes.fill_step, specs.declared.shade.Shade.{Shade, TheVariants.Blank}}
 use Rattle.std.proofs.Common.{◌+◌, ◌++◌, ◌-◌, ◌∙◌, ◌≡◌, List, ap, arith, drop, replicate, set, take, ℕ}
 use Rattle.lens_overview.proofs.cells.fill_from.Goals as goal
 

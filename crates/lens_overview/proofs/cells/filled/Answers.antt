@@ -1,4 +1,5 @@
-use Rattle.{lens_overview.{proofs.Skipping.filled_by, specs.Cells.taken}, std.proofs.Common.{◌+◌, arith, replicate}}
+use Rattle.std.proofs.Common.{◌+◌, arith, replicate}
+use Rattle.lens_overview.{proofs.LawCells.filled_by, specs.Cells.taken}
 use Rattle.lens_overview.proofs.cells.filled.Goals as goal
 
 pub returns : goal.returns

@@ -1,4 +1,5 @@
-use Rattle.{lens_overview.proofs.Filling.alike_differ, std.proofs.Common.sym}
+use Rattle.std.proofs.Common.{sym}
+use Rattle.lens_overview.proofs.LawStrokes.{alike_differ}
 use Rattle.lens_overview.proofs.cells.is_alike.Goals as goal
 
 pub returns-then-cells-others : goal.returns-then-cells-others

@@ -1,4 +1,4 @@
-use Rattle.lens_overview.proofs.Skipping.{counts_skip, flow_skips, lane_skips, passage_skips}
+use Rattle.lens_overview.proofs.LawCells.{counts_skip, flow_skips, lane_skips, passage_skips}
 use Rattle.lens_overview.specs.{Cells.taken, declared.{label.Label.Label, news.News.News}}
 use Rattle.{std.proofs.Common.{◌∙◌, ◌≡◌, List, ap, subst, sym}, std.specs.Prelude.fold}
 use Rattle.lens_overview.specs.declared.label.Label.TheVariants as labels

@@ -1,4 +1,4 @@
-use Rattle.lens_overview.{proofs.Skipping.calm_skips, specs.Rows.calm_below}
+use Rattle.lens_overview.{proofs.LawCells.calm_skips, specs.Rows.calm_below}
 use Rattle.std.proofs.Common.{◌∙◌, ap, length}
 use Rattle.lens_overview.proofs.rows.calm_in.Goals as goal
 

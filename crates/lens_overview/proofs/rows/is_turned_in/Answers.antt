@@ -1,4 +1,4 @@
-use Rattle.lens_overview.{proofs.Skipping.turned_skips, specs.Rows.is_turned}
+use Rattle.lens_overview.{proofs.LawCells.turned_skips, specs.Rows.is_turned}
 use Rattle.std.proofs.Common.{◌∙◌, ap}
 use Rattle.lens_overview.proofs.rows.is_turned_in.Goals as goal
 

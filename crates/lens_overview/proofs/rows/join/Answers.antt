@@ -1,4 +1,4 @@
-use Rattle.lens_overview.{proofs.Laying.joins_at, specs.Rows.{Row, is_like, raised}}
+use Rattle.lens_overview.{proofs.LawLines.joins_at, specs.Rows.{Row, is_like, raised}}
 use Rattle.lens_overview.specs.declared.{label.Group.TheVariants.{States}, label.Label.TheVariants.{Title}}
 use Rattle.std.proofs.{Common.{◌<◌, ◌∙◌, ◌≡◌, List, [], ap, get_or, length, rules, set, subst, sym, true}, lemmas.List.get_or_read}
 use Rattle.lens_overview.proofs.rows.join.Goals as goal

@@ -1,4 +1,5 @@
-use Rattle.{lens_overview.{proofs.Laying.flows_more, specs.Rows.told_by}, std.proofs.Common.[]}
+use Rattle.std.proofs.Common.{[]}
+use Rattle.lens_overview.{proofs.LawLines.flows_more, specs.Rows.told_by}
 use Rattle.lens_overview.proofs.rows.push_flows.Goals as goal
 
 pub flows-preserved : goal.flows-preserved

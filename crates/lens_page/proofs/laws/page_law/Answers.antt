@@ -1,4 +1,4 @@
-use Rattle.lens_page.{proofs.ReadBack.same_pages, specs.{Closing.page_closing, Opening.page_opening}}
+use Rattle.lens_page.{proofs.Told.same_pages, specs.{Closing.page_closing, Opening.page_opening}}
 use Rattle.{report_text.specs.NoteLine.report_of, std.specs.List.concat, tte_forms.specs.Answering.Answer}
 use Rattle.std.proofs.{Common.{◌∙◌, ap, sym}, lemmas.List.append-nil}
 use Rattle.lens_page.proofs.laws.page_law.Goals as goal

@@ -1,4 +1,5 @@
-use Rattle.lens_plan.proofs.{GoodPlans.done_is_planned, Impossible.{excess_is_true, impossible_is_true}, InTime.served_come_in_time, Sound.plan_is_accepted}
+use Rattle.lens_plan.proofs.{GoodPlans.done_is_planned, InTime.served_come_in_time}
+use Rattle.lens_plan.proofs.{Plans.{excess_is_true, impossible_is_true}, Sound.plan_is_accepted}
 use Rattle.lens_plan.proofs.laws.plan_law.Goals as goal
 
 pub returns-clause-planned : goal.returns-clause-planned

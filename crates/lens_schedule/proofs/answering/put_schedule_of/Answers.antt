@@ -1,4 +1,5 @@
-use Rattle.lens_schedule.{proofs.Limits.{all_in_range, most_links, most_rows}, specs.{Answer.{IsScheduleOf, picture_answer}, Picture.IsPicture}}
+use Rattle.lens_schedule.{proofs.LawProofs.{all_in_range, most_links, most_rows}}
+use Rattle.lens_schedule.{specs.{Answer.{IsScheduleOf, picture_answer}, Picture.IsPicture}}
 use Rattle.net_plan.specs.{Ranges.IsInRange}
 use Rattle.schedule_tables.specs.{Entries.IsEntryInRange, Rules.KeepsRules, declared.entry.Entry.Entry}
 use Rattle.{lens_svg.specs.Titles.title_of, std.{proofs.Common.{◌≤◌, inl, length, refl, subst, sym}, specs.List.All}}

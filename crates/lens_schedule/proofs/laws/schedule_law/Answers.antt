@@ -1,4 +1,4 @@
-use Rattle.lens_schedule.proofs.{LawProofs.{boxes_apart, places_grow, windows_those}, Shown.rows_shown}
+use Rattle.lens_schedule.proofs.LawProofs.{boxes_apart, places_grow, rows_shown, windows_those}
 use Rattle.lens_schedule.proofs.laws.schedule_law.Goals as goal
 
 pub returns-clause-rows : goal.returns-clause-rows

@@ -1,4 +1,4 @@
-use Rattle.lens_schedule.proofs.PathLinks.{few_links}
+use Rattle.lens_schedule.proofs.LawProofs.{few_links}
 use Rattle.std.{proofs.{Common.{◌<◌, sym, subst}, lemmas.List.Elements.All-tail}, specs.List.All}
 use Rattle.net_plan.specs.declared.ids.LinkId.{LinkId}
 use Rattle.lens_schedule.proofs.tree.twig_of.Goals as goal

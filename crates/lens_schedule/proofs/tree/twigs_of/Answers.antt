@@ -1,4 +1,4 @@
-use Rattle.lens_schedule.proofs.TwigLists.{few_twigs}
+use Rattle.lens_schedule.proofs.LawProofs.{few_twigs}
 use Rattle.std.proofs.Common.{ap, arith, length}
 use Rattle.lens_schedule.proofs.tree.twigs_of.Goals as goal
 

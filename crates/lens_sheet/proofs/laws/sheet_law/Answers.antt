@@ -1,4 +1,4 @@
-use Rattle.lens_sheet.proofs.{Rounding.nearest, Weighing.{beta_told, room_left}}
+use Rattle.lens_sheet.proofs.{Rounding.nearest, Sheets.{beta_told, room_left}}
 use Rattle.lens_sheet.proofs.laws.sheet_law.Goals as goal
 
 pub returns-clause-nearest : goal.returns-clause-nearest

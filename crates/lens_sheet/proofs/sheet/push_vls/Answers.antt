@@ -1,4 +1,5 @@
-use Rattle.{lens_latency.proofs.Parts.{pushed_first, pushed_next}, lens_sheet.specs.Sheet.AreLinesOf}
+use Rattle.lens_latency.proofs.Comings.{pushed_first, pushed_next}
+use Rattle.lens_sheet.specs.Sheet.{AreLinesOf}
 use Rattle.lens_sheet.proofs.sheet.push_vls.Goals as goal
 
 pub vls-init : goal.vls-init

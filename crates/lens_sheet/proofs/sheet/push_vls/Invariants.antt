@@ -1,4 +1,5 @@
-use Rattle.{lens_latency.proofs.Parts.ArePushed, lens_sheet.specs.Sheet.AreLinesOf}
+use Rattle.lens_latency.proofs.Comings.{ArePushed}
+use Rattle.lens_sheet.specs.Sheet.{AreLinesOf}
 use Rattle.lens_sheet.proofs.sheet.push_vls.Given as goal
 
 abbrev pub invariant-vls : goal.invariant-vls

@@ -1,4 +1,4 @@
-use Rattle.lens_sheet.{proofs.Told.sheet_names, specs.{Lines.numbers, Sheet.IsWritable}}
+use Rattle.lens_sheet.{proofs.Sheets.sheet_names, specs.{Lines.numbers, Sheet.IsWritable}}
 use Rattle.lens_sheet.specs.declared.{loads.Load.Load, sheet.{Number.Number, SheetLine.SheetLine}}
 use Rattle.lens_sheet.specs.declared.sheet.SheetLine.TheVariants as lines
 use Rattle.std.proofs.Common.{◌++◌, ◌∙◌, All, List, ap, append_assoc, map, subst, sym}

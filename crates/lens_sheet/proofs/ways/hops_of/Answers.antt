@@ -1,4 +1,5 @@
-use Rattle.{lens_sheet.proofs.Going.{ComesBelow, hops_all, hops_more, hops_none}, net_plan.specs.Bounds.IsGreatest}
+use Rattle.lens_sheet.proofs.Loaded.{ComesBelow, hops_all, hops_more, hops_none}
+use Rattle.net_plan.specs.Bounds.{IsGreatest}
 use Rattle.std.proofs.Common.{◌+◌, ap, arith, length, subst, sym}
 use Rattle.lens_sheet.proofs.ways.hops_of.Goals as goal
 

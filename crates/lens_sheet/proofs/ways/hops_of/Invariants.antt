@@ -1,4 +1,5 @@
-use Rattle.{lens_sheet.proofs.Going.ComesBelow, net_plan.specs.Bounds.IsGreatest}
+use Rattle.lens_sheet.proofs.Loaded.{ComesBelow}
+use Rattle.net_plan.specs.Bounds.{IsGreatest}
 use Rattle.lens_sheet.proofs.ways.hops_of.Given as goal
 
 abbrev pub invariant-rows : goal.invariant-rows

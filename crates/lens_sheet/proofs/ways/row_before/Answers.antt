@@ -1,4 +1,4 @@
-use Rattle.lens_sheet.{proofs.Going.{before_of, none_before}, specs.Going.Enters}
+use Rattle.lens_sheet.{proofs.Loaded.{before_of, none_before}, specs.Going.Enters}
 use Rattle.lens_latency.specs.Trips.{IsFirstOf}
 use Rattle.std.proofs.{Common.subst, lemmas.Bool.false≢true}
 use Rattle.lens_sheet.proofs.ways.row_before.Goals as goal

@@ -1,4 +1,5 @@
-use Rattle.{lens_sheet.proofs.Going.{comes_by, comes_not}, std.proofs.{Common.refl, lemmas.Bool.false≢true}}
+use Rattle.std.proofs.{Common.refl, lemmas.Bool.false≢true}
+use Rattle.lens_sheet.proofs.Loaded.{comes_by, comes_not}
 use Rattle.lens_sheet.proofs.ways.rows_by.Goals as goal
 
 pub returns-then-is_last : goal.returns-then-is_last

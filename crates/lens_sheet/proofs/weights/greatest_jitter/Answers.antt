@@ -1,4 +1,6 @@
-use Rattle.{lens_sheet.proofs.Weighing.{jitter_left, rest_most}, lens_slack.proofs.SmallBeta.beta_small, net_plan.specs.Bounds.IsBeta}
+use Rattle.lens_sheet.proofs.Sheets.{jitter_left, rest_most}
+use Rattle.lens_slack.proofs.Spots.{beta_small}
+use Rattle.net_plan.specs.Bounds.{IsBeta}
 use Rattle.std.proofs.Common.{◌+◌, arith, refl, subst}
 use Rattle.lens_sheet.proofs.weights.greatest_jitter.Goals as goal
 

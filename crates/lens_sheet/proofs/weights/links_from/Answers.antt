@@ -1,4 +1,5 @@
-use Rattle.{net_plan.{proofs.Greatest.greatest_from_path, specs.declared.ids.LinkId.LinkId}, std.proofs.Common.{ap, length, rules}}
+use Rattle.std.proofs.Common.{ap, length, rules}
+use Rattle.net_plan.{proofs.Trees.greatest_from_path, specs.declared.ids.LinkId.LinkId}
 use Rattle.lens_sheet.proofs.weights.links_from.Goals as goal
 
 pub returns-then-is_device_of-clause-greatest : goal.returns-then-is_device_of-clause-greatest

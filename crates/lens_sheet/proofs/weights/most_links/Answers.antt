@@ -1,4 +1,5 @@
-use Rattle.net_plan.{proofs.Greatest.greatest_of_channels, specs.{Bounds.{IsGreatest, IsOfPath}, declared.ids.LinkId.LinkId}}
+use Rattle.net_plan.{proofs.Trees.greatest_of_channels}
+use Rattle.net_plan.{specs.{Bounds.{IsGreatest, IsOfPath}, declared.ids.LinkId.LinkId}}
 use Rattle.std.proofs.Common.{length, subst, sym}
 use Rattle.lens_sheet.proofs.weights.most_links.Goals as goal
 

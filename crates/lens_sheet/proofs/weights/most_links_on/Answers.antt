@@ -1,4 +1,5 @@
-use Rattle.{net_plan.proofs.Greatest.{IsOfPathBelow, greatest_below_all, greatest_below_more}, std.proofs.Common.{◌+◌, ◌≡◌, ap, arith, length, subst, sym}}
+use Rattle.std.proofs.Common.{◌+◌, ◌≡◌, ap, arith, length, subst, sym}
+use Rattle.net_plan.proofs.Trees.{IsOfPathBelow, greatest_below_all, greatest_below_more}
 use Rattle.net_plan.specs.{Bounds.IsGreatest, declared.{ids.LinkId.LinkId, tables.Device.Device}}
 use Rattle.lens_sheet.proofs.weights.most_links_on.Goals as goal
 

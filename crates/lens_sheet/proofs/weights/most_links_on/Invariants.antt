@@ -1,4 +1,4 @@
-use Rattle.net_plan.{proofs.Greatest.IsOfPathBelow, specs.{Bounds.IsGreatest, declared.ids.LinkId.LinkId}}
+use Rattle.net_plan.{proofs.Trees.IsOfPathBelow, specs.{Bounds.IsGreatest, declared.ids.LinkId.LinkId}}
 use Rattle.std.proofs.Common.{◌≤◌, length}
 use Rattle.lens_sheet.proofs.weights.most_links_on.Given as goal
 

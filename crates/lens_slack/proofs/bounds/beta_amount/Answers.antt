@@ -1,4 +1,6 @@
-use Rattle.{lens_slack.proofs.SmallBeta.beta_small, net_plan.specs.Bounds.IsBeta, std.proofs.Common.{subst, sym}}
+use Rattle.std.proofs.Common.{subst, sym}
+use Rattle.lens_slack.proofs.Spots.{beta_small}
+use Rattle.net_plan.specs.Bounds.{IsBeta}
 use Rattle.lens_slack.proofs.bounds.beta_amount.Goals as goal
 
 pub returns-clause-value : goal.returns-clause-value

@@ -1,4 +1,5 @@
-use Rattle.{lens_slack.proofs.Singles.sender_first, std.proofs.Common.rules}
+use Rattle.std.proofs.Common.{rules}
+use Rattle.lens_slack.proofs.Spots.{sender_first}
 use Rattle.lens_slack.proofs.bounds.coming_bound.Goals as goal
 
 pub returns-then-eq-clause-tightest : goal.returns-then-eq-clause-tightest

@@ -1,4 +1,5 @@
-use Rattle.{lens_slack.{proofs.SmallBeta.window_small, specs.declared.spot.Finding.Finding}, std.specs.Prelude.unsigned_abs}
+use Rattle.std.specs.Prelude.{unsigned_abs}
+use Rattle.lens_slack.{proofs.Spots.window_small, specs.declared.spot.Finding.Finding}
 use Rattle.{schedule_tables.specs.{Windows.window_end, declared.window.Window.Window}, std.proofs.{Common.{◌^◌, ◌∙◌, ◌≡◌, ◌≤◌, ap, arith}, lemmas.Int.ints}}
 use Rattle.lens_slack.proofs.bounds.entering_with.Goals as goal
 

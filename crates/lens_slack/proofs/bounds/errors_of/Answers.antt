@@ -1,4 +1,6 @@
-use Rattle.{lens_slack.proofs.Ones.beta_same, net_plan.specs.Bounds.IsBeta, std.proofs.{Common.{◌≡◌, arith, subst, sym}, lemmas.Int.ints}}
+use Rattle.std.proofs.{Common.{◌≡◌, arith, subst, sym}, lemmas.Int.ints}
+use Rattle.lens_slack.proofs.Spots.{beta_same}
+use Rattle.net_plan.specs.Bounds.{IsBeta}
 use Rattle.lens_slack.proofs.bounds.errors_of.Goals as goal
 
 pub returns-clause-value : goal.returns-clause-value

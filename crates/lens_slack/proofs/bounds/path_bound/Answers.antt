@@ -1,4 +1,6 @@
-use Rattle.{lens_slack.proofs.Singles.{no_path, path_first}, net_plan.specs.Bounds.IsBeta, std.proofs.Common.{rules, subst, sym}}
+use Rattle.std.proofs.Common.{rules, subst, sym}
+use Rattle.lens_slack.proofs.Spots.{no_path, path_first}
+use Rattle.net_plan.specs.Bounds.{IsBeta}
 use Rattle.lens_slack.proofs.bounds.path_bound.Goals as goal
 
 pub returns-then-not-is_device_of-clause-tightest : goal.returns-then-not-is_device_of-clause-tightest

@@ -1,4 +1,6 @@
-use Rattle.{lens_slack.proofs.Singles.settled_first, schedule_checker.proofs.BetaLemmas.beta_is_whole, std.proofs.Common.{rules, subst}}
+use Rattle.std.proofs.Common.{rules, subst}
+use Rattle.lens_slack.proofs.Spots.{settled_first}
+use Rattle.schedule_checker.proofs.BetaLemmas.{beta_is_whole}
 use Rattle.{net_plan.specs.Bounds.IsBeta, tte_units.specs.Amount.amount}
 use Rattle.lens_slack.proofs.bounds.settled_bound.Goals as goal
 

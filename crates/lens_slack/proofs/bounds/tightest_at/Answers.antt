@@ -1,4 +1,5 @@
-use Rattle.{lens_slack.proofs.Singles.{correction_first, end_first, precision_first}, net_plan.specs.declared.network.Network.Network}
+use Rattle.lens_slack.proofs.Spots.{correction_first, end_first, precision_first}
+use Rattle.net_plan.specs.declared.network.Network.{Network}
 use Rattle.{lens_slack.specs.{Tightest.IsTightestAt, declared.spot.{Finding.Finding, BoundedNumber.BoundedNumber}}, std.proofs.Common.{◌≡◌, subst, sym}}
 use Rattle.std.specs.Prelude.{Option, Some}
 use Rattle.lens_slack.specs.declared.spot.BoundedNumber.TheVariants as spots

@@ -1,6 +1,6 @@
 use Rattle.std.{proofs.{Common.{◌^◌, ◌∙◌, ◌≡◌, ◌≤◌, ap, arith, rules}, lemmas.Int.ints}, specs.Prelude.unsigned_abs}
 use Rattle.schedule_tables.specs.{Windows.window_end, declared.window.Window.Window}
-use Rattle.lens_slack.{proofs.{Singles.window_first, SmallBeta.window_small}, specs.declared.spot.Finding.Finding}
+use Rattle.lens_slack.{proofs.Spots.{window_first, window_small}, specs.declared.spot.Finding.Finding}
 use Rattle.lens_slack.proofs.bounds.window_bound.Goals as goal
 
 pub returns-clause-tightest : goal.returns-clause-tightest

@@ -1,7 +1,8 @@
 use Rattle.{lens_slack.specs.Answer.told_of, std.specs.Io.KnownBytes.Appends, tte_io.specs.Told.AppendsFront}
 use Rattle.{lens_slack.specs.Lines.place_line, tte_forms.{proofs.frames.Frames.Gives-behind, specs.{Answering.{Gives, line_answer}, Putting.shown_by}}}
 use Rattle.{std.proofs.Common.{◌∙◌, ◌∷◌, ◌≡◌, List, [], inl, inr, refl, subst, ℕ}, tte_forms.specs.declared.status.Status.TheVariants.NetworkRefused}
-use Rattle.tte_forms.{proofs.Puts.{PutsLines-fails, PutsLines-more, PutsLines-none}, specs.networks.NetworkLine.{network_refusal_line, rule_reason}}
+use Rattle.tte_forms.{proofs.Puts.{PutsLines-fails, PutsLines-more, PutsLines-none}}
+use Rattle.tte_forms.{specs.networks.NetworkLine.{network_refusal_line, rule_reason}}
 use Rattle.lens_slack.proofs.slacking.put_broken.Goals as goal
 
 pub returns-clause-gives : goal.returns-clause-gives

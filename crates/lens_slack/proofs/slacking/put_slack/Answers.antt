@@ -1,7 +1,8 @@
 use Rattle.lens_slack.specs.{Answer.{ending_answer, ending_lines}, Finds.shorts_of, Lines.finding_line, Writing.IsWritable}
 use Rattle.{lens_slack.specs.declared.spot.Finding.Finding, std.specs.Prelude.All}
 use Rattle.std.proofs.Common.{◌∙◌, List, ap, inl, inr, map, refl, subst, sym}
-use Rattle.tte_forms.{proofs.{Puts.PutFails-more, frames.Frames.Gives-behind}, specs.Putting.{PutFails, PutsLines, shown_by}}
+use Rattle.tte_forms.{proofs.{Puts.PutFails-more, frames.Frames.Gives-behind}}
+use Rattle.tte_forms.{specs.Putting.{PutFails, PutsLines, shown_by}}
 use Rattle.lens_slack.proofs.slacking.put_slack.Goals as goal
 
 pub put_each-requires-clause-things : goal.put_each-requires-clause-things

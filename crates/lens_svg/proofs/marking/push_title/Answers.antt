@@ -1,4 +1,4 @@
-use Rattle.lens_svg.proofs.ShortNotes.{cut_line, note_short}
+use Rattle.lens_svg.proofs.NoteTexts.{cut_line, note_short}
 use Rattle.{report_text.specs.NoteLine.note_text, std.proofs.Common.{◌++◌, ◌-◌, ◌∙◌, List, ap, arith, length, length-append, take, ℕ}}
 use Rattle.lens_svg.proofs.marking.push_title.Goals as goal
 

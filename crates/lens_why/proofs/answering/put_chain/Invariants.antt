@@ -1,4 +1,6 @@
-use Rattle.{lens_why.proofs.Telling.IsToldTo, std.proofs.Common.◌≡◌, tte_forms.specs.Putting.shown_by}
+use Rattle.std.proofs.Common.{◌≡◌}
+use Rattle.lens_why.proofs.Telling.{IsToldTo}
+use Rattle.tte_forms.specs.Putting.{shown_by}
 use Rattle.lens_why.proofs.answering.put_chain.Given as goal
 
 abbrev pub invariant-records : goal.invariant-records

@@ -1,6 +1,6 @@
 use Rattle.std.proofs.Common.{◌∙◌, ◌≡◌, ap, inl, refl, subst}
 use Rattle.tte_forms.specs.{Answering.{Gives, GivesAnswer, line_answer}, Putting.shown_by, declared.status.Status.TheVariants.NumberRefused}
-use Rattle.lens_why.{proofs.Notes.{none_there, number_of}, specs.{Answer.IsWhyAnswer, Lines.number_refused_line}}
+use Rattle.lens_why.{proofs.Cutting.{none_there, number_of}, specs.{Answer.IsWhyAnswer, Lines.number_refused_line}}
 use Rattle.lens_why.proofs.answering.put_why.Goals as goal
 
 pub put_chain-requires-clause-record : goal.put_chain-requires-clause-record

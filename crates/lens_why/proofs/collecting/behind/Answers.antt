@@ -1,5 +1,6 @@
 use Rattle.{compression.specs.Clusters.Cluster, std.specs.Prelude.option_map}
-use Rattle.lens_why.{proofs.Collected.{behind_given, behind_none}, specs.Collections.{as_point, behind_point, last_collection, told_of}}
+use Rattle.lens_why.{proofs.Permanents.{behind_given, behind_none}}
+use Rattle.lens_why.{specs.Collections.{as_point, behind_point, last_collection, told_of}}
 use Rattle.{run_law.specs.control.Collections.{ends_stretch, point_by}, std.proofs.Common.{◌∙◌, ◌≡◌, None, Option, Some, ap, false, pos, sym}}
 use Rattle.lens_why.proofs.collecting.behind.Goals as goal
 

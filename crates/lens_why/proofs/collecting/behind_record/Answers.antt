@@ -1,4 +1,6 @@
-use Rattle.{lens_why.proofs.Notes.{never_none, note_there}, run_law.specs.records.Happenings.happenings, tte_audit.specs.Report.events_of}
+use Rattle.lens_why.proofs.Cutting.{never_none, note_there}
+use Rattle.run_law.specs.records.Happenings.{happenings}
+use Rattle.tte_audit.specs.Report.{events_of}
 use Rattle.{run_law.specs.declared.note.Note.Note, std.proofs.Common.ap}
 use Rattle.lens_why.proofs.collecting.behind_record.Goals as goal
 

@@ -1,4 +1,7 @@
-use Rattle.{lens_why.proofs.Collected.collected_is, run_law.specs.records.Happenings.happenings, std.proofs.Common.refl, tte_audit.specs.Report.events_of}
+use Rattle.std.proofs.Common.{refl}
+use Rattle.lens_why.proofs.Permanents.{collected_is}
+use Rattle.run_law.specs.records.Happenings.{happenings}
+use Rattle.tte_audit.specs.Report.{events_of}
 use Rattle.lens_why.proofs.collecting.collected.Goals as goal
 
 pub returns : goal.returns

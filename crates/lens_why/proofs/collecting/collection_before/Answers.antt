@@ -1,4 +1,5 @@
-use Rattle.{lens_why.proofs.Collected.{collected_all, collected_more, collected_none}, std.proofs.Common.arith}
+use Rattle.std.proofs.Common.{arith}
+use Rattle.lens_why.proofs.Permanents.{collected_all, collected_more, collected_none}
 use Rattle.lens_why.proofs.collecting.collection_before.Goals as goal
 
 pub records-init : goal.records-init

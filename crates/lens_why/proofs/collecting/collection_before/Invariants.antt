@@ -1,4 +1,6 @@
-use Rattle.{lens_why.{proofs.Collected.IsCollectedUpTo, specs.Records.IsThere}, std.proofs.Common.{List, ◌≤◌}, tte_reports.specs.Reports.IsReportOf}
+use Rattle.std.proofs.Common.{◌≤◌, List}
+use Rattle.lens_why.{proofs.Permanents.IsCollectedUpTo, specs.Records.IsThere}
+use Rattle.tte_reports.specs.Reports.{IsReportOf}
 use Rattle.{run_law.specs.{declared.note.Note.Note, records.Happenings.{Happening, happenings}}, tte_units.specs.declared.units.Units.Units}
 use Rattle.lens_why.proofs.collecting.collection_before.Given as goal
 

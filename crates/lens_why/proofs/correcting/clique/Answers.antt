@@ -1,5 +1,7 @@
-use Rattle.{audit_devices.specs.Showing.IsAfter, audit_sweep.specs.Indexing.before_corrections, lens_why.proofs.LastRecords.parted_there}
-use Rattle.{lens_why.proofs.BestFrames.{after_clique, clique_is, summary_is}, run_law.specs.records.Happenings.{happenings, time_of}}
+use Rattle.audit_devices.specs.Showing.{IsAfter}
+use Rattle.audit_sweep.specs.Indexing.{before_corrections}
+use Rattle.lens_why.proofs.LastRecords.{after_clique, clique_is, parted_there, summary_is}
+use Rattle.run_law.specs.records.Happenings.{happenings, time_of}
 use Rattle.{std.proofs.Common.{◌∙◌, ◌≡◌, ap, refl, subst, sym}, tte_audit.specs.Report.{events_of, scenario_of}}
 use Rattle.tte_units.specs.{Amount.amount}
 use Rattle.lens_why.proofs.correcting.clique.Goals as goal

@@ -1,6 +1,8 @@
 use Rattle.{audit_devices.specs.Showing.IsAfter, lens_why.specs.Corrections.said_by, std.{proofs.lemmas.Int.to_z-of_z, specs.Prelude.option_and_then}}
-use Rattle.{lens_why.proofs.BestFrames.{after_change, corrected_is, summary_is}, std.proofs.Common.{◌∙◌, ◌≡◌, ap, of_z, rules, subst, sym, to_z, ℤ}}
-use Rattle.{audit_sweep.specs.Indexing.before_corrections, lens_why.proofs.LastRecords.parted_there, tte_audit.specs.Report.{events_of, scenario_of}}
+use Rattle.std.proofs.Common.{◌∙◌, ◌≡◌, ap, of_z, rules, subst, sym, to_z, ℤ}
+use Rattle.audit_sweep.specs.Indexing.{before_corrections}
+use Rattle.lens_why.proofs.LastRecords.{after_change, corrected_is, parted_there, summary_is}
+use Rattle.tte_audit.specs.Report.{events_of, scenario_of}
 use Rattle.{run_law.specs.records.Happenings.{happenings, time_of}, tte_units.specs.declared.frames.channel.Channel.TheVariants.{A, B}}
 use Rattle.{std.specs.Int.w128, tte_units.specs.Amount.amount}
 use Rattle.lens_why.proofs.correcting.corrected.Goals as goal

@@ -1,4 +1,5 @@
-use Rattle.{lens_why.proofs.BestFrames.{said_is, said_none}, std.{proofs.Common.{◌<◌, ◌∙◌, ◌≡◌, ◌≤◌, false, rules, subst, true}, specs.Prelude.nat_le}}
+use Rattle.std.{proofs.Common.{◌<◌, ◌∙◌, ◌≡◌, ◌≤◌, false, rules, subst, true}, specs.Prelude.nat_le}
+use Rattle.lens_why.proofs.LastRecords.{said_is, said_none}
 use Rattle.{run_law.specs.records.Happenings.happenings, std.proofs.lemmas.{Bool.{le-leb, lt-leb}, Int.to_z-of_z}, sync_state.specs.membership.Members.count_of}
 use Rattle.{std.specs.Int.w128, tte_audit.specs.Report.scenario_of}
 use Rattle.lens_why.proofs.correcting.said_by.Goals as goal

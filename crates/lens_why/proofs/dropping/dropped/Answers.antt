@@ -1,4 +1,6 @@
-use Rattle.{lens_why.proofs.Grounded.index_there, std.proofs.Common.{◌∙◌, ap, sym}, tte_units.specs.Amount.amount}
+use Rattle.std.proofs.Common.{◌∙◌, ap, sym}
+use Rattle.lens_why.proofs.Grounded.{index_there}
+use Rattle.tte_units.specs.Amount.{amount}
 use Rattle.{lens_why.specs.Grounds.{beside_ground, dropped_ground, entry_given, gate_ground}, run_law.specs.device.Standpoints.{clock_of, standpoint}}
 use Rattle.{run_law.specs.records.Happenings.{happenings, numbered}, tte_audit.specs.Report.{events_of, scenario_of}}
 use Rattle.lens_why.proofs.dropping.dropped.Goals as goal

@@ -1,4 +1,5 @@
-use Rattle.{lens_why.proofs.Rows.found_at, run_law.proofs.timed.Rows.entry_is}
+use Rattle.lens_why.proofs.Frames.{found_at}
+use Rattle.run_law.proofs.timed.Rows.{entry_is}
 use Rattle.{net_plan.specs.declared.tables.Row.Row, run_law.specs.timed.Arrivals.{entry_of, is_row_with}, std.specs.Prelude.{find, option_and_then, slice_get}}
 use Rattle.{net_plan.specs.declared.tables.Way.Way, run_law.specs.scenario.Ways.is_way_of, std.proofs.Common.{◌&&◌, ◌∙◌, Option, ap, sym, ℕ}}
 use Rattle.lens_why.proofs.dropping.entry_entering.Goals as goal

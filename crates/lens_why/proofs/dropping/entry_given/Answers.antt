@@ -1,4 +1,6 @@
-use Rattle.{lens_why.proofs.Headings.{heading_none, heading_some}, run_law.specs.records.Happenings.numbered, std.proofs.Common.{◌∙◌, sym}}
+use Rattle.std.proofs.Common.{◌∙◌, sym}
+use Rattle.lens_why.proofs.Grounded.{heading_none, heading_some}
+use Rattle.run_law.specs.records.Happenings.{numbered}
 use Rattle.lens_why.proofs.dropping.entry_given.Goals as goal
 
 pub returns-in-Some-clause-is : goal.returns-in-Some-clause-is

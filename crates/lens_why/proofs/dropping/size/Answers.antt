@@ -1,4 +1,6 @@
-use Rattle.{lens_why.proofs.Headings.{size_none, size_some}, run_law.specs.records.Happenings.numbered, std.proofs.Common.{◌∙◌, sym}}
+use Rattle.std.proofs.Common.{◌∙◌, sym}
+use Rattle.lens_why.proofs.Grounded.{size_none, size_some}
+use Rattle.run_law.specs.records.Happenings.{numbered}
 use Rattle.lens_why.proofs.dropping.size.Goals as goal
 
 pub returns-in-Some : goal.returns-in-Some

@@ -1,5 +1,6 @@
 use Rattle.{audit_devices.specs.Keeping.records_before, run_law.specs.records.Happenings.{happenings, time_of}, tte_audit.specs.Report.{events_of, scenario_of}}
-use Rattle.lens_why.{proofs.Grounded.index_there, specs.declared.{ground.Ground.TheVariants.Taken, seeking.{Coming.Coming, Sought.TheVariants.Taking}}}
+use Rattle.lens_why.{proofs.Grounded.index_there}
+use Rattle.lens_why.specs.declared.{ground.Ground.TheVariants.Taken, seeking.{Coming.Coming, Sought.TheVariants.Taking}}
 use Rattle.lens_why.specs.{Grounds.cycle_before, Seeking.last_sought}
 use Rattle.{run_law.specs.records.Ranks.place_of, std.proofs.Common.{◌∙◌, ◌≡◌, ap, sym, ℕ}, tte_units.specs.Amount.amount}
 use Rattle.lens_why.proofs.dropping.taken.Goals as goal

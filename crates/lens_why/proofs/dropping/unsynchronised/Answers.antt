@@ -1,4 +1,6 @@
-use Rattle.{lens_why.proofs.Grounded.index_there, run_law.specs.device.States.state_before, std.proofs.Common.{◌∙◌, ◌≡◌, ap, sym, ℕ}}
+use Rattle.std.proofs.Common.{◌∙◌, ◌≡◌, ap, sym, ℕ}
+use Rattle.lens_why.proofs.Grounded.{index_there}
+use Rattle.run_law.specs.device.States.{state_before}
 use Rattle.{lens_why.specs.declared.ground.Ground.TheVariants.Unsynchronised, run_law.specs.records.Happenings.{happenings, time_of}}
 use Rattle.{sync_state.specs.declared.state.State.State, tte_audit.specs.Report.{events_of, scenario_of}}
 use Rattle.tte_units.specs.Amount.{amount}

@@ -1,8 +1,12 @@
-use Rattle.{lens_why.proofs.Grounded.{correction_so, ground_as, is_there, index_there, position_so, state_so}, std.proofs.Common.{◌∙◌, ap, refl, subst, sym}}
+use Rattle.std.proofs.Common.{◌∙◌, ap, refl, subst, sym}
+use Rattle.lens_why.{specs.Grounds.{position_at, window_ground}}
+use Rattle.lens_why.proofs.{Frames.held_is}
+use Rattle.lens_why.proofs.Grounded.{correction_so, ground_as, index_there, is_there, permanence_so, position_so}
+use Rattle.lens_why.proofs.Grounded.{state_so}
+use Rattle.report_text.specs.Ranges.{IsBodyOf}
+use Rattle.tte_units.specs.Amount.{amount}
 use Rattle.audit_sweep.specs.declared.index.Permanence.{Permanence}
-use Rattle.lens_why.{proofs.Hearing.permanence_so, specs.Grounds.{position_at, window_ground}}
 use Rattle.net_plan.specs.Places.{row_of}
-use Rattle.{lens_why.proofs.Holding.held_is, report_text.specs.Ranges.IsBodyOf, tte_units.specs.Amount.amount}
 use Rattle.{run_law.specs.{declared.note.Note.Note, records.Happenings.happenings}, tte_audit.specs.Report.{events_of, scenario_of}}
 use Rattle.run_law.specs.declared.note.NoteBody.TheVariants as notes
 use Rattle.lens_why.proofs.ground.ground_of.Goals as goal

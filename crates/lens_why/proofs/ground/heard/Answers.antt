@@ -1,4 +1,6 @@
-use Rattle.{lens_why.proofs.Hearing.{heard_is, heard_made}, std.proofs.Common.{◌+ℤ◌, ◌-ℤ◌, ◌∙◌, ap, of_z, rules, to_z, ℤ}, sync_state.specs.Plan.expected_at}
+use Rattle.std.proofs.Common.{◌+ℤ◌, ◌-ℤ◌, ◌∙◌, ap, of_z, rules, to_z, ℤ}
+use Rattle.lens_why.proofs.Grounded.{heard_is, heard_made}
+use Rattle.sync_state.specs.Plan.{expected_at}
 use Rattle.{run_law.specs.scenario.Devices.plan_of, std.{proofs.lemmas.Int.to_z-of_z, specs.Int.w128}, tte_units.specs.Amount.amount}
 use Rattle.lens_why.proofs.ground.heard.Goals as goal
 

@@ -1,5 +1,7 @@
-use Rattle.{lens_why.proofs.Grounded.index_there, run_law.specs.records.Happenings.happenings, std.proofs.Common.{◌∙◌, sym}}
-use Rattle.{lens_why.proofs.Hearing.{permanent_collected, permanent_scheduled, permanent_untold}, tte_audit.specs.Report.{events_of, scenario_of}}
+use Rattle.std.proofs.Common.{◌∙◌, sym}
+use Rattle.lens_why.proofs.Grounded.{index_there, permanent_collected, permanent_scheduled, permanent_untold}
+use Rattle.run_law.specs.records.Happenings.{happenings}
+use Rattle.tte_audit.specs.Report.{events_of, scenario_of}
 use Rattle.lens_why.proofs.ground.permanent.Goals as goal
 
 pub scheduled-requires-clause-index : goal.scheduled-requires-clause-index

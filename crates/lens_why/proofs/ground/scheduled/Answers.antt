@@ -1,4 +1,5 @@
-use Rattle.{audit_law.specs.events.Readings.scenario_under, lens_why.{proofs.Hearing.scheduled_is, specs.Grounds.heard_ground}}
+use Rattle.audit_law.specs.events.Readings.{scenario_under}
+use Rattle.lens_why.{proofs.Grounded.scheduled_is, specs.Grounds.heard_ground}
 use Rattle.std.{proofs.{Common.{◌∙◌, ap, rules}, lemmas.Int.to_z-of_z}, specs.Int.w128}
 use Rattle.lens_why.proofs.ground.scheduled.Goals as goal
 

@@ -1,4 +1,4 @@
-use Rattle.lens_why.proofs.Collected.{last_is_of_clusters}
+use Rattle.lens_why.proofs.Permanents.{last_is_of_clusters}
 use Rattle.lens_why.proofs.laws.collections_law.Goals as goal
 
 pub returns : goal.returns

@@ -1,4 +1,4 @@
-use Rattle.lens_why.proofs.Decided.{grounds_decide}
+use Rattle.lens_why.proofs.Chains.{grounds_decide}
 use Rattle.lens_why.proofs.laws.decisions_law.Goals as goal
 
 pub returns : goal.returns

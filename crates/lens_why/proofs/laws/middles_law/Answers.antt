@@ -1,4 +1,4 @@
-use Rattle.lens_why.proofs.Emitted.{middles_are_of_clusters}
+use Rattle.lens_why.proofs.Frames.{middles_are_of_clusters}
 use Rattle.lens_why.proofs.laws.middles_law.Goals as goal
 
 pub returns : goal.returns

@@ -1,4 +1,4 @@
-use Rattle.lens_why.proofs.Rows.{row_is_one}
+use Rattle.lens_why.proofs.Frames.{row_is_one}
 use Rattle.lens_why.proofs.laws.row_law.Goals as goal
 
 pub returns : goal.returns

@@ -1,4 +1,4 @@
-use Rattle.lens_why.proofs.Whole.{why_law}
+use Rattle.lens_why.proofs.Chains.{why_law}
 use Rattle.lens_why.proofs.laws.why_law.Goals as goal
 
 pub returns : goal.returns

@@ -1,4 +1,4 @@
-use Rattle.lens_why.proofs.Within.{taken_in_windows}
+use Rattle.lens_why.proofs.Frames.{taken_in_windows}
 use Rattle.lens_why.proofs.laws.windows_law.Goals as goal
 
 pub returns : goal.returns

@@ -1,4 +1,6 @@
-use Rattle.{lens_why.proofs.Putting.{put_alone, put_both, put_half, put_none}, std.proofs.Common.{◌∙◌, List, subst, sym, ℕ}, tte_forms.specs.Putting.shown_by}
+use Rattle.std.proofs.Common.{◌∙◌, List, subst, sym, ℕ}
+use Rattle.lens_why.proofs.Telling.{put_alone, put_both, put_half, put_none}
+use Rattle.tte_forms.specs.Putting.{shown_by}
 use Rattle.{std.specs.Io.KnownBytes.Appends, tte_io.specs.Told.AppendsFront}
 use Rattle.lens_why.proofs.lines.put_record.Goals as goal
 

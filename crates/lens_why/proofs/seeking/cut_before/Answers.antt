@@ -1,4 +1,5 @@
-use Rattle.{lens_why.proofs.Cutting.{cut_all, cut_more, cut_none}, std.proofs.Common.arith}
+use Rattle.std.proofs.Common.{arith}
+use Rattle.lens_why.proofs.Cutting.{cut_all, cut_more, cut_none}
 use Rattle.lens_why.proofs.seeking.cut_before.Goals as goal
 
 pub records-init : goal.records-init

@@ -1,4 +1,4 @@
-use Rattle.lens_why.{proofs.Notes.{never_none, note_there}, specs.Seeking.{cut_told, cut_with}}
+use Rattle.lens_why.{proofs.Cutting.{never_none, note_there}, specs.Seeking.{cut_told, cut_with}}
 use Rattle.{run_law.specs.declared.note.Note.Note, std.proofs.Common.{◌∙◌, ap, sym}}
 use Rattle.lens_why.proofs.seeking.cut_behind.Goals as goal
 

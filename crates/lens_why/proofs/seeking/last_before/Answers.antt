@@ -1,4 +1,5 @@
-use Rattle.{lens_why.proofs.LastRecords.{sought_back, sought_found, sought_from, sought_none}, std.proofs.Common.{◌∙◌, arith, sym}}
+use Rattle.std.proofs.Common.{◌∙◌, arith, sym}
+use Rattle.lens_why.proofs.LastRecords.{sought_back, sought_found, sought_from, sought_none}
 use Rattle.lens_why.proofs.seeking.last_before.Goals as goal
 
 pub records-init : goal.records-init

@@ -1,4 +1,4 @@
-use Rattle.net_plan.proofs.Beta.{beta_exists}
+use Rattle.net_plan.proofs.Trees.{beta_exists}
 use Rattle.net_plan.proofs.laws.beta_exists.Goals as goal
 
 pub returns : goal.returns

@@ -1,4 +1,4 @@
-use Rattle.net_plan.proofs.Beta.{beta_is_unique}
+use Rattle.net_plan.proofs.Trees.{beta_is_unique}
 use Rattle.net_plan.proofs.laws.beta_is_unique.Goals as goal
 
 pub returns : goal.returns

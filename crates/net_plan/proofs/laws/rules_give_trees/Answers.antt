@@ -1,4 +1,4 @@
-use Rattle.net_plan.proofs.Shape.{rules_give_trees}
+use Rattle.net_plan.proofs.Trees.{rules_give_trees}
 use Rattle.net_plan.proofs.laws.rules_give_trees.Goals as goal
 
 pub returns : goal.returns

@@ -1,4 +1,4 @@
-use Rattle.pcf_codec.proofs.Outcomes.{is_prefix_free, is_spelling}
+use Rattle.pcf_codec.proofs.Spellings.{is_prefix_free, is_spelling}
 use Rattle.pcf_codec.proofs.law.spelling_law.Goals as goal
 
 pub returns-clause-agreement : goal.returns-clause-agreement

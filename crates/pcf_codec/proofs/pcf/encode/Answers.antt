@@ -1,5 +1,5 @@
-use Rattle.{pcf_codec.proofs.Encoding.{Fits, padding, spells, writes}, std.proofs.Common.{arith}}
-use Rattle.pcf_codec.{proofs.Outcomes.spelt_read, specs.{Encoded.encoded}}
+use Rattle.std.proofs.Common.{arith}
+use Rattle.pcf_codec.{proofs.Spellings.{Fits, padding, spells, spelt_read, writes}, specs.Encoded.encoded}
 use Rattle.pcf_codec.proofs.pcf.encode.Goals as goal
 
 pub returns : goal.returns

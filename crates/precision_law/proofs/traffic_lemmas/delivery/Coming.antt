@@ -1,17 +1,256 @@
--- Where the frames come from that devices take.
-use Rattle.{net_plan.specs.declared.event.What.TheVariants.Send, precision_law.proofs.traffic_lemmas.{ports.Cycles.hulls_grow, schedule.Rows.rows_go_once}}
-use Rattle.precision_law.proofs.traffic_lemmas.Words.{◌+◌, ◌<◌, ◌∙◌, ◌∷◌, ◌≡◌, Bool, BringsBlocks, DeviceId, Entry, FieldsFit, Happening, HasGoodSources}
-use Rattle.precision_law.proofs.traffic_lemmas.Words.{IsEntry, IsGood, IsRowDispatch, IsTaking, IsTimedAt, IsView, KeepsRules, LinkId, List, Network}
-use Rattle.precision_law.proofs.traffic_lemmas.Words.{None, NoteBody, SendersAreBroken, Signal, Some, Up, View, VirtualLink, VlId, Way, [], ap, arith}
-use Rattle.precision_law.proofs.traffic_lemmas.Words.{arrives_at, begins_late, both_ways, cases_lt, cause_of, false, field, if◌then◌else◌, inl, inr, ints}
-use Rattle.precision_law.proofs.traffic_lemmas.Words.{launched, length, link_at, numbered, octet_time, option_map_or, port_time, refl, same_some}
-use Rattle.precision_law.proofs.traffic_lemmas.Words.{slice_get, source_of, subst, suc, sym, time_of, timed, true, tt_frame_by, within_run, zero, ℕ}
-use Rattle.precision_law.proofs.traffic_lemmas.{delivery.Arriving.{arrivals_are_in_windows, frames_arrive_in_spans}, ports.Dispatched.dispatches_are_of_rows}
-use Rattle.precision_law.proofs.traffic_lemmas.delivery.{Frames.dispatch_shows, Taken.{left_control, put_on, takings_are_so}, Whole.octets_come_so}
-use Rattle.{precision_law.proofs.traffic_lemmas.ports.Leavings.hull_proper, schedule_tables.specs.declared.rule.Rule.TheVariants.VlIdsDiffer}
-use Rattle.precision_law.specs.traffic.{Coming.{BeginsAtSender, DispatchesBegin, SpansAreApart, TakingsBegin, TakingsComeByRows}, Passed.ArrivesInSpan}
-use Rattle.run_law.specs.{control.Wires.{signal_of, time_on_port}, law.Safety.IsFirstDispatch, scenario.Ways.is_cut}
+-- Frames of the schedule that come to devices: from where and when they come, and what they show.
+use Rattle.std.proofs.{Common.{◌^◌, length-append, replicate}, lemmas.List.length-replicate}
+use Rattle.byteorder.specs.Endian.{big_bytes}
+use Rattle.net_plan.specs.{Padding.padded, declared.event.What.TheVariants.Send}
+use Rattle.pcf_codec.proofs.Numbers.{read_behind}
+use Rattle.precision_law.proofs.traffic_lemmas.{delivery.Taken.{from_cause, left_control, put_on, takings_are_so}}
+use Rattle.precision_law.proofs.traffic_lemmas.{spans.Spans.synchronised_keep_time}
+use Rattle.precision_law.proofs.traffic_lemmas.Words
+use Words.{if◌then◌else◌, ◌*◌, ◌++◌, ◌+ℤ◌, ◌+◌, ◌<ℤ◌, ◌<◌, ◌==◌, ◌∙◌, ◌∷◌, ◌≡◌, ◌≤ℤ◌, ◌≤◌, ◌⊎◌, Bool, BringsBlocks}
+use Words.{DeviceId, Entry, Event, FieldsFit, Happening, HasGoodSources, IsEntry, IsGood, IsIn, IsInSpan, IsRowDispatch}
+use Words.{IsTaking, IsTimedAt, IsView, KeepsRules, Link, LinkId, List, Network, None, NoteBody, Scenario}
+use Words.{SendersAreBroken, Signal, Some, Up, View, VirtualLink, VlId, Way, [], amount, ap, append_assoc, arith}
+use Words.{arrives_at, before_narrow, before_of, begins_late, block_ends, both_ways, by_lt_z, cases_lt, cause_of}
+use Words.{closed, earlier, eq-eqb, eqb-true, false, false_from_ne_true, field, filter, founded_at, in_filter, in_parts}
+use Words.{in_range, inl, inr, ints, is_accepted, last_in, last_or, launched, length, link_at, numbered, octet_time}
+use Words.{option_map_or, port_time, pos, refl, room, same_some, shown_at, slice_get, source_of, subst, suc, sym}
+use Words.{time_of, timed, true, tt_frame_by, within_run, zero, ℕ}
+use Rattle.precision_law.proofs.traffic_lemmas.ports.{Cycles.hulls_grow}
+use Rattle.precision_law.proofs.traffic_lemmas.ports.Dispatched
+use Dispatched.{dispatches_are_in_spans, dispatches_are_of_rows, hull_proper}
+use Rattle.precision_law.proofs.traffic_lemmas.schedule.{Rows.{rows_are_in_time, rows_go_once}}
+use Rattle.precision_law.proofs.traffic_lemmas.schedule.{Values.{cycle_whole, so_far, so_far_in}}
+use Rattle.precision_law.specs.traffic.{Dispatched.DispatchesAreWhole}
+use Rattle.precision_law.specs.traffic.{Passed.{ArrivalsAreInWindows, ArrivesInSpan, FramesArriveInSpans, OctetsComeSo}}
+use Rattle.precision_law.specs.traffic.Coming
+use Coming.{BeginsAtSender, DispatchesBegin, SpansAreApart, TakingsBegin, TakingsComeByRows}
+use Rattle.run_law.proofs.{law.FirstDeliveries.{by_number, given, last_is, sets_wire}, records.Happenings.from_earlier}
+use Rattle.run_law.specs.{control.Wires.{signal_of, time_on_port}, declared.outside.Outside.TheVariants.Wire}
+use Rattle.run_law.specs.{law.{FirstLaws.IsLawful, Safety.IsFirstDispatch}}
+use Rattle.run_law.specs.{records.{Frames.{mac_of, tt_frame}, Happenings.{octets_by, octets_from}}}
+use Rattle.run_law.specs.{scenario.Ways.{delay_at, is_cut, wire_of, wire_set}}
+use Rattle.schedule_tables.specs.{Windows.arrival_of, declared.rule.Rule.TheVariants.VlIdsDiffer}
 use Rattle.run_law.specs.declared.note.NoteBody.TheVariants as notes
+
+-- ---- when frames of the schedule arrive
+
+-- ---- wire delays
+
+-- between the nominal delay and that with the jitter
+abbrev LiesOn : Link → ℕ → Type 0
+LiesOn l delay = (amount l.wire ≤ delay) × (delay ≤ amount l.wire + amount l.jitter)
+
+-- each wire delay that an event sets lies so
+set_delay_lies : {s : Scenario} (link : LinkId) (l : Link) (way : Way) → IsLawful s → link_at s.network link ≡ Some l
+    → pos 1 ≤ℤ l.wire.0 → pos 0 ≤ℤ l.jitter.0 → (e : Event) → IsIn e s.events → (d : ℕ)
+    → wire_set link way e.what ≡ Some d → LiesOn l d
+set_delay_lies {s} link l way lawful there least spread e i d is =
+    let set = sets_wire link way e.what d is in
+    let known = given s e lawful i in
+    let other : ((set.delay.0 <ℤ l.wire.0) ⊎ ((l.wire.0 +ℤ l.jitter.0) <ℤ set.delay.0)) → ⊥ = λ far. known.within Wire (record {
+      link = link;
+      way = set.way;
+      delay = set.delay;
+      what = set.is;
+      other = closed (λ k. (set.delay.0 <ℤ k.wire.0) ⊎ ((k.wire.0 +ℤ k.jitter.0) <ℤ set.delay.0))
+          (link_at s.network link) l there far;
+    }) in
+    by_lt_z set.delay.0 l.wire.0
+    (λ short. absurd (other (inl short)))
+    (λ long. by_lt_z (l.wire.0 +ℤ l.jitter.0) set.delay.0
+    (λ far. absurd (other (inr far)))
+    (λ near. (omega (arith, ints, set.sets), omega (arith, ints, set.sets))))
+
+-- so does the wire delay at any time
+pub delay_lies : {s : Scenario} (link : LinkId) (l : Link) (way : Way) (t : ℕ) → IsLawful s
+    → link_at s.network link ≡ Some l → pos 1 ≤ℤ l.wire.0 → pos 0 ≤ℤ l.jitter.0 → LiesOn l (delay_at s link way t)
+delay_lies {s} link l way t lawful there least spread =
+    let nominal : wire_of s.network link ≡ amount l.wire = rw there in
+    last_is (LiesOn l) s (wire_set link way) (wire_of s.network link) t (omega arith, omega arith)
+    (set_delay_lies link l way lawful there least spread)
+
+-- ---- arrivals
+
+pub frames_arrive_in_spans : BringsBlocks → FramesArriveInSpans
+frames_arrive_in_spans brings v h device link cause vl cycle way is good d in_run =
+    let n = v.scenario.network in
+    let u = arrives_at v h link way d.entry in
+    let here = dispatches_are_in_spans brings v h device link cause vl cycle is good d in
+    let block = here.span.block in
+    let range = in_range n d.place d.entry is.lawful.range d.row in
+    let at : link_at n link ≡ Some d.entry.link = rw d.by at d.row.link in
+    let delay = delay_lies link d.entry.link way (time_of h) is.lawful at range.link.wire.least
+    range.link.jitter.least in
+    let times = rows_are_in_time v d.place d.entry is d.row in
+    let narrow = before_narrow block.before in
+    let ends = block_ends v cycle block.next block.before.hull block.before.is_hull block.is_over in
+    let space = room is in
+    let late : pos u ≤ℤ ((block.before.hull.greatest +ℤ pos (arrival_of d.entry + amount d.entry.link.jitter)) +ℤ pos v.sizes.reach) = omega
+    (arith, ints, here.not_late, delay.1) in
+    let span : IsInSpan v cycle u = record {
+      block = record {
+        before = block.before;
+        next = block.next;
+        is_over = block.is_over;
+        from = omega (arith, block.from);
+        to = omega (arith, ints, times.tolerates, times.ends, space.eight_errors);
+        in_run = in_run;
+      };
+      early = omega (arith, ints, times.tolerates, times.ends, space.eight_errors);
+    } in
+    record {
+      span = span;
+      shows = λ receiver timed.
+          let keep = synchronised_keep_time brings v cycle u span receiver is timed in (
+            omega (arith, ints, keep.shows.least, here.not_early, delay.0, space.errors.reach_is),
+            omega (arith, ints, keep.shows.most, space.errors.reach_is),
+          );
+    }
+
+pub arrivals_are_in_windows : ArrivalsAreInWindows
+arrivals_are_in_windows v place cycle u entry receiver is row arrives timed =
+    let z = shown_at v receiver u in
+    let shows = arrives.shows receiver timed in
+    let times = rows_are_in_time v place entry is row in
+    let space = room is in
+    let far = so_far z (cycle * v.sizes.cycle) v.sizes.cycle (omega (arith, ints, shows.0, times.begins, space.eight_errors))
+    (omega (arith, ints, shows.1, times.tolerates, times.ends, space.eight_errors)) in
+    let is_far = so_far_in v.scenario.network v.sizes.cycle z cycle far.0 (cycle_whole is) far.1 far.2 in
+    record {
+      in_cycle = is_far.cycle_is;
+      not_before = omega (arith, ints, is_far.place_is, far.1, shows.0);
+      not_behind = omega (arith, ints, is_far.place_is, far.1, shows.1);
+    }
+
+-- ---- where the octets of a dispatch come from, and how many they are
+
+-- ---- the frame that a sender makes
+
+-- octets that fit are padded to the size
+padded_length : (size : ℕ) (octets : List ℕ) → length octets ≤ size → length (padded size octets) ≡ size
+padded_length size octets fits = grind (arith, length-append, replicate, length, length-replicate)
+
+-- how long the head of a frame is
+head_length : (a b c d e : ℕ) → length (big_bytes 4 a ++ (big_bytes 2 b ++ (big_bytes 6 c ++ (big_bytes 2 d ++ big_bytes 4 e)))) ≡ 18
+head_length a b c d e = grind (arith, length-append)
+
+-- a frame has the length of its virtual link
+pub made_length : (network : Network) (vl : VirtualLink) (cycle : ℕ) → 60 ≤ vl.length → length (tt_frame_by network vl cycle) ≡ vl.length
+made_length network vl cycle least =
+    let head = head_length network.marker vl.id (mac_of network vl.sender) vl.ethertype cycle in
+    padded_length vl.length
+    (big_bytes 4 network.marker ++ (big_bytes 2 vl.id ++ (big_bytes 6 (mac_of network vl.sender) ++ (big_bytes 2 vl.ethertype ++ big_bytes 4 cycle))))
+    (omega arith)
+
+-- ---- where octets come from
+
+-- of a list in two parts what is earlier than the second part is in the first
+in_first : (front rest : List Happening) (h : Happening) (t : ℕ) → ((g : Happening) → IsIn g rest → t ≤ time_of g) → IsIn h (front ++ rest) → time_of h < t
+    → IsIn h front
+in_first front rest h t late i lt = elim (in_parts h front rest i) [
+  | inl l ↦ l
+  | inr r ↦
+      (let up = late h r in absurd (omega arith))
+]
+
+pub octets_come_so : OctetsComeSo
+octets_come_so v h device link cause vl cycle is d =
+    let s = v.scenario in
+    let n = s.network in
+    let t = time_of h in
+    let found = founded_at s v.records h is.run.founded d.there in
+    let split = before_of is found in
+    let own : h.octets ≡ (if cause == 0 then tt_frame n vl cycle else octets_from found.front cause) =
+    ap (λ x. x.octets) found.due.same ∙ ap (octets_by n found.front) d.is in
+    elim d.at_hand [
+      | inl made ↦
+          grind (arith, eq-eqb, tt_frame_by, option_map_or, slice_get, n.vl, found.front)
+      | inr passed ↦
+          let has = passed.1 in
+          let taken = has.taken in
+          let there = from_earlier t v.records taken (last_there (λ g. is_accepted device d.entry.row.vl g.note.body) (earlier t v.records) taken has.last) in
+          let before = in_first found.front split.rest taken t split.later (subst (IsIn taken) split.whole there.0)
+          there.1 in
+          let at_front = by_number s found.front taken found.founded before in
+          let front_number : numbered found.front cause ≡ Some taken = ap (numbered found.front) has.number ∙ at_front in
+          let later = not_zero found.front cause taken front_number in
+          inr (record {
+            switch = passed.0;
+            taken = taken;
+            there = there.0;
+            number = ap (numbered v.records) has.number ∙ by_number s v.records taken is.run.founded there.0;
+            earlier = there.1;
+            last = rw (sym d.of_vl) has.last;
+            link = has.link;
+            from = has.from;
+            is = has.is ∙ ap (λ x. notes.Accepted device has.link has.from x cycle) d.of_vl;
+            frame =
+                own ∙ ap (λ b. if b then tt_frame n vl cycle else octets_from found.front cause) later
+                ∙ from_cause found.front cause taken front_number;
+          })
+    ]
+  where
+    last_there : (p : Happening → Bool) (hs : List Happening) (g : Happening) → last_or None (filter p hs) ≡ Some g → IsIn g hs
+    last_there p hs g e = elim (last_in None (filter p hs) g e) [ inl none ↦ absurd cc | inr i ↦ in_filter p hs g i ]
+
+    not_zero : (hs : List Happening) (number : ℕ) (g : Happening) → numbered hs number ≡ Some g → (number == 0) ≡ false
+    not_zero hs zero g e = absurd cc
+    not_zero hs (suc number) g e = false_from_ne_true (suc number == 0)
+        (λ same. (let wrong = eqb-true (suc number) 0 same in absurd (omega arith)))
+
+-- ---- lengths
+
+-- two rows of one virtual link have it
+same_vl : {network : Network} {place other : ℕ} {entry second : Entry} → IsEntry network place entry
+    → IsEntry network other second → entry.row.vl ≡ second.row.vl → entry.vl ≡ second.vl
+same_vl {network} {entry} {second} one two same =
+    same_some (slice_get network.vl entry.row.vl.0) entry.vl second.vl one.vl
+    (rw same two.vl)
+
+pub dispatches_are_whole : DispatchesAreWhole
+dispatches_are_whole v h device link cause vl cycle is d =
+    elim (octets_come_so v h device link cause vl cycle is d) [
+      | inl made ↦
+          let range = in_range v.scenario.network d.place d.entry is.lawful.range d.row in
+          rw made.frame (made_length v.scenario.network d.entry.vl cycle range.vl.length_least)
+      | inr passed ↦
+          let taking = takings_are_so v passed.taken device passed.link passed.from vl cycle is passed.there (inl passed.is) in
+          let vls = same_vl taking.by_row.row d.row (taking.by_row.of_vl ∙ sym d.of_vl) in
+          rw passed.frame (taking.whole ∙ ap (λ x. x.length) vls)
+    ]
+
+-- ---- what a frame of the schedule shows
+
+-- what the frame shows
+pub record ShowsOf (network : Network) (vl : VirtualLink) (octets : List ℕ) : Type 0 where
+  pub marker : field 0 4 octets ≡ network.marker
+  pub id : field 4 2 octets ≡ vl.id
+  pub ethertype : field 12 2 octets ≡ vl.ethertype
+
+-- the frame shows its numbers
+pub frame_shows : (network : Network) (vl : VirtualLink) (cycle : ℕ) → network.marker < 2 ^ 32 → vl.id < 2 ^ 16 → vl.ethertype < 2 ^ 16
+    → ShowsOf network vl (tt_frame_by network vl cycle)
+frame_shows network vl cycle marker id ethertype = grind (arith, replicate, length, tt_frame_by, append_assoc, length-append, field, read_behind)
+
+-- ---- dispatches
+
+-- a dispatch shows its virtual link's id
+dispatch_shows : {v : View} {h : Happening} {device : DeviceId} {link : LinkId} {cause : ℕ} {vl : VlId}
+    {cycle : ℕ} → IsView v → FieldsFit v.scenario.network → (d : IsRowDispatch v h device link cause vl cycle)
+    → field 4 2 h.octets ≡ d.entry.vl.id
+dispatch_shows {v} {h} {device} {link} {cause} {vl} {cycle} is fit d =
+    elim (octets_come_so v h device link cause vl cycle is d) [
+      | inl made ↦
+          let at = d.entry.row.vl.0 in
+          ap (field 4 2) made.frame
+          ∙ (frame_shows v.scenario.network d.entry.vl cycle fit.marker (fit.ids at d.entry.vl d.row.vl) (fit.types at d.entry.vl d.row.vl)).id
+      | inr passed ↦
+          let taking = takings_are_so v passed.taken device passed.link passed.from vl cycle is passed.there (inl passed.is) in
+          let vls = same_vl taking.by_row.row d.row (taking.by_row.of_vl ∙ sym d.of_vl) in
+          ap (field 4 2) passed.frame ∙ sym taking.by_row.id_is ∙ ap (λ x. x.id) vls
+    ]
+
+-- ---- where the frames come from that devices take
 
 -- ---- spans
 

@@ -1,24 +1,296 @@
--- Each frame that is owed is delivered.
-use Rattle.{net_plan.specs.{Bounds.IsGreatest, Places.IsEndSystem}, run_law.specs.{declared.note.Note.Note, records.Causes.IsChain}, std.proofs.Common.max}
-use Rattle.{net_plan.specs.Ranges.{IsInRange, IsVlInRange}, precision_law.specs.traffic.Delivered.IsSentIn, run_law.specs.device.LocalClocks.local_before}
-use Rattle.precision_law.{proofs.law.Precision.{up_to_is, view_at, view_of}, specs.traffic.{Ports.{IsRunTo, OwedFramesCome}, Spans.IsReachedInSpan}}
-use Rattle.precision_law.proofs.traffic_lemmas.Words.{◌*◌, ◌+ℤ◌, ◌+◌, ◌-◌, ◌<ℤ◌, ◌<◌, ◌∙◌, ◌∷◌, ◌≡◌, ◌≤◌, DeviceId, Entry, FieldsFit, Happening}
-use Rattle.precision_law.proofs.traffic_lemmas.Words.{HasGoodSources, IsDue, IsEntry, IsFounded, IsGood, IsIn, IsInSchedule, IsInSpan, IsOnChannel, IsTimedAt}
-use Rattle.precision_law.proofs.traffic_lemmas.Words.{IsView, Joints, LinkId, List, Network, Reaches, Scenario, Some, Synchronised, View, VirtualLink}
-use Rattle.precision_law.proofs.traffic_lemmas.Words.{VlId, [], adjustment_after, adjustment_left, adjustment_stays, amount, ap, arith, arrives_at, begins_late}
-use Rattle.precision_law.proofs.traffic_lemmas.Words.{cases_lt, cause_of, clocks_reach_sharply, earlier, epoch_time, in_all, inl, inr, ints}
-use Rattle.precision_law.proofs.traffic_lemmas.Words.{is_turned_on_at, numbered, numbered_in, place_of, pos, reaches_by, refl, room, same_some}
-use Rattle.precision_law.proofs.traffic_lemmas.Words.{shown_at, slice_get, source_of, state_after, state_left, steady, suc, sym, target_of, time_of}
-use Rattle.precision_law.proofs.traffic_lemmas.{Words.{tt_frame_by, within_run, zero, ℕ}, delivery.Sent.{Brings, arrives_in_time, rows_are_sent}}
-use Rattle.precision_law.proofs.traffic_lemmas.{delivery.Arriving.frames_arrive_in_spans, ports.{Cycles.same_next, Dispatched.{cycle_is, offset_in_schedule}}}
-use Rattle.precision_law.proofs.traffic_lemmas.delivery.{Coming.{dispatches_begin, takings_begin}, Receiving.{arrivals_are_taken, state_is}}
-use Rattle.precision_law.proofs.traffic_lemmas.{delivery.{Once.delivered_once, Since.synchronised_before, Taken.takings_are_so}, schedule.Rows.rows_are_in_time}
-use Rattle.precision_law.proofs.traffic_lemmas.{delivery.Takers.end_delivers, spans.Spans.{has_time_at, synchronised_keep_time, values_are_reached_in_spans}}
-use Rattle.{precision_law.proofs.traffic_lemmas.faults.Channels.good_sources, schedule_tables.specs.declared.rule.Rule.TheVariants.BothChannels}
-use Rattle.run_law.{proofs.law.FirstPlaces.{by_number, number_is}, specs.law.Safety.{IsDelivered, IsInStep, IsOwed, IsRowInto, IsWindowEnd, ReachesPlace}}
-use Rattle.{run_law.{proofs.scenario.Devices.end_test, specs.records.Happenings.happenings}, schedule_tables.specs.{Schedule.EntersOn, Windows.window_end}}
+-- Each frame of the schedule that is owed to a synchronised device is delivered, and once.
+use Rattle.std.proofs.{Common.{max, suc-mul}, Math.Nat.mul-le-mul_right}
+use Rattle.net_plan.specs.{Bounds.IsGreatest, Places.IsEndSystem, Ranges.{IsInRange, IsVlInRange}}
+use Rattle.precision_law.{specs.traffic.{Delivered.IsSentIn, Ports.{IsRunTo, OwedFramesCome}, Spans.IsReachedInSpan}}
+use Rattle.precision_law.proofs.{law.Precision.{up_to_is, view_at, view_of}}
+use Rattle.precision_law.proofs.traffic_lemmas.{faults.Channels.{good_sources, switch_no_end}}
+use Rattle.precision_law.proofs.traffic_lemmas.{schedule.Rows.rows_are_in_time}
+use Rattle.precision_law.proofs.traffic_lemmas.Words
+use Words.{◌&&◌, ◌*◌, ◌++◌, ◌+ℤ◌, ◌+◌, ◌-◌, ◌<ℤ◌, ◌<◌, ◌==◌, ◌||◌, ◌∙◌, ◌∷◌, ◌≡◌, ◌≤◌, DeviceId, Down, Entry, FieldsFit}
+use Words.{Happening, HasGoodSources, IsBefore, IsCaused, IsDue, IsEntry, IsFounded, IsFoundedAt, IsGood, IsIn}
+use Words.{IsInSchedule, IsInSpan, IsOnChannel, IsTaking, IsTimedAt, IsView, Joining, Joints, LinkId, List, Network}
+use Words.{None, NoteBody, Option, Reaches, SaysTaken, Scenario, Some, Synchronised, Units, Up, View, VirtualLink, VlId}
+use Words.{Way, [], adjustment_after, adjustment_left, adjustment_stays, amount, ap, arith, arrives_at, before_of}
+use Words.{begins_late, behind_first, between, both_ways, cases_lt, cause_of, clocks_reach_sharply, earlier}
+use Words.{earlier_before, earlier_parts, epoch_time, eq-eqb, filter, fold-append, founded_at, in_all, in_between}
+use Words.{in_left, in_order, in_parts, inl, inr, ints, is_end, is_taken_in, is_turned_on_at, last_or, last_taken}
+use Words.{lt-ltb, nat_lt, numbered, numbered_in, one_device, option_and_then, place_of, pos, reaches_by, refl, room}
+use Words.{same_some, shown_at, slice_get, source_by, source_of, start_of, state_after, state_at_start, state_left}
+use Words.{state_with, steady, subst, suc, sym, target_by, target_of, time_of, true, tt_frame_by, within_run, zero, ℕ}
+use Rattle.precision_law.proofs.traffic_lemmas.delivery.{Taken.{delivered_ends, end_delivers, takings_are_so}}
+use Rattle.precision_law.proofs.traffic_lemmas.delivery.Coming
+use Coming.{dispatches_begin, frames_arrive_in_spans, spans_are_apart, takings_begin, takings_come_by_rows}
+use Rattle.precision_law.proofs.traffic_lemmas.delivery.Forwarding
+use Forwarding.{Brings, arrivals_are_taken, arrives_in_time, last_passes, no_later, none_last, rows_are_sent, says_so}
+use Forwarding.{state_is}
+use Rattle.precision_law.proofs.traffic_lemmas.ports.{Cycles.same_next}
+use Rattle.precision_law.proofs.traffic_lemmas.ports.{Dispatched.{cycle_is, offset_in_schedule, same_by_place}}
+use Rattle.precision_law.proofs.traffic_lemmas.spans.Spans
+use Spans.{Keeps, has_time_at, in_places, kept_by_all, kept_if, last_of, synchronised_keep_time}
+use Spans.{values_are_reached_in_spans}
+use Rattle.run_law.proofs.{law.FirstDeliveries.{by_number, front_founded, number_is}}
+use Rattle.run_law.proofs.{runs.Places.{chain, either_way, never_self}, scenario.Devices.end_test}
+use Rattle.run_law.specs.{control.Corrections.correction_value, declared.note.Note.Note}
+use Rattle.run_law.specs.{device.LocalClocks.local_before}
+use Rattle.run_law.specs.{law.Safety.{IsDelivered, IsInStep, IsOwed, IsRowInto, IsWindowEnd, ReachesPlace}}
+use Rattle.run_law.specs.{records.{Causes.IsChain, Happenings.happenings}}
+use Rattle.run_law.specs.{timed.Receptions.{comes_before, is_taken_before, taken_cycle}}
+use Rattle.schedule_tables.specs.{Schedule.EntersOn, Windows.window_end, declared.rule.Rule.TheVariants.BothChannels}
 use Rattle.tte_units.specs.declared.frames.channel.Channel.{Channel}
+use Rattle.run_law.specs.declared.judgement.Judgement.TheVariants as judgements
+use Rattle.run_law.specs.declared.judgement.Why.TheVariants as whys
 use Rattle.run_law.specs.declared.note.NoteBody.TheVariants as notes
+
+-- ---- a frame of the schedule is delivered once
+
+-- ---- rows into end systems
+
+-- what enters an end system comes from a switch
+pub comes_from_switch : Brings → {v : View} {place : ℕ} {entry : Entry} → IsView v
+    → IsEntry v.scenario.network place entry → is_end v.scenario.network (target_of entry) ≡ true
+    → IsGood v (source_of entry)
+comes_from_switch brings {v} {entry} is row end = by entry.row.way refl end
+  where
+    by : (w : Way) → entry.row.way ≡ w → is_end v.scenario.network (target_by entry.row.way entry.link) ≡ true → IsGood v (source_by entry.row.way entry.link)
+    by Up e end =
+        let joint = is.lawful.rules Joints entry.row.link.0 entry.link row.link in
+        let parent : is_end v.scenario.network entry.link.parent ≡ true = rw e at end
+        in
+        absurd (both_ways _ (switch_no_end joint.0 entry.link.parent is.lawful.range joint.1) parent)
+    by Down e end =
+        let joint = is.lawful.rules Joints entry.row.link.0 entry.link row.link in
+        rw e (brings.channels.switches v joint.0 entry.link.parent is joint.1)
+
+-- when an end system takes a frame of a cycle, it is in the cycle's span
+span_of : Brings → {v : View} (h : Happening) (device : DeviceId) (link : LinkId) (cause : ℕ) (vl : VlId) (cycle : ℕ)
+    → IsView v → FieldsFit v.scenario.network → IsGood v device → is_end v.scenario.network device ≡ true
+    → IsIn h v.records → SaysTaken h.note.body device link cause vl cycle → IsInSpan v cycle (time_of h)
+span_of brings {v} h device link cause vl cycle is fit good end i says =
+    let taking = takings_are_so v h device link cause vl cycle is i says in
+    let from_switch = comes_from_switch brings is taking.by_row.row
+    (rw taking.by_row.enters end) in
+    (takings_come_by_rows brings.blocks brings.senders v h device link cause vl cycle is fit good taking from_switch).in_span.span
+
+-- ---- two deliveries
+
+-- the place of a delivery
+delivered_place : (h : Happening) (device : DeviceId) (link : LinkId) (cause : ℕ) (vl : VlId) (cycle : ℕ) → h.note.body ≡ notes.Delivered device link cause vl
+    cycle → place_of h ≡ time_of h ∷ 12 ∷ device.0 ∷ link.0 ∷ cause ∷ []
+delivered_place h device link cause vl cycle is = rw is
+
+-- what is before a delivery is so by its time, or by its link and cause
+before_by : (t u d : ℕ) (link other : LinkId) (cause second : ℕ) → IsBefore (t ∷ 12 ∷ d ∷ link.0 ∷ cause ∷ []) (u ∷ 12 ∷ d ∷ other.0 ∷ second ∷ [])
+    → (nat_lt t u || (t == u && comes_before link cause other second)) ≡ true
+before_by t u d link other cause second (inl lt) = (let less = lt-ltb t u lt in rw less refl)
+before_by t u d link other cause second (inr both) = grind (arith, eq-eqb, nat_lt, lt-ltb)
+
+module _ (device : DeviceId) (vl : VlId) (t : ℕ) (link : LinkId) (cause at : ℕ) where
+  -- the record of a taking passes the test of what was taken before
+  passes_test : (by : LinkId) (from cycle : ℕ) → (nat_lt at t || (at == t && comes_before by from link cause)) ≡ true
+      → is_taken_before device vl t link cause at (notes.Delivered device by from vl cycle) ≡ true
+  passes_test by from cycle order = grind (arith, eq-eqb)
+
+  -- what passes it took the frame in some cycle
+  cycle_of : (body : NoteBody) → is_taken_before device vl t link cause at body ≡ true
+      → (cycle : ℕ) × (taken_cycle body ≡ Some cycle)
+  cycle_of (notes.Accepted other by from of_vl cycle) e = (cycle, refl)
+  cycle_of (notes.Delivered other by from of_vl cycle) e = (cycle, refl)
+  cycle_of body e = absurd cc
+
+-- no delivery of a cycle stands before another
+none_before : Brings → {v : View} (h g : Happening) (device : DeviceId) (link other : LinkId) (cause second : ℕ)
+    (vl : VlId) (cycle : ℕ) → IsView v → FieldsFit v.scenario.network → IsGood v device → IsIn h v.records
+    → IsIn g v.records → h.note.body ≡ notes.Delivered device link cause vl cycle
+    → g.note.body ≡ notes.Delivered device other second vl cycle → IsBefore (place_of h) (place_of g) → ⊥
+none_before brings {v} h g device link other cause second vl cycle is fit good i j one two order =
+    let end = delivered_ends g device other second vl cycle is j two in
+    let taking = takings_are_so v g device other second vl cycle is j (inr two) in
+    let t = time_of g in
+    let p = λ (x : Happening). is_taken_before device vl t other second (time_of x) x.note.body in
+    let in_front : IsIn h taking.front = elim (in_parts h taking.front (g ∷ taking.rest) (subst (IsIn h) taking.split i)) [
+      | inl l ↦ l
+      | inr (inl same) ↦ absurd (never_self (place_of g) (rw same at order))
+      | inr (inr later) ↦
+          absurd (never_self (place_of h)
+          (chain (place_of h) (place_of g) (place_of h) order
+          (behind_first place_of (IsDue v.scenario) taking.front taking.rest g h (subst (IsFounded place_of (IsDue v.scenario)) taking.split is.run.founded)
+          later)))
+    ] in
+    let here = subst (λ q. IsBefore q (t ∷ 12 ∷ device.0 ∷ other.0 ∷ second ∷ [])) (delivered_place h device link cause vl cycle one)
+    (subst (λ q. IsBefore (place_of h) q) (delivered_place g device other second vl cycle two) order) in
+    let hit : p h ≡ true = ap (is_taken_before device vl t other second (time_of h)) one ∙ passes_test device vl t other second (time_of h) link cause cycle
+    (before_by (time_of h) t device.0 link other cause second here) in
+    by taking in_front hit end (last_or None (filter p taking.front)) refl
+  where
+    by : (taking : IsTaking v g device other second vl cycle) → IsIn h taking.front → is_taken_before device vl (time_of g) other second (time_of h)
+        h.note.body ≡ true → is_end v.scenario.network device ≡ true
+        → (o : Option Happening) → last_or None (filter (λ x. is_taken_before device vl (time_of g) other second (time_of x) x.note.body) taking.front) ≡ o → ⊥
+    by taking in_front hit end None e =
+        none_last (λ x. is_taken_before device vl (time_of g) other second (time_of x) x.note.body) taking.front h e in_front hit
+    by taking in_front hit end (Some r) e =
+        let p = λ (x : Happening). is_taken_before device vl (time_of g) other second (time_of x) x.note.body in
+        let test = last_passes p taking.front r e in
+        let number = cycle_of device vl (time_of g) other second (time_of r) r.note.body test.1 in
+        let says = says_so device vl number.0 (time_of g) other second r r.note.body refl test.1 number.1 in
+        let in_all : IsIn r v.records = subst (IsIn r) (sym taking.split) (in_left r taking.front (g ∷ taking.rest) test.0) in
+        let founded = front_founded place_of (IsDue v.scenario) taking.front (g ∷ taking.rest)
+        (subst (IsFounded place_of (IsDue v.scenario)) taking.split is.run.founded) in
+        let behind = no_later h r (last_of p None taking.front r h (in_places v.scenario [] taking.front founded) e in_front hit) in
+        let span_h = span_of brings h device link cause vl cycle is fit good end i (inr one) in
+        let span_r = span_of brings r device says.link says.cause vl number.0 is fit good end in_all says.says in
+        let span_g = span_of brings g device other second vl cycle is fit good end j (inr two) in
+        elim (cases_lt number.0 cycle) [
+          | inl lt ↦ (let wrong = spans_are_apart v number.0 cycle (time_of r) (time_of h) is lt span_r span_h in
+              omega arith)
+          | inr ge ↦ elim (cases_lt cycle number.0) [
+            | inl lt ↦ (let wrong = spans_are_apart v cycle number.0 (time_of g) (time_of r) is lt span_g span_r in
+                omega (arith, says.by_then))
+            | inr le ↦
+                grind (arith, number.0, is_taken_in, last_taken, taking.front, time_of, option_and_then, number.1, eq-eqb, both_ways, taking.anew)
+          ]
+        ]
+
+-- two deliveries of a cycle are one
+delivered_once : Brings → {v : View} (h g : Happening) (device : DeviceId) (link other : LinkId)
+    (cause second : ℕ) (vl : VlId) (cycle : ℕ) → IsView v → FieldsFit v.scenario.network → IsGood v device
+    → IsIn h v.records → IsIn g v.records → h.note.body ≡ notes.Delivered device link cause vl cycle
+    → g.note.body ≡ notes.Delivered device other second vl cycle → h ≡ g
+delivered_once brings h g device link other cause second vl cycle is fit good i j one two =
+    elim (either_way (place_of h) (place_of g)) [
+      | inl before ↦ absurd (none_before brings h g device link other cause second vl cycle is fit good i j one two
+          before)
+      | inr (inl same) ↦ same_by_place h g is i j same
+      | inr (inr behind) ↦ absurd (none_before brings g h device other link second cause vl cycle is fit good j i two
+          one behind)
+    ]
+
+-- ---- a device that is synchronised right after its clock reaches its schedule was so before
+
+-- ---- a correction point is no place of the schedule
+
+-- a clock does not reach both at one time
+apart : {v : View} {device : DeviceId} (n : ℕ) {value : ℕ} (m : ℕ) {t : ℕ} → IsView v → IsInSchedule v.sizes value
+    → Reaches v.scenario v.records device (pos (n * v.sizes.cycle + value)) t
+    → Reaches v.scenario v.records device (pos (m * v.sizes.cycle + v.sizes.correction)) t → ⊥
+apart {v} {device} n {value} m {t} is within reaches point =
+    let a = clocks_reach_sharply v device (pos (n * v.sizes.cycle + value)) t is reaches in
+    let b = clocks_reach_sharply v device (pos (m * v.sizes.cycle + v.sizes.correction)) t is point in
+    let space = room is in
+    elim (cases_lt m n) [
+      | inl lt ↦
+          let more : suc m * v.sizes.cycle ≤ n * v.sizes.cycle = mul-le-mul_right v.sizes.cycle (omega arith) in
+          let one = suc-mul m v.sizes.cycle in
+          omega (
+            arith,
+            ints,
+            a.least,
+            b.most,
+            within.begins,
+            space.eight_errors,
+            space.errors.reach_is,
+            space.errors.clock_is,
+            space.cycles,
+          )
+      | inr ge ↦ elim (cases_lt n m) [
+        | inl lt ↦
+            let more : suc n * v.sizes.cycle ≤ m * v.sizes.cycle = mul-le-mul_right v.sizes.cycle (omega arith) in
+            let one = suc-mul n v.sizes.cycle in
+            omega (
+              arith,
+              ints,
+              a.most,
+              b.least,
+              within.ends,
+              space.eight_errors,
+              space.errors.reach_is,
+              space.errors.clock_is,
+            )
+        | inr le ↦
+            let whole : m * v.sizes.cycle ≡ n * v.sizes.cycle = rw (let same : m ≡ n = omega arith in same) in
+            omega (
+              arith,
+              ints,
+              a.least,
+              b.most,
+              within.begins,
+              space.eight_errors,
+              space.errors.reach_is,
+              space.errors.clock_is,
+            )
+      ]
+    ]
+
+-- ---- no correction, no change
+
+-- the device has no correction at the time
+abbrev pub HasNoCorrection : View → DeviceId → ℕ → Type 0
+HasNoCorrection v device t =
+    (g : Happening) (cycle : ℕ) (by adjustment : Units) → IsIn g v.records → time_of g ≡ t → g.note.body ≡ notes.Corrected device cycle by adjustment → ⊥
+
+-- at the time at which its clock reaches its schedule it has none
+none_there : {v : View} {device : DeviceId} (n : ℕ) {value t : ℕ} → IsView v → IsInSchedule v.sizes value
+    → Reaches v.scenario v.records device (pos (n * v.sizes.cycle + value)) t → HasNoCorrection v device t
+none_there {v} {device} n {t} is within reaches g cycle by adjustment there same body =
+    let s = v.scenario in
+    let found = founded_at s v.records g is.run.founded there in
+    let cause : IsCaused s found.front g.note.time (notes.Corrected device cycle by adjustment) =
+    subst (IsCaused s found.front g.note.time) body found.due.cause in
+    let value_is : correction_value s.network cycle ≡ pos (cycle * v.sizes.cycle + v.sizes.correction) =
+    rw (sym (cycle_is is))
+    (ap (λ k. pos (cycle * v.sizes.cycle + k)) (sym (rw is.sizes))) in
+    let reached =
+    reaches_by v.records (earlier_before (before_of is found)) cause.corrected.reached in
+    let at : Reaches s v.records device (correction_value s.network cycle) t =
+    subst (Reaches s v.records device (correction_value s.network cycle)) same reached in
+    apart n cycle is within reaches (rw value_is at at)
+
+-- without one no record of the time makes it synchronised
+keeps_then : (v : View) (device : DeviceId) {h : Happening} (found : IsFoundedAt v.scenario v.records h)
+    (body : NoteBody) → HasNoCorrection v device (time_of h) → IsCaused v.scenario found.front h.note.time body
+    → Keeps device body
+keeps_then v device found (notes.State other state cause whys.On) none c old timed =
+    kept_if (device.0 == other.0) state old (λ same is. (cc)) timed
+keeps_then v device found (notes.State other state cause whys.Frame) none c old timed =
+    kept_if (device.0 == other.0) state old (λ same is. (cc)) timed
+keeps_then v device found (notes.State other state cause whys.SyncClique) none c old timed =
+    kept_if (device.0 == other.0) state old (λ same is. (cc)) timed
+keeps_then v device found (notes.State other state cause whys.AsyncClique) none c old timed =
+    kept_if (device.0 == other.0) state old (λ same is. (cc)) timed
+keeps_then v device {h} found (notes.State other state cause whys.Correction) none c old timed =
+    kept_if (device.0 == other.0) state old (λ same is.
+    let made = c.2 in
+    let g = made.3 in
+    let there : IsIn g v.records = subst (IsIn g) (sym found.whole) (in_left g found.front (h ∷ found.rest) (numbered_in found.front cause g made.4.there)) in
+    let body = made.5 ∙ ap (λ d. notes.Corrected d made.0 made.1 made.2) (one_device device other same) in
+    none g made.0 made.1 made.2 there made.4.same_time body) timed
+keeps_then v device found (notes.Permanent other link cause point judgements.Integrates) none c old timed =
+    kept_if (device.0 == other.0) Joining old (λ same is. cc) timed
+keeps_then v device found (notes.Compressed other opened own cycle members judgements.Integrates) none c old timed =
+    kept_if (device.0 == other.0) Joining old (λ same is. cc) timed
+keeps_then v device found body none c old timed = timed
+
+-- a device that is synchronised behind the time at which its clock reaches its schedule was so before it
+synchronised_before : {v : View} {device : DeviceId} (n : ℕ) {value t : ℕ} → IsView v
+    → IsInSchedule v.sizes value → Reaches v.scenario v.records device (pos (n * v.sizes.cycle + value)) t
+    → state_left v device (t + 1) ≡ Synchronised → state_left v device t ≡ Synchronised
+synchronised_before {v} {device} n {t} is within reaches timed =
+    let none = none_there n is within reaches in
+    let parts = earlier_parts t (t + 1) v.records (in_order is) (omega arith) in
+    let whole : state_after v.scenario (earlier t v.records ++ between t (t + 1) v.records) device ≡ Synchronised =
+    rw parts at timed in
+    let split = fold-append (λ state h. state_with device state h.note.body)
+    (state_at_start (start_of v.scenario.network device))
+    (earlier t v.records) (between t (t + 1) v.records) in
+    kept_by_all device (between t (t + 1) v.records) (λ h i.
+    let there = in_between t (t + 1) v.records h i in
+    let found = founded_at v.scenario v.records h is.run.founded there.0 in
+    let late = there.1 in
+    let early = there.2 in
+    let here : t ≡ time_of h = omega arith in
+    keeps_then v device found h.note.body (subst (HasNoCorrection v device) here none) found.due.cause)
+    (state_after v.scenario (earlier t v.records) device) (rw split at whole)
+
+-- ---- each frame that is owed is delivered
 
 -- ---- what is owed, in the view of the run up to the end of the last window
 

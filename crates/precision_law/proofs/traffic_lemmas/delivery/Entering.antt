@@ -6,7 +6,8 @@ use Rattle.precision_law.proofs.traffic_lemmas.Words.{List, Network, None, Occur
 use Rattle.precision_law.proofs.traffic_lemmas.Words.{cycle_at, entry_entering, eq-eqb, eqb-true, false, field, int_lt, is_synchronised, is_taken_in, le-ltb}
 use Rattle.precision_law.proofs.traffic_lemmas.Words.{link_at, nat_lt, not, octets_fault, offset_in_cycle, option_and_then, option_map, option_map_or}
 use Rattle.precision_law.proofs.traffic_lemmas.Words.{refl, row_fault, slice_get, suc, sym, true, way_to, window_of, zero, ℕ}
-use Rattle.{precision_law.proofs.traffic_lemmas.{delivery.Coming.same_id, schedule.Rows.rows_go_once}, tte_units.proofs.general_lemmas.Integers.not_below}
+use Rattle.precision_law.proofs.traffic_lemmas.{delivery.Coming.same_id, schedule.Rows.rows_go_once}
+use Rattle.tte_units.proofs.general_lemmas.Integers.{not_below}
 use Rattle.{precision_law.proofs.traffic_lemmas.delivery.Faultless.entering, run_law.specs.timed.Arrivals.{is_row_with, occurs_in, row_entering}}
 use Rattle.{run_law.specs.scenario.Ways.{is_way, is_way_of}, std.proofs.lemmas.Bool.{le-leb, not_from_true}, tte_units.proofs.general_lemmas.Lists.found_passes}
 

@@ -6,7 +6,9 @@ use Rattle.precision_law.proofs.traffic_lemmas.Words.{entry_arrival, entry_enter
 use Rattle.precision_law.proofs.traffic_lemmas.Words.{is_synchronised, is_taken_in, length, link_at, nat_le, none_first, not, not_less, octets_fault}
 use Rattle.precision_law.proofs.traffic_lemmas.Words.{octets_or_fault, offset_in_cycle, option_and_then, option_map_or, refl, row_fault, slice_get}
 use Rattle.{precision_law.proofs.traffic_lemmas.Words.{taken_or_fault, timed_arrival, true, way_to, window_of, ℕ}, run_law.specs.timed.Arrivals.occurs_in}
-use Rattle.{schedule_tables.proofs.Entries.entry_by, std.proofs.lemmas.Bool.{leb-true, not-false, or_parts}, tte_units.proofs.general_lemmas.Lists.find_at}
+use Rattle.std.proofs.lemmas.Bool.{leb-true, not-false, or_parts}
+use Rattle.schedule_tables.proofs.Margins.{entry_by}
+use Rattle.tte_units.proofs.general_lemmas.Lists.{find_at}
 use Rattle.run_law.specs.declared.steps.Arrival.TheVariants as arrivals
 
 -- ---- the row

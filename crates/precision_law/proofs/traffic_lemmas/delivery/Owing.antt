@@ -1,15 +1,16 @@
 -- What is due by events alone is owed.
-use Rattle.net_plan.proofs.{Shape.rules_give_trees}
-use Rattle.net_plan.specs.{Paths.IsUplink, declared.{ids.{DeviceId.DeviceId, VlId.VlId}, network.Network.Network}}
-use Rattle.precision_law.proofs.law.Precision.{view_at, view_of}
+use Rattle.net_plan.proofs.Trees.{rules_give_trees}
+use Rattle.precision_law.proofs.{law.Precision.{view_at, view_of}}
+use Rattle.precision_law.proofs.traffic_lemmas.{ports.Dispatched.{cycle_is, offset_in_schedule}}
+use Rattle.precision_law.proofs.traffic_lemmas.{spans.Spans.{values_are_reached, values_are_reached_in_spans}}
+use Rattle.precision_law.proofs.traffic_lemmas.delivery.{Forwarding.Brings}
 use Rattle.precision_law.proofs.traffic_lemmas.delivery.Delivering.{IsFrontOf, from_before, last_in_schedule}
 use Rattle.precision_law.proofs.traffic_lemmas.delivery.Delivering.{reaches_in, row_on, timed_behind}
-use Rattle.precision_law.proofs.traffic_lemmas.delivery.Sent.{Brings}
+use Rattle.schedule_tables.proofs.Margins.{same_or_other, shape_rules}
+use Rattle.net_plan.specs.{Paths.IsUplink, declared.{ids.{DeviceId.DeviceId, VlId.VlId}, network.Network.Network}}
 use Rattle.precision_law.proofs.traffic_lemmas.faults.Channels.{source_on, switch_channel, switch_no_end, target_on}
 use Rattle.precision_law.proofs.traffic_lemmas.ports.Cycles.{same_hull, same_next}
-use Rattle.precision_law.proofs.traffic_lemmas.ports.Dispatched.{cycle_is, offset_in_schedule}
 use Rattle.precision_law.proofs.traffic_lemmas.schedule.Rows.{rows_are_in_time, rows_go_once}
-use Rattle.precision_law.proofs.traffic_lemmas.spans.{Reaching.values_are_reached, Spans.values_are_reached_in_spans}
 use Rattle.precision_law.proofs.traffic_lemmas.Words.{◌*◌, ◌+ℤ◌, ◌+◌, ◌<◌, ◌∙◌, ◌≡◌, ◌≤ℤ◌, ◌≤◌, Entry, Happening, Hull}
 use Rattle.precision_law.proofs.traffic_lemmas.Words.{IsEntry, IsGood, Sizes, IsInSpan, IsOnChannel, IsSwitchOf}
 use Rattle.precision_law.proofs.traffic_lemmas.Words.{IsTimedAt, IsView, Joints, List, Reaches, Stands}
@@ -22,7 +23,6 @@ use Rattle.precision_law.specs.traffic.{Owing.{DueFramesAreOwed, IsDueAt}}
 use Rattle.run_law.proofs.scenario.Devices.{end_test}
 use Rattle.run_law.specs.{device.States.is_off, law.Safety.{IsInStep, IsOwed, ReachesPlace}}
 use Rattle.run_law.specs.records.Happenings.{happenings, up_to}
-use Rattle.schedule_tables.proofs.{Entries.same_or_other, Margins.shape_rules}
 use Rattle.schedule_tables.specs.{Windows.window_end}
 use Rattle.schedule_tables.specs.declared.rule.Rule.TheVariants.{Forwarding, Senders, Sources}
 use Rattle.net_plan.specs.declared.tables.Way.{TheVariants.{Down, Up}, Way}

@@ -1,20 +1,30 @@
--- The records by which devices take frames of the schedule.
-use Rattle.{net_plan.specs.declared.event.What.TheVariants.Send, run_law.specs.timed.Receptions.{ArrivesAs, arrival_of}, sync_state.proofs.StateFacts.up_state}
-use Rattle.{pcf_codec.specs.Decoding.decoded, run_law.specs.device.States.is_off, std.{proofs.Common.arith, specs.Prelude.{Err, Ok, Result}}}
-use Rattle.{pcf_codec.specs.{EtherType.pcf_type, declared.refusal.PcfRefusal.PcfRefusal}, run_law.specs.records.Happenings.{octets_by, octets_from}}
-use Rattle.{precision_law.{proofs.records.Points.same_adjustment, specs.traffic.Taken.TakingsAreSo}, run_law.proofs.law.FirstPlaces.numbered_front}
-use Rattle.precision_law.proofs.traffic_lemmas.Words.{◌&&◌, ◌==◌, ◌∙◌, ◌∷◌, ◌≡◌, ◌≢◌, Arrival, Bool, DeviceId, Down, Happening, IsCaused}
-use Rattle.precision_law.proofs.traffic_lemmas.Words.{IsFoundedAt, IsIn, IsTaking, IsView, KeepsRules, Link, LinkId, List, Network, None, NoteBody}
-use Rattle.precision_law.proofs.traffic_lemmas.Words.{Option, Pcf, Reason, Scenario, Signal, Some, Standpoint, Units, Up, View, VlId, Way, ap}
-use Rattle.precision_law.proofs.traffic_lemmas.Words.{before_of, cause_of, clock_of, control, cycle_at, earlier, earlier_before, eq-eqb, eqb-true, false, field}
-use Rattle.precision_law.proofs.traffic_lemmas.Words.{founded_at, if◌then◌else◌, in_left, inl, inr, is_broken, is_relay, is_taken_in, is_turned_on_at}
-use Rattle.precision_law.proofs.traffic_lemmas.Words.{last_taken, launched, link_at, not, numbered, numbered_in, option_map}
-use Rattle.precision_law.proofs.traffic_lemmas.Words.{option_map_or, refl, same_some, shown_at, standpoint, state_after, state_before, subst, sym}
-use Rattle.precision_law.proofs.traffic_lemmas.{Words.{target_by, time_of, timed, true, way_to, ℕ}, delivery.Faultless.{TakesIn, finds_none}}
-use Rattle.{precision_law.proofs.traffic_lemmas.ports.Ends.ends_differ, run_law.specs.scenario.{Devices.is_parent_of, Ways.{is_cut, receiver_of}}}
-use Rattle.run_law.specs.control.{Arrivals.{control_arrival, frame_fault, frame_or_fault}, Wires.{Arrives, Launch, signal_of}}
+-- Which devices take frames of the schedule, and by which records.
+use Rattle.std.{proofs.Common.arith, specs.Prelude.{Err, Ok, Result}}
+use Rattle.net_plan.specs.declared.event.What.TheVariants.{Send}
+use Rattle.pcf_codec.specs.{Decoding.decoded, EtherType.pcf_type, declared.refusal.PcfRefusal.PcfRefusal}
+use Rattle.precision_law.{specs.traffic.Taken.TakingsAreSo}
+use Rattle.precision_law.proofs.{records.Points.same_adjustment}
+use Rattle.precision_law.proofs.traffic_lemmas.{delivery.Faultless.{TakesIn, finds_none}, ports.Ends.ends_differ}
+use Rattle.precision_law.proofs.traffic_lemmas.Words
+use Words.{if◌then◌else◌, ◌&&◌, ◌==◌, ◌∙◌, ◌∷◌, ◌≡◌, ◌≢◌, Arrival, Bool, DeviceId, Down, Entry, Happening, IsCaused}
+use Words.{IsFoundedAt, IsIn, IsTaking, IsView, KeepsRules, Link, LinkId, List, Network, None, NoteBody, Option, Pcf}
+use Words.{Reason, SaysTaken, Scenario, Signal, Some, Standpoint, Units, Up, View, VlId, Way, amount, ap, before_of}
+use Words.{both_ways, cause_of, clock_of, control, cycle_at, earlier, earlier_before, entry_arrival, entry_entering}
+use Words.{eq-eqb, eqb-true, false, field, founded_at, in_left, inl, inr, is_broken, is_end, is_relay, is_taken_in}
+use Words.{is_turned_on_at, last_taken, launched, length, link_at, not, numbered, numbered_in, octets_fault}
+use Words.{octets_or_fault, option_map, option_map_or, refl, row_fault, same_some, shown_at, standpoint, state_after}
+use Words.{state_before, subst, sym, taken_or_fault, target_by, time_of, timed, timed_arrival, true, way_to, ℕ}
+use Rattle.run_law.{proofs.law.FirstDeliveries.numbered_front}
+use Rattle.run_law.specs.{device.States.is_off, records.Happenings.{octets_by, octets_from}}
+use Rattle.run_law.specs.{scenario.{Devices.is_parent_of, Ways.{is_cut, receiver_of}}}
+use Rattle.run_law.specs.{timed.Receptions.{ArrivesAs, arrival_of}}
+use Rattle.run_law.specs.control.{Arrivals.{control_arrival, frame_fault, frame_or_fault}}
+use Rattle.run_law.specs.control.{Wires.{Arrives, Launch, signal_of}}
+use Rattle.sync_state.proofs.StateFacts.{up_state}
 use Rattle.run_law.specs.declared.note.NoteBody.TheVariants as notes
 use Rattle.run_law.specs.declared.steps.Arrival.TheVariants as arrivals
+
+-- ---- the records by which devices take frames of the schedule
 
 -- ---- ways
 
@@ -220,3 +230,96 @@ takings_are_so v h device link cause vl cycle is i says =
           of_arrival vl cycle is i found (ap cause_of body)
           (own ∙ ap (octets_by v.scenario.network found.front) body) (inr refl) caused
     ]
+
+-- ---- which devices accept frames of the schedule, and to which they are delivered
+
+-- what is dropped is neither
+no_drop : (reason : Reason) (vl : VlId) (cycle : ℕ) (b : Bool)
+    → arrivals.Dropped reason ≡ (if b then arrivals.Delivered vl cycle else arrivals.Accepted vl cycle) → ⊥
+no_drop reason vl cycle true e = cc
+no_drop reason vl cycle false e = cc
+
+-- what is delivered is so to an end system
+by_kind : (end b : Bool) (own vl : VlId) (number cycle : ℕ) → (if end then arrivals.Delivered own number else arrivals.Accepted own number) ≡ (if b
+    then arrivals.Delivered vl cycle else arrivals.Accepted vl cycle) → end ≡ b
+by_kind true true own vl number cycle e = refl
+by_kind false false own vl number cycle e = refl
+by_kind true false own vl number cycle e = absurd cc
+by_kind false true own vl number cycle e = absurd cc
+
+-- what is taken is delivered to end systems, and accepted by switches
+taken_by_kind : (network : Network) (device : DeviceId) (link : LinkId) (at : Standpoint) (octets : List ℕ) (last : VlId → Option ℕ) (vl : VlId) (cycle : ℕ)
+    (b : Bool) → timed_arrival network device link at octets last ≡ (if b then arrivals.Delivered vl cycle else arrivals.Accepted vl cycle)
+    → is_end network device ≡ b
+taken_by_kind network device link at octets last vl cycle b e = by (octets_fault network at octets) e
+  where
+    by_row : (entry : Entry) (o : Option Reason) → taken_or_fault network device at entry o ≡ (if b then arrivals.Delivered vl cycle
+        else arrivals.Accepted vl cycle) → is_end network device ≡ b
+    by_row entry (Some reason) e = absurd (no_drop reason vl cycle b e)
+    by_row entry None e = by_kind (is_end network device) b entry.row.vl vl _ cycle e
+
+    by_entry : (o : Option Entry) → entry_arrival network device at (length octets) last o ≡ (if b then arrivals.Delivered vl cycle
+        else arrivals.Accepted vl cycle) → is_end network device ≡ b
+    by_entry None e = absurd (no_drop _ vl cycle b e)
+    by_entry (Some entry) e = by_row entry (row_fault network at entry (length octets) (last entry.row.vl)) e
+
+    by : (o : Option Reason) → octets_or_fault network device link at octets last o ≡ (if b then arrivals.Delivered vl cycle else arrivals.Accepted vl cycle)
+        → is_end network device ≡ b
+    by (Some reason) e = absurd (no_drop reason vl cycle b e)
+    by None e = by_entry (entry_entering network device link (field 4 2 octets)) e
+
+module _ {v : View} (h : Happening) (device : DeviceId) (link : LinkId) (cause : ℕ) (vl : VlId) (cycle : ℕ)
+    (is : IsView v) (i : IsIn h v.records) where
+  -- a device to which a frame is delivered is an end system
+  pub delivered_ends : h.note.body ≡ notes.Delivered device link cause vl cycle
+      → is_end v.scenario.network device ≡ true
+  delivered_ends body =
+      let s = v.scenario in
+      let found = founded_at s v.records h is.run.founded i in
+      let caused : IsCaused s found.front h.note.time (notes.Delivered device link cause vl cycle) =
+      subst (IsCaused s found.front h.note.time) body
+      found.due.cause in
+      by found.front caused.signal (sym caused.becomes)
+    where
+      by : (front : List Happening) (signal : Signal) → arrival_of v.scenario front device (amount h.note.time) link
+          cause signal ≡ arrivals.Delivered vl cycle
+          → is_end v.scenario.network device ≡ true
+      by front (control frame) e =
+          absurd (never_control v.scenario.network device link
+          (standpoint v.scenario front device (amount h.note.time)) frame vl cycle (inr e))
+      by front (timed octets) e =
+          taken_by_kind v.scenario.network device link (standpoint v.scenario front device (amount h.note.time)) octets
+          (last_taken front device (amount h.note.time) link cause) vl cycle true e
+
+  -- and one that accepts is none
+  pub accepted_switches : h.note.body ≡ notes.Accepted device link cause vl cycle
+      → is_end v.scenario.network device ≡ false
+  accepted_switches body =
+      let s = v.scenario in
+      let found = founded_at s v.records h is.run.founded i in
+      let caused : IsCaused s found.front h.note.time (notes.Accepted device link cause vl cycle) =
+      subst (IsCaused s found.front h.note.time) body
+      found.due.cause in
+      by found.front caused.signal (sym caused.becomes)
+    where
+      by : (front : List Happening) (signal : Signal) → arrival_of v.scenario front device (amount h.note.time) link
+          cause signal ≡ arrivals.Accepted vl cycle
+          → is_end v.scenario.network device ≡ false
+      by front (control frame) e =
+          absurd (never_control v.scenario.network device link
+          (standpoint v.scenario front device (amount h.note.time)) frame vl cycle (inl e))
+      by front (timed octets) e =
+          taken_by_kind v.scenario.network device link (standpoint v.scenario front device (amount h.note.time)) octets
+          (last_taken front device (amount h.note.time) link cause) vl cycle false e
+
+  -- a switch accepts what it takes
+  pub switch_accepts : is_end v.scenario.network device ≡ false → SaysTaken h.note.body device link cause vl cycle
+      → h.note.body ≡ notes.Accepted device link cause vl cycle
+  switch_accepts switch (inl body) = body
+  switch_accepts switch (inr body) = absurd (both_ways _ switch (delivered_ends body))
+
+  -- an end system is delivered what it takes
+  pub end_delivers : is_end v.scenario.network device ≡ true → SaysTaken h.note.body device link cause vl cycle
+      → h.note.body ≡ notes.Delivered device link cause vl cycle
+  end_delivers end (inr body) = body
+  end_delivers end (inl body) = absurd (both_ways _ (accepted_switches body) end)

@@ -1,9 +1,13 @@
 -- There is a run up to each time.
 use Rattle.{net_plan.specs.Ranges.IsInRange, tte_units.specs.Amount.amount}
 use Rattle.precision_law.{specs.traffic.existence.Laws.{RunsExist, RunsExistToEachMark}}
-use Rattle.precision_law.proofs.traffic_lemmas.existence_lemmas.{Times.{IsBoundedBy, IsShaped, never_before_none, run_to_time}, bounds.Weights.{bound, size_of}}
-use Rattle.precision_law.proofs.traffic_lemmas.existence_lemmas.{bounds.Ranks.fits, decisions.{Places.place_parts, Ranks.{is_rank, place_decided}}}
-use Rattle.run_law.proofs.{law.FirstPlaces.{IsSplit, front_founded, split}, records.Told.{notes_of, told_from}, runs.Places.{before_next_time, chain, in_parts}}
+use Rattle.precision_law.proofs.traffic_lemmas.existence_lemmas.{bounds.Weights.{bound, fits, size_of}}
+use Rattle.precision_law.proofs.traffic_lemmas.existence_lemmas.Sweep
+use Sweep.{IsBoundedBy, IsShaped, never_before_none, run_to_time}
+use Rattle.precision_law.proofs.traffic_lemmas.existence_lemmas.decisions.{Places.place_parts}
+use Rattle.precision_law.proofs.traffic_lemmas.existence_lemmas.decisions.{Ranks.{is_rank, place_decided}}
+use Rattle.run_law.proofs.{law.FirstDeliveries.{IsSplit, front_founded, split}, records.Told.{notes_of, told_from}}
+use Rattle.run_law.proofs.{runs.Places.{before_next_time, chain, in_parts}}
 use Rattle.run_law.specs.{declared.note.Note.Note, records.Order.{IsBefore, IsIn}, runs.Runs.{IsFounded, IsFull, IsRun}, scenario.Scenarios.Scenario}
 use Rattle.run_law.specs.{records.{Happenings.{Happening, time_of}, Ranks.{key, members_in, place_of, rank}}, runs.DueRecords.{IsDue, IsScenarioRun}}
 use Rattle.std.proofs.{Common.{◌++◌, ◌+◌, ◌∙◌, ◌∷◌, ◌≡◌, ◌≤◌, List, [], ap, append_assoc, arith, inl, inr, refl, subst, sym, ℕ}, lemmas.Int.ints}

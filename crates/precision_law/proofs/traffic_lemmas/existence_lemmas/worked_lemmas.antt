@@ -1,8 +1,4 @@
-pub mod Lists
-pub mod InRange
+pub mod Schedule
+pub mod RoughDay
 pub mod Shape
-pub mod Trips
-pub mod Times
-pub mod Rows
 pub mod Accepted
-pub mod Rough

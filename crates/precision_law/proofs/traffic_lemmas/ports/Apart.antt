@@ -1,10 +1,13 @@
 -- No frame meets a frame of the schedule on a port.
-use Rattle.precision_law.{proofs.law.Precision.{view_at, view_of}, specs.traffic.Ports.{IsLeaving, PortsStayApart}}
+use Rattle.precision_law.{specs.traffic.Ports.{IsLeaving, PortsStayApart}}
+use Rattle.precision_law.proofs.{law.Precision.{view_at, view_of}}
+use Rattle.precision_law.proofs.traffic_lemmas.{delivery.Coming.dispatches_are_whole}
+use Rattle.precision_law.proofs.traffic_lemmas.ports.Dispatched.{dispatches_are_of_rows, dispatches_stand_apart}
+use Rattle.precision_law.proofs.traffic_lemmas.ports.Dispatched.{leavings_stand_apart}
+use Rattle.run_law.specs.law.Safety.{IsControlOnPort, IsTtOnPort, time_of_octets}
 use Rattle.precision_law.proofs.traffic_lemmas.Words.{◌*◌, ◌+◌, ◌<◌, ◌≡◌, ◌≢◌, ◌≤◌, BringsBlocks, BringsChannels, DeviceId, GivingsKeepAway, Happening}
 use Rattle.precision_law.proofs.traffic_lemmas.Words.{IsGood, IsRowDispatch, IsView, LinkId, NoteBody, Scenario, View, VlId, ap}
 use Rattle.precision_law.proofs.traffic_lemmas.Words.{arith, inl, inr, length, octet_time, port_time, refl, time_of, ℕ}
-use Rattle.{precision_law.proofs.traffic_lemmas.delivery.Whole.dispatches_are_whole, run_law.specs.law.Safety.{IsControlOnPort, IsTtOnPort, time_of_octets}}
-use Rattle.precision_law.proofs.traffic_lemmas.ports.{Dispatched.dispatches_are_of_rows, Leavings.leavings_stand_apart, TwoDispatches.dispatches_stand_apart}
 use Rattle.{run_law.specs.records.Happenings.happenings, std.proofs.Common.max}
 use Rattle.run_law.specs.declared.note.NoteBody.TheVariants as notes
 

@@ -1,8 +1,10 @@
 -- The two ends of a link, and the ways on which a device sends by it.
-use Rattle.net_plan.{proofs.{Shape.rules_give_trees, TableFacts.no_path}}
+use Rattle.std.proofs.Common.{arith}
+use Rattle.net_plan.proofs.Trees.{no_path, rules_give_trees}
+use Rattle.precision_law.proofs.traffic_lemmas.Words.{source_of, sym, true, ℕ}
+use Rattle.schedule_tables.proofs.Margins.{shape_rules}
 use Rattle.precision_law.proofs.traffic_lemmas.Words.{◌≡◌, ◌≢◌, ◌⊎◌, Down, Entry, IsEntry, IsSwitchOf, Joints, KeepsRules, Link, LinkId, Network, Some}
 use Rattle.precision_law.proofs.traffic_lemmas.Words.{Up, Way, closed, device_at, inr, is_end_system, link_at, opened, refl, same_some, source_by}
-use Rattle.{precision_law.proofs.traffic_lemmas.Words.{source_of, sym, true, ℕ}, schedule_tables.proofs.Margins.shape_rules, std.proofs.Common.arith}
 
 -- ---- the ends of a link
 

@@ -1,7 +1,10 @@
 -- The point that opened what a compression master sends.
-use Rattle.compression.{proofs.{Elements.{from_beyond, in_cases, in_head, in_none, in_tail}, Held.held-start}, specs.Middle.{last_but_one, middle_of, relative}}
-use Rattle.{compression.proofs.Firsts.firsts-start, std.proofs.Common.{◌*ℤ◌, Contains, int_le, map}, tte_units.proofs.general_lemmas.Integers.int_le-is}
-use Rattle.{compression.proofs.Growth.{end_of-least, end_of-most}, precision_law.proofs.traffic_lemmas.Words.{inl, inr, ints, pos, subst, sym, true, ℕ, ℤ}}
+use Rattle.std.proofs.Common.{◌*ℤ◌, Contains, int_le, map}
+use Rattle.compression.{specs.Middle.{last_but_one, middle_of, relative}}
+use Rattle.compression.proofs.Growth.{end_of-least, end_of-most, firsts-start, from_beyond, held-start, in_cases}
+use Rattle.compression.proofs.Growth.{in_head, in_none, in_tail}
+use Rattle.precision_law.proofs.traffic_lemmas.Words.{inl, inr, ints, pos, subst, sym, true, ℕ, ℤ}
+use Rattle.tte_units.proofs.general_lemmas.Integers.{int_le-is}
 use Rattle.compression.specs.Clusters.{AreClusters, Cluster, Point, beyond, cluster_of, end_of, firsts, has_master, of_cycle_within, with_first}
 use Rattle.precision_law.proofs.traffic_lemmas.Words.{◌++◌, ◌+ℤ◌, ◌-ℤ◌, ◌∙◌, ◌∷◌, ◌≡◌, ◌≤ℤ◌, Bool, List, [], and_parts, ap, arith, false, fold, if◌then◌else◌}
 use Rattle.tte_units.{proofs.Means.mean_of-floor, specs.Mean.mean_of}

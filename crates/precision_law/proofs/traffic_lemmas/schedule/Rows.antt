@@ -2,7 +2,8 @@
 use Rattle.precision_law.proofs.traffic_lemmas.Words.{◌*◌, ◌+◌, ◌<◌, ◌≡◌, ◌≤◌, ◌⊎◌, Entry, IsEntry, KeepsRules, Network, OccursIn, Sizes, amount, ap}
 use Rattle.precision_law.proofs.traffic_lemmas.Words.{arith, cases_lt, in_all, inl, inr, sym, ℕ}
 use Rattle.precision_law.specs.traffic.Rows.{RowsAreInTime, RowsComeInSchedule, RowsGoOnce, RowsStandApart}
-use Rattle.schedule_tables.{proofs.{Entries.{begun_below, occur_together}, EntryLemmas.one_entry}, specs.Delays.pcf_port_time}
+use Rattle.schedule_tables.{proofs.{Margins.{begun_below, occur_together}, SlotLemmas.one_entry}}
+use Rattle.schedule_tables.{specs.Delays.pcf_port_time}
 use Rattle.schedule_tables.specs.{Schedule.IsClearBefore, declared.rule.Rule.TheVariants.{LinksOnce, Periods, ScheduleStart, Spacing, WindowEnds}}
 
 -- ---- the schedule's begin

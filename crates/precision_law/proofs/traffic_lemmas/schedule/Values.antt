@@ -1,7 +1,8 @@
 -- The cycle of a local value and its place in the cycle.
 use Rattle.precision_law.proofs.traffic_lemmas.Words.{◌*◌, ◌+◌, ◌-◌, ◌<ℤ◌, ◌<◌, ◌∙◌, ◌≡◌, ◌≤ℤ◌, IsView, Network, View, ap, arith, cycle_at, ints, negsuc}
 use Rattle.{precision_law.proofs.traffic_lemmas.Words.{offset_in_cycle, pos, sym, ℕ, ℤ}, tte_units.proofs.general_lemmas.Integers.{whole as not_negative}}
-use Rattle.{precision_law.proofs.traffic_lemmas.ports.Dispatched.cycle_is, std.proofs.lemmas.Nat.{div-mul-add, mod-mul-add}}
+use Rattle.std.proofs.lemmas.Nat.{div-mul-add, mod-mul-add}
+use Rattle.precision_law.proofs.traffic_lemmas.ports.Dispatched.{cycle_is}
 
 -- the cycle of a network is not negative
 pub cycle_whole : {v : View} → IsView v → v.scenario.network.cycle.0 ≡ pos v.sizes.cycle

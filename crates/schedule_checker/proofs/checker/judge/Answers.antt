@@ -1,4 +1,4 @@
-use Rattle.schedule_checker.proofs.Trees.{tree_of}
+use Rattle.schedule_checker.proofs.Shape.{tree_of}
 use Rattle.{std.proofs.Common.{◌∙◌, sym}}
 use Rattle.schedule_checker.proofs.checker.judge.Goals as goal
 

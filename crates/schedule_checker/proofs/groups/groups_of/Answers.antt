@@ -1,4 +1,5 @@
-use Rattle.{schedule_checker.proofs.Grouping.{grouped, one_more}, std.proofs.lemmas.Option.slice_get-get_or}
+use Rattle.std.proofs.lemmas.Option.{slice_get-get_or}
+use Rattle.schedule_checker.proofs.EntryPlaces.{grouped, one_more}
 use Rattle.std.proofs.Common.{arith, get_or}
 use Rattle.schedule_checker.proofs.groups.groups_of.Goals as goal
 

@@ -1,4 +1,5 @@
-use Rattle.{schedule_checker.{proofs.Told.{keeps_next, plan_number, plan_rules, tells}, specs.Judging.plan_rule}, std.proofs.Common.{◌+◌, arith, get_or}}
+use Rattle.std.proofs.Common.{◌+◌, arith, get_or}
+use Rattle.schedule_checker.{proofs.FirstBroken.{keeps_next, plan_number, plan_rules, tells}, specs.Judging.plan_rule}
 use Rattle.schedule_checker.specs.declared.parts.PlanRule.TheVariants as plans
 use Rattle.schedule_checker.proofs.judge.judge_plan.Goals as goal
 

@@ -1,4 +1,5 @@
-use Rattle.{schedule_checker.proofs.{AtPlace.{if_past, if_there}, PortLemmas.IsApartFrom}, std.{proofs.Common.{◌∙◌, ap}, specs.Prelude.unsigned_abs}}
+use Rattle.std.{proofs.Common.{◌∙◌, ap}, specs.Prelude.unsigned_abs}
+use Rattle.schedule_checker.proofs.{AtPlace.{if_past, if_there}, EntryPlaces.IsApartFrom}
 use Rattle.schedule_checker.proofs.ports.is_apart.Goals as goal
 
 pub returns-in-Some : goal.returns-in-Some

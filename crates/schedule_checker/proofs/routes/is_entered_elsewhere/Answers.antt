@@ -1,5 +1,6 @@
 use Rattle.std.{proofs.{Common.{◌≢◌, rules, tests, ℕ}, lemmas.Iterator.{YieldsList-from_slice, cases_from_any}}, specs.Prelude.{IsSomeAnd, slice_get}}
-use Rattle.schedule_checker.{proofs.{RouteLemmas.entered_elsewhere, Selection.any_decides, SomePlaces.some_by}, specs.Routes.EntersSource}
+use Rattle.schedule_checker.{proofs.{Elements.any_decides, EntryPlaces.entered_elsewhere, SomePlaces.some_by}}
+use Rattle.schedule_checker.{specs.Routes.EntersSource}
 use Rattle.schedule_checker.proofs.routes.is_entered_elsewhere.Goals as goal
 
 pub returns : goal.returns

@@ -1,4 +1,5 @@
-use Rattle.{schedule_tables.{proofs.EntryLemmas.entry_pushed}, std.proofs.Common.{◌∷◌, [], ap, arith, length, length-append}}
+use Rattle.std.proofs.Common.{◌∷◌, [], ap, arith, length, length-append}
+use Rattle.schedule_tables.proofs.SlotLemmas.{entry_pushed}
 use Rattle.schedule_tables.proofs.entry.entries_of.Goals as goal
 
 pub loop-place-preserved : goal.loop-place-preserved

@@ -1,4 +1,4 @@
-use Rattle.schedule_tables.proofs.EntryLemmas.{in_range, one_entry}
+use Rattle.schedule_tables.proofs.SlotLemmas.{in_range, one_entry}
 use Rattle.schedule_tables.proofs.laws.entries_law.Goals as goal
 
 pub returns : goal.returns

@@ -1,4 +1,4 @@
-use Rattle.schedule_tables.proofs.RowLemmas.{rows_more}
+use Rattle.schedule_tables.proofs.SlotLemmas.{rows_more}
 use Rattle.schedule_tables.proofs.tables.timed_rows.Goals as goal
 
 pub loop-place-preserved : goal.loop-place-preserved

@@ -1,4 +1,4 @@
-use Rattle.sync_state.proofs.LawLemmas.{by_points}
+use Rattle.sync_state.proofs.VerdictLemmas.{by_points}
 use Rattle.sync_state.proofs.laws.corrected_by_points.Goals as goal
 
 pub returns : goal.returns

@@ -1,5 +1,5 @@
 use Rattle.std.proofs.Common.{◌∙◌}
-use Rattle.{sync_state.{proofs.VerdictLemmas.outnumbered}}
+use Rattle.sync_state.proofs.VerdictLemmas.{outnumbered}
 use Rattle.sync_state.proofs.sync.is_outnumbered.Goals as goal
 
 pub returns : goal.returns

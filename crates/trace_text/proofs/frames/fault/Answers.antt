@@ -1,4 +1,5 @@
-use Rattle.{std.proofs.Common.rules, trace_text.proofs.Digits.{miscounted_digits, wrong_digits}}
+use Rattle.std.proofs.Common.{rules}
+use Rattle.trace_text.proofs.Lowering.{miscounted_digits, wrong_digits}
 use Rattle.trace_text.proofs.frames.fault.Goals as goal
 
 pub returns-then-is_hexadecimal : goal.returns-then-is_hexadecimal

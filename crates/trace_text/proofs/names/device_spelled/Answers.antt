@@ -1,6 +1,7 @@
 use Rattle.std.{proofs.{Common.{◌∙◌, ap, refl, sym, ℕ}, lemmas.List.Elements.All-weaker}, specs.Option.option_map}
 use Rattle.net_plan.specs.{Bearers.device_names, NameText.IsNameText, Ranges.IsDeviceInRange, declared.{ids.DeviceId.DeviceId}}
-use Rattle.trace_text.{proofs.Bearing.{IsNamed, bears_utf8, named_place, named_within, place_absent}, specs.Names.{device_id, device_spelled}}
+use Rattle.trace_text.{proofs.WordsBack.{IsNamed, bears_utf8, named_place, named_within, place_absent}}
+use Rattle.trace_text.{specs.Names.{device_id, device_spelled}}
 use Rattle.trace_text.proofs.names.device_spelled.Goals as goal
 
 abbrev number : DeviceId → ℕ

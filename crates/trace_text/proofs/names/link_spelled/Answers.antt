@@ -1,6 +1,7 @@
 use Rattle.std.{proofs.{Common.{◌∙◌, ap, refl, sym, ℕ}, lemmas.List.Elements.All-weaker}, specs.Option.option_map}
 use Rattle.net_plan.specs.{Bearers.link_names, NameText.IsNameText, Ranges.IsLinkInRange, declared.{ids.LinkId.LinkId}}
-use Rattle.trace_text.{proofs.Bearing.{IsNamed, bears_utf8, named_place, named_within, place_absent}, specs.Names.{link_id, link_spelled}}
+use Rattle.trace_text.{proofs.WordsBack.{IsNamed, bears_utf8, named_place, named_within, place_absent}}
+use Rattle.trace_text.{specs.Names.{link_id, link_spelled}}
 use Rattle.trace_text.proofs.names.link_spelled.Goals as goal
 
 abbrev number : LinkId → ℕ

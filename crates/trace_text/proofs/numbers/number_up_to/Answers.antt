@@ -1,4 +1,5 @@
-use Rattle.{std.proofs.Common.{◌≡◌, get_or, length, rules, sym}, trace_text.proofs.Decimals.{number_empty, number_leading_zero, number_of_digits}}
+use Rattle.std.proofs.Common.{◌≡◌, get_or, length, rules, sym}
+use Rattle.trace_text.proofs.WordsBack.{number_empty, number_leading_zero, number_of_digits}
 use Rattle.trace_text.proofs.numbers.number_up_to.Goals as goal
 
 pub returns-then-is_empty-clause-value : goal.returns-then-is_empty-clause-value

@@ -1,4 +1,5 @@
-use Rattle.{std.proofs.Common.{◌+◌, ◌<◌, ◌≡◌, arith, get_or, length, rules, true}, trace_text.proofs.Decimals.{digit_shows, digit_spells, digits_pass}}
+use Rattle.std.proofs.Common.{◌+◌, ◌<◌, ◌≡◌, arith, get_or, length, rules, true}
+use Rattle.trace_text.proofs.WordsBack.{digit_shows, digit_spells, digits_pass}
 use Rattle.std.{proofs.lemmas.{Int.Digits.{digits_more, digits_value_more}, Str.Parse.digits_value-take-le}, specs.Char.{is_ascii_digit}}
 use Rattle.trace_text.proofs.numbers.value_up_to.Goals as goal
 

@@ -1,6 +1,9 @@
 use Rattle.tte_audit.proofs.Words.{◌+◌, ◌<◌, ◌∙◌, IsRefusedBy, Units, [], amount, ap, arith, events_of, happenings, length, refl, rules, subst, sym}
-use Rattle.tte_audit.proofs.{OnlyEnd.{ends_soon, only_end}, Parts.{begins_none, shorter}, SweptLines.{going_on, no_more_lines, refused_line, some_octets}}
-use Rattle.tte_audit.{proofs.UnderWay.{all_taken, events_paid, indexed, lacks_at, lacks_by_end, passes, swept_all}, specs.LineSwept.IsLineSwept}
+use Rattle.tte_audit.{specs.LineSwept.IsLineSwept}
+use Rattle.tte_audit.proofs.{RightEvents.{ends_soon, only_end}}
+use Rattle.tte_audit.proofs.{Sweeping.{going_on, no_more_lines, refused_line, some_octets}}
+use Rattle.tte_audit.proofs.ReportText
+use ReportText.{all_taken, begins_none, events_paid, indexed, lacks_at, lacks_by_end, passes, shorter, swept_all}
 use Rattle.tte_audit.specs.declared.refusal.AuditRefusal.TheVariants as refusals
 use Rattle.tte_audit.proofs.auditing.audit_records.Goals as goal
 

@@ -1,4 +1,4 @@
-use Rattle.tte_audit.proofs.{UnderWay.IsUnderWay, Words.{◌+◌, ◌≤◌, length}}
+use Rattle.tte_audit.proofs.{ReportText.IsUnderWay, Words.{◌+◌, ◌≤◌, length}}
 use Rattle.tte_audit.proofs.auditing.audit_records.Given as goal
 
 abbrev pub invariant-records : goal.invariant-records

@@ -1,4 +1,4 @@
-use Rattle.tte_audit.proofs.Befalling.{match_false, match_true}
+use Rattle.tte_audit.proofs.RightEvents.{match_false, match_true}
 use Rattle.tte_audit.proofs.auditing.judge.Goals as goal
 
 pub returns-in-Ok-true : goal.returns-in-Ok-true

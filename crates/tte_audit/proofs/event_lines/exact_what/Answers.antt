@@ -1,5 +1,5 @@
 use Rattle.trace_text.{proofs.EventsBack.words_back, specs.{EventReading.what_reader, Steps.words}}
-use Rattle.tte_audit.proofs.{WhatBack.{same_read, words_read, written_small}, Words.{◌∙◌, Err, Ok, [], ap, rules}}
+use Rattle.tte_audit.proofs.{Telling.{same_read, words_read, written_small}, Words.{◌∙◌, Err, Ok, [], ap, rules}}
 use Rattle.tte_audit.proofs.event_lines.exact_what.Goals as goal
 
 pub returns-then-not-has_no_capital-clause-is : goal.returns-then-not-has_no_capital-clause-is

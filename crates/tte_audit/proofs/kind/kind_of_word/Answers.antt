@@ -1,4 +1,4 @@
-use Rattle.tte_audit.{proofs.{Found.kind_found, Spelled.kind_back, Words.{◌∙◌, ap}}, specs.Spellings.kind_spelled}
+use Rattle.tte_audit.{proofs.{Telling.{kind_back, kind_found}, Words.{◌∙◌, ap}}, specs.Spellings.kind_spelled}
 use Rattle.tte_audit.proofs.kind.kind_of_word.Goals as goal
 
 pub returns-clause-back : goal.returns-clause-back

@@ -1,4 +1,5 @@
-use Rattle.tte_audit.proofs.{Arms.no_event_read, Parts.{no_lf, record_at, text_at}, Words.{◌+◌, ◌≡◌, BeginsWithRecord, List, None, Note, Some}}
+use Rattle.tte_audit.proofs.{ReportText.{no_lf, record_at, text_at}, Telling.no_event_read}
+use Rattle.tte_audit.proofs.{Words.{◌+◌, ◌≡◌, BeginsWithRecord, List, None, Note, Some}}
 use Rattle.tte_audit.{proofs.Words.{is_line_end, position, refl, rules, subst, sym, ℕ}, specs.Report.HasNoEvent}
 use Rattle.std.proofs.lemmas.List.{take_rest}
 use Rattle.tte_audit.proofs.lines.event_record.Goals as goal

@@ -1,4 +1,4 @@
-use Rattle.tte_audit.proofs.{Seeking.one_record, Words.{◌∙◌, List, Note, ap, sym, ℕ}}
+use Rattle.tte_audit.proofs.{Sweeping.one_record, Words.{◌∙◌, List, Note, ap, sym, ℕ}}
 use Rattle.tte_audit.specs.Report.{HasNoEvent, IsNextLine}
 use Rattle.tte_audit.proofs.lines.numbered_event.Goals as goal
 

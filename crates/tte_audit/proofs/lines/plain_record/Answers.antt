@@ -1,4 +1,5 @@
-use Rattle.tte_audit.proofs.{Arms.no_plain_read, Parts.{no_lf, record_at, text_at}, Seeking.one_record, Words.{◌+◌, ◌∙◌, ◌≡◌, BeginsWithRecord, None, Note, Some, ap}}
+use Rattle.tte_audit.proofs.{ReportText.{no_lf, record_at, text_at}, Sweeping.one_record, Telling.no_plain_read}
+use Rattle.tte_audit.proofs.{Words.{◌+◌, ◌∙◌, ◌≡◌, BeginsWithRecord, None, Note, Some, ap}}
 use Rattle.tte_audit.{proofs.Words.{List, is_line_end, position, rules, subst, sym, ℕ}, specs.Report.{HasNoEvent, IsNextLine}}
 use Rattle.std.proofs.lemmas.List.{take_rest}
 use Rattle.tte_audit.proofs.lines.plain_record.Goals as goal

@@ -1,4 +1,6 @@
-use Rattle.{net_plan.specs.NameText.IsNameText, std.specs.Prelude.IfSome, trace_text.proofs.Bearing.bears_utf8}
+use Rattle.std.specs.Prelude.{IfSome}
+use Rattle.net_plan.specs.NameText.{IsNameText}
+use Rattle.trace_text.proofs.WordsBack.{bears_utf8}
 use Rattle.{net_plan.specs.Ranges.IsDeviceInRange, std.proofs.lemmas.List.Elements.All-weaker, tte_audit.proofs.Words.{◌∙◌, List, subst, ℕ}}
 use Rattle.{net_plan.specs.declared.{ids.DeviceId.DeviceId, tables.Device.Device}, tte_audit.proofs.Bearers.{Bears, first_bears, none_bears, not_missed}}
 use Rattle.tte_audit.proofs.names.first_device_of_name.Goals as goal

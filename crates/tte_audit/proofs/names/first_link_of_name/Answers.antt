@@ -1,4 +1,5 @@
-use Rattle.{net_plan.specs.{NameText.IsNameText, Ranges.IsLinkInRange, declared.{ids.LinkId.LinkId, tables.Link.Link}}, trace_text.proofs.Bearing.bears_utf8}
+use Rattle.net_plan.specs.{NameText.IsNameText, Ranges.IsLinkInRange, declared.{ids.LinkId.LinkId, tables.Link.Link}}
+use Rattle.trace_text.proofs.WordsBack.{bears_utf8}
 use Rattle.{std.proofs.lemmas.List.Elements.All-weaker, tte_audit.proofs.{Bearers.{Bears, first_bears, none_bears, not_missed}, Words.{◌∙◌, List, subst, ℕ}}}
 use Rattle.std.specs.Prelude.{IfSome}
 use Rattle.tte_audit.proofs.names.first_link_of_name.Goals as goal

@@ -1,6 +1,8 @@
 use Rattle.{net_plan.specs.{NameText.IsNameText, Ranges.IsVlInRange}, std.specs.Prelude.IfSome}
 use Rattle.{net_plan.specs.declared.{ids.VlId.VlId, tables.VirtualLink.VirtualLink}, tte_audit.proofs.Bearers.{Bears, first_bears, none_bears, not_missed}}
-use Rattle.{std.proofs.lemmas.List.Elements.All-weaker, trace_text.proofs.Bearing.bears_utf8, tte_audit.proofs.Words.{◌∙◌, List, subst, ℕ}}
+use Rattle.std.proofs.lemmas.List.Elements.{All-weaker}
+use Rattle.trace_text.proofs.WordsBack.{bears_utf8}
+use Rattle.tte_audit.proofs.Words.{◌∙◌, List, subst, ℕ}
 use Rattle.tte_audit.proofs.names.first_vl_of_name.Goals as goal
 
 abbrev number : VlId → ℕ

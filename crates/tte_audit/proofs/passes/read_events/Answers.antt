@@ -1,5 +1,5 @@
 use Rattle.tte_audit.proofs.Words.{◌++◌, ◌+◌, ◌∷◌, ◌≡◌, AreTold, BeginsWith, [], arith, length, length-append, rules, subst, sym}
-use Rattle.tte_audit.{proofs.Parts.{begins_more, begins_none, no_octets_left, shorter}, specs.Telling.IsLineTold}
+use Rattle.tte_audit.{proofs.ReportText.{begins_more, begins_none, no_octets_left, shorter}, specs.Telling.IsLineTold}
 use Rattle.tte_audit.proofs.passes.read_events.Goals as goal
 
 pub lines-init : goal.lines-init

@@ -1,4 +1,4 @@
-use Rattle.tte_audit.{proofs.{Arms.{none_clock, none_compressed}, Words.subst}, specs.Kinds.Tells}
+use Rattle.tte_audit.{proofs.{Telling.{none_clock, none_compressed}, Words.subst}, specs.Kinds.Tells}
 use Rattle.tte_audit.proofs.plain_bodies.plain_of.Goals as goal
 
 pub returns-in-Compressed-clause-is : goal.returns-in-Compressed-clause-is

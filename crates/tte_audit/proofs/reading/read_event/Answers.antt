@@ -1,4 +1,4 @@
-use Rattle.tte_audit.proofs.{Arms.IsOfNoEvent, Words.{IsTextOf, rules, subst, sym}}
+use Rattle.tte_audit.proofs.{Telling.IsOfNoEvent, Words.{IsTextOf, rules, subst, sym}}
 use Rattle.tte_audit.proofs.reading.read_event.Goals as goal
 
 pub returns-in_err-event_line : goal.returns-in_err-event_line

@@ -1,4 +1,4 @@
-use Rattle.tte_audit.proofs.{Arms.{none_read, with_none}, Words.{IsTextOf, subst, sym}}
+use Rattle.tte_audit.proofs.{Telling.{none_read, with_none}, Words.{IsTextOf, subst, sym}}
 use Rattle.tte_audit.proofs.reading.read_note.Goals as goal
 
 pub returns-in-Some : goal.returns-in-Some

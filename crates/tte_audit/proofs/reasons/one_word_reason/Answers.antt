@@ -1,4 +1,4 @@
-use Rattle.tte_audit.proofs.{Found.reason_found, Spelled.reason_back, Words.{◌∙◌, sym}}
+use Rattle.tte_audit.proofs.{Telling.{reason_back, reason_found}, Words.{◌∙◌, sym}}
 use Rattle.tte_audit.proofs.reasons.one_word_reason.Goals as goal
 
 pub returns-clause-is : goal.returns-clause-is

@@ -1,4 +1,5 @@
-use Rattle.tte_audit.proofs.{Spelled.of_type, Words.{◌∙◌, ◌∷◌, ◌≡◌, List, Words, ap, codes, reason_words, rules, sym, ℕ}}
+use Rattle.tte_audit.proofs.{Telling.of_type}
+use Rattle.tte_audit.proofs.{Words.{◌∙◌, ◌∷◌, ◌≡◌, List, Words, ap, codes, reason_words, rules, sym, ℕ}}
 use Rattle.tte_audit.proofs.reasons.refusal.Goals as goal
 
 pub returns-then-eq-4-clause-is : goal.returns-then-eq-4-clause-is

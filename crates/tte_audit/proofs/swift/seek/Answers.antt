@@ -1,5 +1,5 @@
 use Rattle.tte_audit.proofs.Words.{◌++◌, ◌∙◌, List, [], ap, append_assoc, arith, refl, subst, sym, ℕ}
-use Rattle.tte_audit.{proofs.EventsRead.few_events, specs.Swift.{IsSought, IsSoughtOn}}
+use Rattle.tte_audit.{proofs.ReportText.few_events, specs.Swift.{IsSought, IsSoughtOn}}
 use Rattle.tte_audit.proofs.swift.seek.Goals as goal
 
 pub lines-init : goal.lines-init

@@ -1,5 +1,7 @@
-use Rattle.tte_audit.{proofs.{OnlyEnd.{ends_soon, only_end}, Parts.{no_octets_left, shorter}, UnderWay.{events_paid, indexed, passes}}, specs.Swift.AreAt}
-use Rattle.tte_audit.proofs.{SweptSwift.{at_first, at_last, goes_on}, Words.{◌≡◌, arith, events_of, happenings, length, rules, subst, sym}}
+use Rattle.tte_audit.{specs.Swift.AreAt}
+use Rattle.tte_audit.proofs.{ReportText.{events_paid, indexed, no_octets_left, passes, shorter}}
+use Rattle.tte_audit.proofs.{RightEvents.{ends_soon, only_end}, Sweeping.{at_first, at_last, goes_on}}
+use Rattle.tte_audit.proofs.{Words.{◌≡◌, arith, events_of, happenings, length, rules, subst, sym}}
 use Rattle.tte_audit.proofs.swift.swept.Goals as goal
 
 pub new-requires-clause-timely : goal.new-requires-clause-timely

@@ -1,4 +1,5 @@
-use Rattle.tte_audit.proofs.{SweptSwift.IsOnWay, Words.{◌+◌, ◌≤◌, AreEventsRight, EndWith, List, Note, Units, events_of, length}}
+use Rattle.tte_audit.proofs.{Sweeping.IsOnWay}
+use Rattle.tte_audit.proofs.{Words.{◌+◌, ◌≤◌, AreEventsRight, EndWith, List, Note, Units, events_of, length}}
 use Rattle.tte_audit.proofs.swift.swept.Given as goal
 
 abbrev pub invariant-records : goal.invariant-records

@@ -1,4 +1,5 @@
-use Rattle.tte_audit.{proofs.{Seeking.one_record, SweptSwift.{line_gone, some_so}, Words.{Note, ap, inl, subst, sym}}, specs.Report.{HasNoEvent, IsNextLine}}
+use Rattle.tte_audit.{proofs.{Sweeping.{line_gone, one_record, some_so}, Words.{Note, ap, inl, subst, sym}}}
+use Rattle.tte_audit.{specs.Report.{HasNoEvent, IsNextLine}}
 use Rattle.tte_audit.proofs.swift.take_line.Goals as goal
 
 pub returns-in-Some : goal.returns-in-Some

@@ -1,4 +1,5 @@
-use Rattle.{std.proofs.Common.{◌∙◌, ap}, tte_forms.{proofs.Puts.{lines_fail, lines_more}, specs.Putting.shown_by}}
+use Rattle.std.proofs.Common.{◌∙◌, ap}
+use Rattle.tte_forms.{proofs.Puts.{lines_fail, lines_more}, specs.Putting.shown_by}
 use Rattle.tte_forms.proofs.each_line.put_each.Goals as goal
 
 pub things-preserved : goal.things-preserved

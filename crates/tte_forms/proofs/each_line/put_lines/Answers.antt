@@ -1,4 +1,5 @@
-use Rattle.{std.proofs.Common.{inl, inr, refl}, tte_forms.{proofs.Puts.Ends-gives, specs.{Putting.shown_by, declared.status.Status.TheVariants.Done}}}
+use Rattle.std.proofs.Common.{inl, inr, refl}
+use Rattle.tte_forms.{proofs.Puts.Ends-gives, specs.{Putting.shown_by, declared.status.Status.TheVariants.Done}}
 use Rattle.tte_forms.proofs.each_line.put_lines.Goals as goal
 
 pub returns-in-Ok-clause-gives : goal.returns-in-Ok-clause-gives

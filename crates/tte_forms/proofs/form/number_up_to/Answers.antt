@@ -1,5 +1,5 @@
 use Rattle.std.{proofs.Common.{◌∙◌, ap, arith, rules, sym}, specs.Prelude.decimal}
-use Rattle.tte_forms.proofs.Numbers.{none_spelled, number_spelled, parsed_none, parsed_one}
+use Rattle.tte_forms.proofs.FormLemmas.{none_spelled, number_spelled, parsed_none, parsed_one}
 use Rattle.tte_forms.proofs.form.number_up_to.Goals as goal
 
 pub returns-in_default-clause-value : goal.returns-in_default-clause-value

@@ -1,4 +1,4 @@
-use Rattle.tte_io.proofs.InOrder.{gives_in_order}
+use Rattle.tte_io.proofs.LineReading.{gives_in_order}
 use Rattle.tte_io.proofs.laws.lines_in_order_law.Goals as goal
 
 pub returns : goal.returns

@@ -1,4 +1,5 @@
-use Rattle.{std.proofs.Common.{ap, arith, length, refl}, tte_io.proofs.LongLines.too_long_behind}
+use Rattle.std.proofs.Common.{ap, arith, length, refl}
+use Rattle.tte_io.proofs.LineReading.{too_long_behind}
 use Rattle.tte_io.proofs.taking.advance.Goals as goal
 
 pub returns-then-count-room_left-clause-advances : goal.returns-then-count-room_left-clause-advances

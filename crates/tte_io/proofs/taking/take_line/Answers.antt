@@ -1,5 +1,7 @@
 use Rattle.{std.proofs.{Common.{◌∙◌, arith, refl}, lemmas.Result.err_from_is_err_and}}
-use Rattle.tte_io.proofs.{Coming.outcome_told, Making.{found_too_long, kept_after_failure, making_advanced, making_filled, taken_at_end, taken_at_lf}}
+use Rattle.tte_io.proofs.LineReading
+use LineReading.{found_too_long, kept_after_failure, making_advanced, making_filled, outcome_told, taken_at_end}
+use LineReading.{taken_at_lf}
 use Rattle.tte_io.proofs.taking.take_line.Goals as goal
 
 pub returns-in_err-fill-clause-next : goal.returns-in_err-fill-clause-next

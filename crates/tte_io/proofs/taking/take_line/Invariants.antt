@@ -1,4 +1,5 @@
-use Rattle.{std.proofs.Common.{◌++◌, ◌-◌, ◌≡◌, ◌≤◌, false, length}, tte_io.{proofs.Making.Making, specs.Line.{ahead_limit, line_limit}}}
+use Rattle.std.proofs.Common.{◌++◌, ◌-◌, ◌≡◌, ◌≤◌, false, length}
+use Rattle.tte_io.{proofs.LineReading.Making, specs.Line.{ahead_limit, line_limit}}
 use Rattle.tte_io.proofs.taking.take_line.Given as goal
 
 abbrev pub invariant-reads : goal.invariant-reads

@@ -2,7 +2,8 @@
 use Rattle.{net_plan.specs.Ranges.IsInRange, tte_traces.specs.Lines.AreAdmitted}
 use Rattle.{net_plan.specs.declared.event.Event.Event, tte_observers.proofs.captures_lemmas.wires_lemmas.Words.{inl, inr, refl, subst, sym, way_lines, ℕ}}
 use Rattle.{tte_forms.specs.Answering.with_line, tte_observers.specs.captures.wires.{Answer.IsWireAnswer, Safely.{IsCaptureToFault, IsSilent, IsWholeCapture}}}
-use Rattle.{tte_forms.specs.networks.Accepting.MeansAccepted, tte_traces.proofs.Safely.{IsSafe, fault_safe, of_fault, of_whole, whole_safe}}
+use Rattle.tte_forms.specs.networks.Accepting.{MeansAccepted}
+use Rattle.tte_traces.proofs.Runs.{IsSafe, fault_safe, of_fault, of_whole, whole_safe}
 use Rattle.tte_observers.proofs.captures_lemmas.wires_lemmas.Words.{◌∙◌, ◌∷◌, ◌≡◌, Answer, EndsEither, IsNamed, LinkId, List, Network, Way, ap, head_octets}
 
 module _ (name : List ℕ) (way : Way) (network : Network) (range : IsInRange network) (octets trace : List ℕ) where

@@ -13,10 +13,10 @@ pub use Rattle.run_law.specs.declared.note.{Note.Note, NoteBody.NoteBody}
 pub use Rattle.run_law.specs.records.{Happenings.{Happening, happenings, time_of}, Order.{AllBefore, IsIn}, Ranks.{place_of, rank}}
 pub use Rattle.run_law.specs.scenario.{Scenarios.Scenario, Ways.is_way_of}
 pub use Rattle.tte_forms.proofs.{Octets.{for_all, for_more}, Puts.{PutFails-behind, PutsLines-append, PutsLines-none}}
+pub use Rattle.tte_traces.proofs.Runs.{AreFrom}
 pub use Rattle.tte_forms.specs.{Answering.{Answer, Gives, GivesOne}, Putting.{PutFails, PutsLines, Shown, shown_by}}
 pub use Rattle.tte_forms.specs.declared.status.Status.{Status, TheVariants.ReadFault}
 pub use Rattle.tte_io.specs.declared.ends.Sink.{Ghosts}
-pub use Rattle.tte_traces.proofs.Lasting.{AreFrom}
 pub use Rattle.tte_traces.specs.{Answer.AnswersAll, Ending.RunEnds, FaultLine.fault_status, Lines.AreAdmitted, Report.shown_as}
 pub use Rattle.tte_units.specs.Amount.{amount}
 pub use Rattle.tte_units.specs.declared.units.Units.{Units}

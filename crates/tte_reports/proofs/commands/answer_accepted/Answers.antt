@@ -1,4 +1,5 @@
-use Rattle.{tte_forms.specs.Putting.shown_by, tte_reports.proofs.{Answers.judged_by, Reports.{no_report_answered, report_given}}}
+use Rattle.tte_forms.specs.Putting.{shown_by}
+use Rattle.tte_reports.proofs.{Answers.judged_by, Reports.{no_report_answered, report_given}}
 use Rattle.tte_reports.proofs.commands.answer_accepted.Goals as goal
 
 pub returns-in-Ok-clause-gives : goal.returns-in-Ok-clause-gives

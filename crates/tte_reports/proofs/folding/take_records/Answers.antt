@@ -1,4 +1,4 @@
-use Rattle.tte_reports.proofs.Folded.{fewer_left, taken_all, taken_more, taken_none}
+use Rattle.tte_reports.proofs.Reports.{fewer_left, taken_all, taken_more, taken_none}
 use Rattle.{run_law.specs.declared.note.Note.Note, std.proofs.Common.{◌++◌, ◌∙◌, List, ap}}
 use Rattle.tte_reports.proofs.folding.take_records.Goals as goal
 

@@ -1,5 +1,6 @@
-use Rattle.{std.proofs.Common.{length, refl, subst}, tte_audit.proofs.OneAnswer.answer_law, tte_reports.proofs.Reports.audited_of}
-use Rattle.{tte_audit.specs.{Answers.IsAudited, Passing.IsIndexOf}, tte_reports.{proofs.RecordLines.begun_lines, specs.{Places.ArePlaces, Reports.AreLines}}}
+use Rattle.std.proofs.Common.{length, refl, subst}
+use Rattle.tte_audit.{proofs.OneAnswer.answer_law, specs.{Answers.IsAudited, Passing.IsIndexOf}}
+use Rattle.tte_reports.{proofs.Reports.{audited_of, begun_lines}, specs.{Places.ArePlaces, Reports.AreLines}}
 use Rattle.tte_reports.proofs.reading.audit_octets.Goals as goal
 
 pub returns-in-Ok-places_of-clause-judged : goal.returns-in-Ok-places_of-clause-judged

@@ -1,4 +1,4 @@
-use Rattle.tte_run.proofs.TopAnswers.{one_answer}
+use Rattle.tte_run.proofs.Answers.{one_answer}
 use Rattle.tte_run.proofs.top.answer_law.Goals as goal
 
 pub returns : goal.returns

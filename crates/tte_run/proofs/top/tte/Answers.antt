@@ -3,7 +3,8 @@ use Rattle.{tte_forms.{proofs.Facts.no_usage, specs.Forms.form_of}, tte_reports.
 use Rattle.{tte_forms.specs.{Faults.HasCause, frames.Answer.{IsShowStatus, show_answer}}, tte_observers.specs.captures.Answer.{IsCaptureStatus, capture_answer}}
 use Rattle.{tte_forms.specs.{Putting.{Shown, shown_by}, declared.{form.Form.Form, status.Status.Status}}, tte_observers.specs.votes.Answer.IsVoteStatus}
 use Rattle.tte_forms.specs.{declared.form.Form.TheVariants.{Audit, Capture, Check, Run, Show, Stamp, Storm, Vote, Wire}, networks.Checking.IsCheckStatus}
-use Rattle.{tte_observers.specs.{captures.wires.Answer.IsWireStatus, stamps.Answer.IsStampStatus}, tte_run.proofs.TopAnswers.{as_one, whole_as, words_as}}
+use Rattle.tte_observers.specs.{captures.wires.Answer.IsWireStatus, stamps.Answer.IsStampStatus}
+use Rattle.tte_run.proofs.Answers.{as_one, whole_as, words_as}
 use Rattle.tte_run.proofs.top.tte.Goals as goal
 
 faults_as : {f form : Option Form} → f ≡ form → (first second left : Option (List ℕ)) (status : Status) (old new : Shown) (A B U R P : Type 0)

@@ -1,4 +1,4 @@
-use Rattle.tte_traces.{proofs.Sources.no_memory, specs.Answer.IsTraceAnswer}
+use Rattle.tte_traces.{proofs.Ends.no_memory, specs.Answer.IsTraceAnswer}
 use Rattle.tte_traces.proofs.driving.follow_trace.Goals as goal
 
 pub returns-in-Err-clause-ends : goal.returns-in-Err-clause-ends

@@ -1,5 +1,6 @@
 use Rattle.{tte_forms.specs.Faults.PutFailed, tte_traces.proofs.Taken.gave_none, world_drive.specs.Observing.FailsBy}
-use Rattle.tte_traces.proofs.Ends.{IsStatusOf, ends_all, ends_fault, ends_for, ends_memory, ends_read, ends_unpassed, ends_write, memory_cause}
+use Rattle.tte_traces.proofs.Ends.{IsStatusOf, ends_all, ends_fault, ends_for, ends_memory, ends_read, ends_unpassed}
+use Rattle.tte_traces.proofs.Ends.{ends_write, memory_cause}
 use Rattle.tte_traces.{proofs.Words.{◌+◌, GaveEvents, Gives, [], arith, fault_answer, shown_by, subst, sym}, specs.Answer.IsTraceAnswer}
 use Rattle.tte_traces.proofs.driving.follow_world.Goals as goal
 

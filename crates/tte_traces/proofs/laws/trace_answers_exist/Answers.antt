@@ -1,4 +1,4 @@
-use Rattle.tte_traces.proofs.Existing.{trace_answers_exist}
+use Rattle.tte_traces.proofs.Runs.{trace_answers_exist}
 use Rattle.tte_traces.proofs.laws.trace_answers_exist.Goals as goal
 
 pub returns : goal.returns

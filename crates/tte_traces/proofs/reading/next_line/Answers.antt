@@ -1,5 +1,6 @@
-use Rattle.{tte_io.proofs.Coming.outcome_told, tte_traces.proofs.Words.{Err, Ok, TraceStop}}
-use Rattle.tte_traces.{proofs.TakenLines.{failed_over, found_over, unmoved, unread}, specs.declared.fault.TraceStop.TheVariants.{ReadFault, WriteFault}}
+use Rattle.tte_io.proofs.LineReading.{outcome_told}
+use Rattle.tte_traces.{proofs.{Admitted.{failed_over, found_over, unmoved, unread}, Words.{Err, Ok, TraceStop}}}
+use Rattle.tte_traces.{specs.declared.fault.TraceStop.TheVariants.{ReadFault, WriteFault}}
 use Rattle.tte_traces.proofs.reading.next_line.Goals as goal
 
 pub returns-in-Some-clause-next : goal.returns-in-Some-clause-next

@@ -1,6 +1,8 @@
-use Rattle.world_drive.proofs.Instants.{match_on, on_ok}
-use Rattle.world_drive.proofs.Meeting.{asked_for, befell, come_after, cut_at, cut_before, cut_event, may_befall, same_number, seen_event}
-use Rattle.world_drive.proofs.{More.{puts_memory, puts_on, puts_so_far}, Words.{◌++◌, ◌∷◌, CutsAtEvent, None, SeesEvent, [], told_by}}
+use Rattle.world_drive.proofs.{Driving.{puts_memory, puts_on, puts_so_far}}
+use Rattle.world_drive.proofs.{Words.{◌++◌, ◌∷◌, CutsAtEvent, None, SeesEvent, [], told_by}}
+use Rattle.world_drive.proofs.Earlier
+use Earlier.{asked_for, befell, come_after, cut_at, cut_before, cut_event, match_on, may_befall, on_ok, same_number}
+use Earlier.{seen_event}
 use Rattle.world_drive.proofs.seeing.see_event.Goals as goal
 
 pub see_until-requires-clause-seen : goal.see_until-requires-clause-seen

@@ -1,4 +1,5 @@
-use Rattle.world_drive.proofs.{More.{HasSeenMore, PutsSoFar}, Words.{◌+◌, ◌≡◌, IsUnderwayAt, List, NoteValue, Some, Start, amount, left_of, told_by}}
+use Rattle.world_drive.proofs.{Driving.{HasSeenMore, PutsSoFar}}
+use Rattle.world_drive.proofs.{Words.{◌+◌, ◌≡◌, IsUnderwayAt, List, NoteValue, Some, Start, amount, left_of, told_by}}
 use Rattle.net_plan.specs.declared.event.Event.{Event as EventValue}
 use Rattle.world_drive.proofs.seeing.see_instant.Given as goal
 

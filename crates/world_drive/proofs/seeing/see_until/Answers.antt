@@ -1,6 +1,11 @@
-use Rattle.world_drive.{proofs.{Placed.{end_stays, fewer}, exact_lemmas.Worlds.below_amount}, specs.Observing.instant_of}
-use Rattle.world_drive.proofs.{Instants.{given_before, underway_now}, Ways.{asked_limit, asked_still, past_near, past_order, room_now, way_reached}}
-use Rattle.world_drive.proofs.More.{cut_here, cut_in_instant, cut_one, puts_cut, puts_more, puts_none, puts_well, seen_instant, seen_none, seen_one, seen_until}
+use Rattle.world_drive.{specs.Observing.instant_of}
+use Rattle.world_drive.proofs.{exact_lemmas.Worlds.below_amount}
+use Rattle.world_drive.proofs.Driving
+use Driving.{cut_here, cut_in_instant, cut_one, puts_cut, puts_more, puts_none, puts_well, seen_instant, seen_none}
+use Driving.{seen_one, seen_until}
+use Rattle.world_drive.proofs.Earlier
+use Earlier.{asked_limit, asked_still, end_stays, fewer, given_before, past_near, past_order, room_now, underway_now}
+use Earlier.{way_reached}
 use Rattle.world_drive.proofs.Words.{◌++◌, ◌+◌, ◌∙◌, ◌∷◌, ◌≡◌, IsUnderwayAt, List, None, NoteValue, Some, StandsExact, [], amount, ap, arith}
 use Rattle.world_drive.proofs.{Words.{go_on, inl, inr, ints, refl, subst, sym, told_by}, exact_lemmas.Given.{comes_before, comes_to, given_none, is_before}}
 use Rattle.world_drive.proofs.{Words.{◌<ℤ◌, Option, Start, Units, pos, units_of, ℕ}, seeing.see_until.Goals.{In-Ok-true, In-Ok-true-record}}

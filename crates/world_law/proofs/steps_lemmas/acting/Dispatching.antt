@@ -1,24 +1,34 @@
--- A device dispatches a row's frame: its record, and how the device stands then.
-use Rattle.net_plan.proofs.SameIds.{same_link, same_vl}
-use Rattle.run_law.proofs.{law.FirstPlaces.{in_filter, numbered_front}, timed.Rows.at_hand_by}
-use Rattle.schedule_tables.{proofs.EntryLemmas.one_entry, specs.Dispatches.dispatch_order, specs.Entries.{IsEntry}}
+-- A device dispatches a row's frame, which a switch has stored: its record, and how the device stands then.
 use Rattle.std.proofs.Common.{◌*◌}
-use Rattle.world_law.proofs.steps_lemmas.Words.{never_self, Dispatches, Entry, Happening, HasAtHand, HasCleared, IsActOf, IsActing, IsDue}
-use Rattle.world_law.proofs.steps_lemmas.Words.{IsFirstTask, IsFounded, IsIn, IsLawful, IsPending, IsReadyAt, IsSet, IsSource, LinkId, List, Moment}
-use Rattle.world_law.proofs.steps_lemmas.Words.{Network, Node, None, Note, NoteBody, Reaches, RowId, Scenario, Stands, VlId, World, ℕ, [], acting}
-use Rattle.world_law.proofs.steps_lemmas.Words.{amount, ap, append-nil, arith, by_number, called, cause_of, changed_before, correcting, dispatch_body}
-use Rattle.world_law.proofs.steps_lemmas.Words.{dispatch_late, dispatches_same, dispatching, doing, earlier, false, filter, happenings, hearing_by}
-use Rattle.world_law.proofs.steps_lemmas.Words.{if◌then◌else◌, in_left, in_right, inl, inr, is_accepted, is_cut, key, last_in, last_unfollowed, length}
-use Rattle.world_law.proofs.steps_lemmas.Words.{members_in, moment_of, moves, nat_lt, numbered_within, option_to_list, place_of, pos, rank, reaches_back}
-use Rattle.world_law.proofs.steps_lemmas.Words.{reading_for, record_of, refl, same_device, subst, sym, task_place, time_of, true, up_back, value_is}
-use Rattle.world_law.proofs.steps_lemmas.Words.{◌++◌, ◌+◌, ◌∙◌, ◌∷◌, ◌≡◌, ◌≤ℤ◌, ◌≤◌, ArePutIn, Bool, Contains-push_cases, DeviceId}
-use Rattle.world_law.proofs.steps_lemmas.acting.{GoesOn.{IsPutAs, does, goes_on, left_on, put_now, sent_alike}, Kept.{may_act_now, ready_after}}
-use Rattle.world_law.proofs.steps_lemmas.acting.{OneAct.IsOneAct, Sending.{HasSentIt, as_put, did_deed, taken_then}, Stage.{IsActRecordAt, StageAt, IsActOn}}
-use Rattle.world_law.proofs.{Words.{AreComing, IsBefore, IsOwnSource, append_assoc, chain, parted}, rows.Dispatching.one_row}
-use Rattle.world_law.proofs.{acts.Dispatched.{dispatch_told, send_apart}, steps_lemmas.Words.{way_from, with_done}, steps_lemmas.acting.Dispatches.TellsRow}
-use Rattle.world_law.proofs.steps_lemmas.acting.Work.{IsAtWork, all_earlier, reaches}
+use Rattle.net_plan.proofs.SameIds.{same_link, same_vl}
+use Rattle.run_law.{proofs.{law.FirstDeliveries.{in_filter, numbered_front}, timed.Rows.at_hand_by}}
+use Rattle.run_law.{specs.{records.Happenings.octets_from, timed.Dispatching.{HasAccepted, last_accepted}}}
+use Rattle.schedule_tables.{proofs.SlotLemmas.one_entry, specs.{Dispatches.dispatch_order, Entries.IsEntry}}
+use Rattle.world_law.{specs.world.World.{AreStored, Stored, last_taking}}
+use Rattle.world_law.proofs.{Words.{AreComing, IsBefore, IsOwnSource, append_assoc, chain, parted}}
+use Rattle.world_law.proofs.{acts.NoActs.{dispatch_told, send_apart}}
+use Rattle.world_law.proofs.rows.{AtHand.{IsForwarded, IsReaching, at_hand, filter_earlier, taken_sooner}}
+use Rattle.world_law.proofs.rows.{Dispatching.one_row}
+use Rattle.world_law.proofs.steps_lemmas.Words
+use Words.{if◌then◌else◌, ◌++◌, ◌+◌, ◌∙◌, ◌∷◌, ◌≡◌, ◌≤ℤ◌, ◌≤◌, ArePutIn, Bool, Contains-push_cases, DeviceId}
+use Words.{Dispatches, Entry, Happening, HasAtHand, HasCleared, IsActOf, IsActing, IsDue, IsFirstTask, IsFounded, IsIn}
+use Words.{IsLawful, IsPending, IsReadyAt, IsSet, IsSource, LinkId, List, Moment, Network, Node, None, Note, NoteBody}
+use Words.{Reaches, RowId, Scenario, Some, Stands, VlId, World, [], acting, amount, ap, append-nil, arith, by_number}
+use Words.{called, cause_of, changed_before, correcting, dispatch_body, dispatch_late, dispatches_same, dispatching}
+use Words.{doing, earlier, earlier_still, false, filter, happenings, hearing_by, in_left, in_right, inl, inr}
+use Words.{is_accepted, is_cut, key, last_in, last_unfollowed, length, members_in, moment_of, moves, nat_lt, never_self}
+use Words.{numbered, numbered_within, option_map_or, option_to_list, place_of, pos, rank, reaches_back, reading_for}
+use Words.{record_of, refl, same_device, subst, suc, sym, task_place, time_of, true, up_back, value_is, way_from}
+use Words.{with_done, zero, ℕ}
+use Rattle.world_law.proofs.steps_lemmas.acting.{Kept.{TellsRow, may_act_now, ready_after}}
+use Rattle.world_law.proofs.steps_lemmas.acting.OneAct
+use OneAct.{HasSentIt, IsActOn, IsActRecordAt, IsOneAct, StageAt, as_put, did_deed, taken_then}
+use Rattle.world_law.proofs.steps_lemmas.acting.Work
+use Work.{IsAtWork, IsPutAs, all_earlier, does, goes_on, left_on, put_now, reaches, sent_alike}
 use Rattle.run_law.specs.declared.note.NoteBody.TheVariants as kinds
 use Rattle.run_law.specs.declared.steps.Act.TheVariants as acts
+
+-- ---- a device dispatches a row's frame: its record, and how the device stands then
 
 -- ---- it is a dispatch
 
@@ -55,7 +65,7 @@ pub dispatches_it : {s : Scenario} {hs coming : List Happening} (other : List Ha
 dispatches_it {s} {hs} {coming} other {now} {device} row {entry} {cause} {cycle} w also p due is hand =
     let same = all_earlier s hs coming other now (λ z i. (w.of_now z i).0) also in
     let given =
-    sym (Rattle.world_law.proofs.runs.Firsts.earlier_still now hs other (λ z i. omega arith)) in
+    sym (Rattle.world_law.proofs.runs.Worlds.earlier_still now hs other (λ z i. omega arith)) in
     let frame = p.1.own.1 in
     let one = one_entry s.network row.0 frame.entry entry frame.is is in
     let reached : Reaches s (hs ++ coming) device (pos (cycle * amount s.network.cycle + amount entry.row.offset)) now =
@@ -361,3 +371,71 @@ dispatches_one {reading} {stands} {s} {world} {notes} {old} {device} {machine} {
             it = it;
           };
     }
+
+-- ---- a frame that a switch dispatches is stored: it is that of the last record by which the switch took one
+
+-- the switch holds the frame of the entry's virtual link, and it is at hand by the record of its number
+pub record IsHeldFrame (s : Scenario) (hs : List Happening) (stored : List Stored) (now : ℕ) (device : DeviceId) (entry : Entry) (cycle : ℕ) : Type 0 where
+  pub there : (e : Stored) × IsIn e stored × (e.device ≡ device) × (e.vl ≡ entry.row.vl)
+  pub hand : (e : Stored) → IsIn e stored → e.device ≡ device → e.vl ≡ entry.row.vl → HasAtHand s.network hs device entry now e.number cycle
+  pub some : (e : Stored) → IsIn e stored → e.device ≡ device → e.vl ≡ entry.row.vl → 1 ≤ e.number
+  pub octets : (e : Stored) → IsIn e stored → e.device ≡ device → e.vl ≡ entry.row.vl → e.octets ≡ octets_from hs e.number
+
+-- a number of a record is not 0
+numbered_some : (hs : List Happening) (n : ℕ) {h : Happening} → numbered hs n ≡ Some h → 1 ≤ n
+numbered_some hs zero e = absurd cc
+numbered_some hs (suc n) e = omega arith
+
+-- what is stored of it is of the last taking
+stored_of : {hs : List Happening} {stored : List Stored} (device : DeviceId) (vl : VlId) (taking : Happening)
+    (e : Stored) → AreStored hs stored → last_taking hs device vl ≡ Some taking → IsIn e stored → e.device ≡ device
+    → e.vl ≡ vl → (e.number ≡ taking.note.number) × (e.octets ≡ taking.octets)
+stored_of device vl taking e are last there of_device of_vl = grind arith
+
+-- a switch that has to dispatch a row of which it is not the sender holds its frame
+pub held_frame : {M : Type 0} (stands : M → Network → DeviceId → Node → Type 0) (s : Scenario) (hs coming : List Happening) (now : ℕ)
+    (device : DeviceId) (machine : M) (node : Node) (row : RowId) (cycle : ℕ) (stored : List Stored) (r : ℕ) (more : List ℕ)
+    → StageAt stands s hs coming now device machine node r more → AreStored hs stored → (p : IsPending s.network device node (doing (dispatching row cycle)))
+    → reading_for s.network node (doing (dispatching row cycle)) ≤ℤ pos (s.reading device now)
+    → (p.1.own.1.entry.vl.sender ≡ device → ⊥) → IsHeldFrame s hs stored now device p.1.own.1.entry cycle
+held_frame stands s hs coming now device machine node row cycle stored r more st are p due other =
+    let has = p.1.own.1 in
+    let entry = has.entry in
+    let reached : Reaches s (hs ++ coming) device (pos (cycle * amount s.network.cycle + amount entry.row.offset)) now =
+    rw (value_is row cycle has.is) at (reaches st.work p.1 due) in
+    let r : IsReaching s (hs ++ coming) device node row entry cycle now = grind (arith, has.is, has.leaves) in
+    let hand = at_hand has r in
+    by r (record { is = has.is; leaves = has.leaves; other = other }) hand.0 hand.1
+  where
+    by : IsReaching s (hs ++ coming) device node row p.1.own.1.entry cycle now → IsForwarded s.network device row.0 p.1.own.1.entry → (cause : ℕ)
+        → HasAtHand s.network (hs ++ coming) device p.1.own.1.entry now cause cycle → IsHeldFrame s hs stored now device p.1.own.1.entry cycle
+    by r f cause (inl sender) = absurd (other sender.0)
+    by r f cause (inr took) =
+        let vl = p.1.own.1.entry.row.vl in
+        let accepted : Happening → Bool = λ h. is_accepted device vl h.note.body in
+        let same = earlier_still now hs coming (λ z i. omega arith) in
+        let taken = took.1.taken in
+        let last : last_accepted hs device vl now ≡ Some taken =
+        rw same at took.1.last in
+        let all =
+        filter_earlier accepted now hs (λ h i e. taken_sooner r f h (in_left h hs coming i) e) in
+        let taking : last_taking hs device vl ≡ Some taken = rw all at last in
+        let there : IsIn taken hs = grind (arith, last_in, filter, in_filter) in
+        let number = by_number s hs taken st.given there in
+        record {
+          there = (are.all device vl taken taking);
+          hand = λ e i of_device of_vl.
+              let accepted : HasAccepted hs device vl now e.number cycle = record {
+                taken = taken;
+                last = last;
+                number = (stored_of device vl taken e are taking i of_device of_vl).0;
+                link = took.1.link;
+                from = took.1.from;
+                is = took.1.is;
+              } in
+              inr (took.0, accepted);
+          some = λ e i of_device of_vl.
+              rw (stored_of device vl taken e are taking i of_device of_vl).0
+              (numbered_some hs taken.note.number number);
+          octets = grind (arith, stored_of, option_map_or, numbered);
+        }

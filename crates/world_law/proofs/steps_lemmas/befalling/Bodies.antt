@@ -2,7 +2,8 @@
 use Rattle.world_law.proofs.steps_lemmas.Words.{◌++◌, ◌<◌, ◌∷◌, ◌≡◌, ◌≤◌, Befell, Bool, DeviceId, Happening, Integrating, IsIn, IsOfThisTime, IsSendLost, Link}
 use Rattle.world_law.proofs.steps_lemmas.Words.{LinkId, List, None, NoteBody, On, Option, Scenario, Some, Up, What, [], ap, arith, bodies_of, cause_of, false}
 use Rattle.world_law.proofs.steps_lemmas.Words.{if◌then◌else◌, inl, inr, is_broken, is_cut, length, length-append, link_at, option_map_or, refl, subst, sym}
-use Rattle.world_law.{proofs.steps_lemmas.{Words.{true, ℕ}, befalling.Calm.is_calm}, specs.{steps.Befalling.befell_bodies, world.World.AreInOrder}}
+use Rattle.world_law.{proofs.steps_lemmas.{Words.{true, ℕ}, befalling.EventRecords.is_calm}}
+use Rattle.world_law.{specs.{steps.Befalling.befell_bodies, world.World.AreInOrder}}
 use Rattle.net_plan.specs.declared.event.What.TheVariants as events
 use Rattle.run_law.specs.declared.note.NoteBody.TheVariants as notes
 use Rattle.run_law.proofs.records.Members.{from_flat}

@@ -1,6 +1,8 @@
 -- A machine acts several times at one moment, and comes to an end.
-use Rattle.{run_law.specs.machines.Nodes.turning_on, world_law.proofs.{rows.Dispatching.lawful, steps_lemmas.{Words.{ℕ}, steps.Passed.no_task}}}
-use Rattle.world_law.proofs.{growing.Acts.{acts_are_few, may_act_then, one_more_act}, steps_lemmas.{growing.FromZero.kept_from_zero, hearing.Calling.may_call}}
+use Rattle.run_law.specs.machines.Nodes.{turning_on}
+use Rattle.world_law.proofs.{growing.FewActs.{acts_are_few, may_act_then, one_more_act}, rows.Dispatching.lawful}
+use Rattle.world_law.proofs.steps_lemmas.{Words.ℕ, growing.FromZero.kept_from_zero, hearing.Calling.may_call}
+use Rattle.world_law.proofs.steps_lemmas.{steps.Passed.no_task}
 use Rattle.world_law.proofs.steps_lemmas.Words.{◌++◌, ◌+◌, ◌^◌, ◌∷◌, ◌≡◌, ◌≤◌, DeviceId, IsBefore, IsHeld, IsReadyAt, IsSteady, Joining, List, MayCall}
 use Rattle.world_law.proofs.steps_lemmas.Words.{Network, Node, NoteBody, Phase, Ripe, Scenario, State, Units, Verdict, [], acting, amount, arith}
 use Rattle.world_law.proofs.steps_lemmas.Words.{cases_lt, chain, happenings, inl, inr, length, length-append, moment_of, rank_of_call, refl}

@@ -1,20 +1,397 @@
--- A frame on a wire arrives, and its device's machine hears it.
-use Rattle.run_law.specs.machines.{Answers.after_arrival, Calls.MayArrive}
-use Rattle.world_law.proofs.steps_lemmas.Words.{ComesFirst, DeviceId, Happening, IsBefore, IsHeld, IsIn, IsKept, IsNoTaking, IsOut, IsSet}
-use Rattle.world_law.proofs.steps_lemmas.Words.{IsSteady, IsWithout, LinkId, List, Network, Node, Note, OnWire, Scenario, Some, Stands, StandsBehind}
-use Rattle.world_law.proofs.steps_lemmas.Words.{TakenFrame, VlId, World, ℕ, ℤ, [], amount, ap, arith, arrival_body, arrival_of, arriving}
-use Rattle.world_law.proofs.steps_lemmas.Words.{bears_on, behind, called, chain, comes_first, devices_then, eq-eqb, false, happenings, held_aside}
-use Rattle.world_law.proofs.steps_lemmas.Words.{if◌then◌else◌, in_parts, in_right, inl, inr, is_end, known_aside, length, moment_of, moves_no_other, ne_eqb}
-use Rattle.world_law.proofs.steps_lemmas.Words.{never_self, no_task_at, place_of, ports_still, pos, rank, refl, signal_of, slice_get, some_same, stands_on}
-use Rattle.world_law.proofs.steps_lemmas.Words.{subst, sym, taken_in, time_of, waiting_still, wire_place, wires_move}
-use Rattle.world_law.proofs.steps_lemmas.Words.{◌++◌, ◌+◌, ◌<◌, ◌==◌, ◌^◌, ◌∙◌, ◌∷◌, ◌≡◌, ◌≤ℤ◌, ◌≤◌, AreOfNetwork, ArePutIn, AreSettled, Arrival}
-use Rattle.world_law.proofs.steps_lemmas.hearing.Timed.{IsAfterGiven, heard_as_all, kept_judges, no_taking}
-use Rattle.world_law.proofs.steps_lemmas.hearing.{Called.{After, kept_by, kept_called, out_called}, Calling.may_call, Judging.{broken_drops, out_drops}}
-use Rattle.world_law.proofs.steps_lemmas.hearing.{Putting.{IsHeardAs, IsReceived, IsReceiving, least_rank, received}, Receptions.{device_there, placed_at}}
-use Rattle.world_law.proofs.steps_lemmas.hearing.{Ranked.{accepted_high, delivered_high, rank_is}, Settling.arrival_put, Took.took}
-use Rattle.world_law.proofs.{devices.Working.rested, putting.Bearing.frames_aside, putting.Moving.{goes_by, kept_moves}, putting.StandsOn.{StandsHere, shown_still}}
-use Rattle.world_law.{proofs.steps_lemmas.hearing.Takings.{IsQuiet, IsTakingBy, kept_taking}, specs.world.Calls.HasHeard}
+-- A frame on a wire arrives: its device hears and judges it, and its record is settled at its place.
+use Rattle.run_law.{proofs.runs.{Places.earlier_time, SameSteps.same_arrival}}
+use Rattle.run_law.specs.{device.Standpoints.{clock_of, cycle_at}, machines.{Answers.after_arrival, Calls.MayArrive}}
+use Rattle.run_law.specs.{timed.Arrivals.{entry_arrival, entry_entering, row_fault, taken_or_fault}}
+use Rattle.world_law.{specs.world.Calls.HasHeard}
+use Rattle.world_law.proofs.{devices.Working.rested, rows.AtHand.delivered_end}
+use Rattle.world_law.proofs.putting.{Alike.standpoint_in, Moving.{StandsHere, goes_by, kept_moves, shown_still}}
+use Rattle.world_law.proofs.putting.{Near.{arrival_near, filter_none, frames_aside, in_placed}, Numberless.timed_by}
+use Rattle.world_law.proofs.putting.{Placing.{two_at, well_of}, PutIn.split_two, Putting.placing_one}
+use Rattle.world_law.proofs.steps_lemmas.Words
+use Words.{if◌then◌else◌, ◌++◌, ◌+◌, ◌<◌, ◌==◌, ◌^◌, ◌∙◌, ◌∷◌, ◌≡◌, ◌≤ℤ◌, ◌≤◌, ◌⊎◌, AllBefore, AreOfNetwork, ArePutIn}
+use Words.{AreSettled, Arrival, Bool, ComesFirst, DeviceId, Entry, Happening, IsAllOfIt, IsBefore, IsCaused, IsHeld}
+use Words.{IsIn, IsKept, IsLeft, IsMoving, IsNoTaking, IsOut, IsOwnSource, IsSet, IsSteady, IsWithout, LinkId, List}
+use Words.{Network, Node, None, NoneBefore, Note, NoteBody, OnWire, Option, Pcf, PcfRefusal, Reason, Scenario, Signal}
+use Words.{Some, Standpoint, Stands, StandsBehind, TakenFrame, VlId, World, [], amount, ap, append-nil, append_assoc}
+use Words.{arith, arrival_at, arrival_body, arrival_of, arriving, bears_on, behind, called, cases_Bool, cases_lt, chain}
+use Words.{comes_first, control, control_arrival, devices_then, earlier_still, eq-eqb, eqb-true, false, field, filter}
+use Words.{filter-append, frame_fault, frame_or_fault, happenings, held_aside, in_left, in_parts, in_right, inl, inr}
+use Words.{is_end, is_last, is_parent_of, is_relay, is_taken_before, key, known_aside, last_or, last_taken}
+use Words.{last_taken_by, last_unfollowed, length, members_in, moment_of, moves_no_other, ne_eqb, never_self}
+use Words.{no_task_at, octets_fault, octets_or_fault, one_by, option_and_then, parted, place_of, ports_still, pos, rank}
+use Words.{refl, signal_of, slice_get, some_same, standpoint, stands_on, subst, sym, taken_cycle, taken_in, time_of}
+use Words.{timed, timed_arrival, true, waiting_still, wire_place, wires_move, ℕ, ℤ}
+use Rattle.world_law.proofs.steps_lemmas.hearing.{Called.{After, kept_by, kept_called, not_yet_acted, out_called}}
+use Rattle.world_law.proofs.steps_lemmas.hearing.{Calling.may_call, Took.took}
+use Rattle.world_law.proofs.steps_lemmas.hearing.Receptions
+use Receptions.{IsHeardAs, IsReceived, IsReceiving, arrives_now, comes_as, device_there, least_rank, outcome_at}
+use Receptions.{placed_at, received}
+use Rattle.world_law.proofs.steps_lemmas.hearing.Takings
+use Takings.{IsBefore2, IsQuiet, IsSooner, IsTakingBy, broken_drops, control_judged, kept_taking, out_drops}
+use Takings.{same_standpoint, taken_last, taking_is}
+use Rattle.run_law.specs.declared.note.NoteBody.TheVariants as notes
 use Rattle.run_law.specs.declared.steps.Arrival.TheVariants as arrivals
+
+-- ---- what becomes of a frame stands at least at the place of its kind, and what becomes of a control frame does not hang on records of its instant
+
+-- ---- ranks
+
+at_two : (device : DeviceId) (link : LinkId) (cause : ℕ) (is : Arrival) → 2 ≤ rank (arrival_body device link cause is)
+at_two device link cause (arrivals.Dropped reason) = omega arith
+at_two device link cause other = omega arith
+
+low_rank : (b : Bool) → (if b then 12 else 11) ≤ 13
+low_rank true = omega arith
+low_rank false = omega arith
+
+taking_rank : (device : DeviceId) (link : LinkId) (cause : ℕ) (vl : VlId) (cycle : ℕ) (b : Bool)
+    → (if b then 12 else 11) ≤ rank (arrival_body device link cause (if b then arrivals.Delivered vl cycle else arrivals.Accepted vl cycle))
+taking_rank device link cause vl cycle true = omega arith
+taking_rank device link cause vl cycle false = omega arith
+
+module _ (network : Network) (device : DeviceId) (link : LinkId) (cause : ℕ) (p : Standpoint) where
+  row_rank : (entry : Entry) (fault : Option Reason) → (if is_end network device then 12 else 11) ≤ rank
+      (arrival_body device link cause (taken_or_fault network device p entry fault))
+  row_rank entry (Some reason) = low_rank (is_end network device)
+  row_rank entry None =
+      taking_rank device link cause entry.row.vl (cycle_at network (clock_of p)) (is_end network device)
+
+  entry_rank : (size : ℕ) (last : VlId → Option ℕ) (entry : Option Entry)
+      → (if is_end network device then 12 else 11) ≤ rank
+      (arrival_body device link cause (entry_arrival network device p size last entry))
+  entry_rank size last None = low_rank (is_end network device)
+  entry_rank size last (Some entry) = row_rank entry (row_fault network p entry size (last entry.row.vl))
+
+  octets_rank : (octets : List ℕ) (last : VlId → Option ℕ) (fault : Option Reason)
+      → (if is_end network device then 12 else 11) ≤ rank
+      (arrival_body device link cause (octets_or_fault network device link p octets last fault))
+  octets_rank octets last (Some reason) = low_rank (is_end network device)
+  octets_rank octets last None =
+      entry_rank (Rattle.std.specs.Prelude.length octets) last (entry_entering network device link (field 4 2 octets))
+
+-- the rank of what becomes of a signal is not below its least
+pub rank_is : (s : Scenario) (device : DeviceId) (t : ℕ) (link : LinkId) (cause : ℕ) (signal : Signal) (js : List Happening)
+    → least_rank s.network device signal ≤ rank (arrival_body device link cause (arrival_of s js device t link cause signal))
+rank_is s device t link cause (control frame) js = at_two device link cause (control_arrival s.network device link (standpoint s js device t) frame)
+rank_is s device t link cause (timed octets) js =
+    octets_rank s.network device link cause (standpoint s js device t) octets (last_taken js device t link cause)
+    (octets_fault s.network (standpoint s js device t) octets)
+
+-- ---- what is taken
+
+none_by : (a b : Bool) (up down waits : Arrival) (vl : VlId) (cycle : ℕ) → (up ≡ arrivals.Accepted vl cycle → ⊥) → (down ≡ arrivals.Accepted vl cycle → ⊥)
+    → (waits ≡ arrivals.Accepted vl cycle → ⊥) → (if a then (if b then up else down) else waits) ≡ arrivals.Accepted vl cycle → ⊥
+none_by true true up down waits vl cycle x y z e = x e
+none_by true false up down waits vl cycle x y z e = y e
+none_by false b up down waits vl cycle x y z e = z e
+
+module _ (network : Network) (device : DeviceId) (link : LinkId) (p : Standpoint) where
+  none_fault : (frame : Pcf) (fault : Option Reason) (vl : VlId) (cycle : ℕ)
+      → frame_or_fault network device link p frame fault ≡ arrivals.Accepted vl cycle → ⊥
+  none_fault frame (Some reason) vl cycle e = cc
+  none_fault frame None vl cycle e =
+      none_by (is_relay network device) (is_parent_of network device link) _ _ _ vl cycle (λ x. cc) (λ x. cc)
+      (λ x. cc) e
+
+  none_control : (frame : Rattle.std.specs.Prelude.Result Pcf PcfRefusal) (vl : VlId) (cycle : ℕ)
+      → control_arrival network device link p frame ≡ arrivals.Accepted vl cycle → ⊥
+  none_control (Rattle.std.specs.Prelude.Err refusal) vl cycle e = cc
+  none_control (Rattle.std.specs.Prelude.Ok frame) vl cycle e =
+      none_fault frame (frame_fault network device link p frame) vl cycle e
+
+-- what is accepted is so at a switch
+accepted_high : (s : Scenario) (device : DeviceId) (t : ℕ) (link : LinkId) (cause : ℕ) (signal : Signal) (js : List Happening) (vl : VlId) (cycle : ℕ)
+    → arrival_of s js device t link cause signal ≡ arrivals.Accepted vl cycle → (if is_end s.network device then 12 else 11) ≤ 11
+accepted_high s device t link cause (control frame) js vl cycle e = absurd (none_control s.network device link (standpoint s js device t) frame vl cycle e)
+accepted_high s device t link cause (timed octets) js vl cycle e =
+    rw e at (rank_is s device t link cause (timed octets) js)
+
+delivered_high : (network : Network) (device : DeviceId) → (if is_end network device then 12 else 11) ≤ 12
+delivered_high network device = grind (arith, is_end)
+
+-- ---- records of the instant do not change where a device stands
+
+module _ (s : Scenario) (hs zs : List Happening) (device : DeviceId) (t : ℕ) where
+  standpoint_still : ((z : Happening) → IsIn z zs → t ≤ time_of z)
+      → standpoint s (hs ++ zs) device t ≡ standpoint s hs device t
+  standpoint_still late = ap (standpoint_in s device t) (earlier_still t hs zs late)
+
+  control_still : (link : LinkId) (cause : ℕ) (frame : Rattle.std.specs.Prelude.Result Pcf PcfRefusal)
+      → ((z : Happening) → IsIn z zs → t ≤ time_of z) → arrival_of s (hs ++ zs) device t link cause (control frame)
+      ≡ arrival_of s hs device t link cause (control frame)
+  control_still link cause frame late =
+      rw (standpoint_still late)
+
+-- ---- the record of an arrival is put in, and the frontier goes by it: what is to come is settled
+
+-- nothing follows its record
+last_body : (device : DeviceId) (link : LinkId) (cause : ℕ) (is : Arrival) → is_last (arrival_body device link cause is) ≡ true
+last_body device link cause (arrivals.Dropped reason) = refl
+last_body device link cause other = refl
+
+module _ {s : Scenario} {hs front back : List Happening} {now : ℕ} {e : OnWire} {is : Arrival} {w : Happening}
+    (p : IsReceiving s hs front back now e is w) where
+  -- the frame is judged with it as without it
+  judged_put : (c d : List Happening) → back ≡ c ++ d → arrival_of s (hs ++ (front ++ c)) e.device now e.link e.cause e.signal
+      ≡ arrival_of s (hs ++ (front ++ w ∷ c)) e.device now e.link e.cause e.signal
+  judged_put c d whole =
+      let near = two_at (well_of p.one.moving)
+      (placing_one p.one) {t = now} c d whole refl in
+      arrival_near s (hs ++ (front ++ c)) (hs ++ (front ++ w ∷ c)) now e.device e.link e.cause e.signal near.before
+      (λ vl. near.taken e.device e.link e.cause vl (never_self (now ∷ 2 ∷ (e.device.0 ∷ e.link.0 ∷ e.cause ∷ []))))
+
+  -- all that comes of the arrival is at the record's place
+  all_of_arrival : IsAllOfIt s hs (front ++ w ∷ back) (now ∷ 2 ∷ e.device.0 ∷ e.link.0 ∷ e.cause ∷ [])
+  all_of_arrival f rest y whole before none due own =
+      let c = comes_as s (hs ++ f) now e (time_of y) (members_in y) y.note.body own y.note.time refl due.cause in
+      let c_is =
+      same_arrival c.so (arrives_now f {is = _} p.wire p.arrives refl) in
+      let r = rank (arrival_body e.device e.link e.cause c.is) in
+      let high : least_rank s.network e.device e.signal ≤ r =
+      rw c_is (rank_is s e.device now e.link e.cause e.signal (hs ++ f)) in
+      let none_at : NoneBefore place_of rest (now ∷ r ∷ e.device.0 ∷ e.link.0 ∷ e.cause ∷ []) =
+      subst (λ q. NoneBefore place_of rest q) (sym c.place) none in
+      let so : is ≡ arrival_of s (hs ++ f) e.device now e.link e.cause e.signal = elim (split_two front back w f rest whole) [
+        | inl it ↦
+            p.so f (it.0 ++ back) r (rw it.1 (append_assoc f it.0 back))
+            (λ z i. none_at z (rw it.2 (in_placed it.0 back w z i))) high
+        | inr it ↦
+            p.so (front ++ it.0) rest r (rw it.2 (sym (append_assoc front it.0 rest))) none_at high
+            ∙ judged_put it.0 rest it.2
+            ∙ (rw (sym it.1))
+      ] in (
+        w,
+        in_right w front (w ∷ back) (inl refl),
+        placed_at e is w p.one.at p.body ∙ outcome_at f p.wire p.arrives so c,
+      )
+
+  arrival_put : AreSettled s hs (front ++ w ∷ back) (now ∷ 2 ∷ e.device.0 ∷ e.link.0 ∷ e.cause ∷ [])
+      (behind (now ∷ 2 ∷ e.device.0 ∷ e.link.0 ∷ e.cause ∷ [])) now
+  arrival_put =
+      one_by p.one
+      (last_unfollowed s hs now w.note.body (ap is_last p.body ∙ last_body e.device e.link e.cause is))
+      all_of_arrival
+
+-- ---- a time-triggered frame that arrives is judged by what its device took before
+
+-- ---- what the device took comes before the arrival
+
+-- what a step that hears a frame starts from, with what is before the frontier
+pub record IsAfterGiven (s : Scenario) (hs coming : List Happening) (now : ℕ) (e : OnWire) : Type 0 where
+  pub moving : IsMoving s hs coming now 2 (e.device.0 ∷ e.link.0 ∷ e.cause ∷ [])
+  pub within : AllBefore place_of hs (now ∷ 2 ∷ e.device.0 ∷ e.link.0 ∷ e.cause ∷ [])
+
+given_time : {s : Scenario} {hs coming : List Happening} {now : ℕ} {e : OnWire}
+    → IsAfterGiven s hs coming now e → (h : Happening) → IsIn h hs → 2 < rank h.note.body
+    → time_of h < now
+given_time {now} {e} a h i high =
+    elim (cases_lt (time_of h) now) [
+      | inl lt ↦ lt
+      | inr ge ↦ elim (a.within h i) [
+        | inl lt ↦ absurd (omega arith)
+        | inr (same, inl low) ↦ absurd (omega arith)
+        | inr (same, inr (e, b)) ↦ absurd (omega arith)
+      ]
+    ]
+
+module _ {s : Scenario} {hs coming : List Happening} {now : ℕ} {e : OnWire}
+    (a : IsAfterGiven s hs coming now e) (h : Happening) (i : IsIn h hs) where
+  -- no record that is given is later
+  pub given_by_now : time_of h ≤ now
+  given_by_now = grind (arith, place_of, earlier_time, time_of, rank, key, members_in)
+
+  given_sooner : (body : NoteBody) → h.note.body ≡ body → IsSooner e.device now e.link e.cause h body
+  given_sooner (notes.Accepted other by from vl cycle) is = grind (arith, rank, given_time)
+  given_sooner (notes.Delivered other by from vl cycle) is = grind (arith, rank, given_time)
+  given_sooner other is = tt
+
+-- of one device and one time, the source by the link and cause is before the other
+source_sooner : {now t : ℕ} {device other : ℕ} (link by cause from : ℕ) → t ≡ now → other ≡ device
+    → IsBefore (t ∷ 2 ∷ other ∷ by ∷ from ∷ []) (now ∷ 2 ∷ device ∷ link ∷ cause ∷ []) → (by < link) ⊎ ((by ≡ link) × (from < cause))
+source_sooner link by cause from at same (inl lt) = absurd (omega arith)
+source_sooner link by cause from at same (inr (e, inl lt)) = absurd (omega arith)
+source_sooner link by cause from at same (inr (e, inr (f, inl lt))) = absurd (omega arith)
+source_sooner link by cause from at same (inr (e, inr (f, inr (g, inl lt)))) = inl lt
+source_sooner link by cause from at same (inr (e, inr (f, inr (g, inr (h, inl lt))))) = inr (h, lt)
+source_sooner link by cause from at same (inr (e, inr (f, inr (g, inr (h, inr (k, none)))))) = absurd none
+
+module _ {s : Scenario} {hs coming : List Happening} {now : ℕ} {e : OnWire}
+    (a : IsAfterGiven s hs coming now e) where
+  coming_sooner : (z : Happening) → IsIn z coming → {other : DeviceId} (by : LinkId) (from : ℕ)
+      → ((js : List Happening) (w : List ℕ) → IsOwnSource s js (time_of z) (members_in z) z.note.body w
+      → w ≡ time_of z ∷ 2 ∷ other.0 ∷ by.0 ∷ from ∷ []) → e.device ≡ other → IsBefore2 by from e.link e.cause
+  coming_sooner z i {other} by from source same =
+      let split = parted z coming i in
+      let off = a.moving.are.by split.0 split.1 z split.2 in
+      let at = a.moving.are.of_now z i in
+      source_sooner {device = e.device.0} {other = other.0} e.link.0 by.0 e.cause
+      from at (rw (sym same))
+      (rw (source (hs ++ split.0) off.0 off.1) at off.3)
+
+  come_sooner : (z : Happening) → IsIn z coming → (body : NoteBody) → z.note.body ≡ body
+      → IsSooner e.device now e.link e.cause z body
+  come_sooner z i (notes.Accepted other by from vl cycle) is = λ same.
+      inr (
+        a.moving.are.of_now z i,
+        coming_sooner z i by from
+            (λ js w o. rw is at o) same,
+      )
+  come_sooner z i (notes.Delivered other by from vl cycle) is = λ same.
+      inr (
+        a.moving.are.of_now z i,
+        coming_sooner z i by from
+            (λ js w o. rw is at o) same,
+      )
+  come_sooner z i other is = tt
+
+  all_sooner : (h : Happening) → IsIn h (hs ++ coming) → IsSooner e.device now e.link e.cause h h.note.body
+  all_sooner h i =
+      elim (in_parts h hs coming i) [
+        | inl old ↦ given_sooner a h old h.note.body refl
+        | inr new ↦ come_sooner h new h.note.body refl
+      ]
+
+-- ---- a sound device judges it as the records say
+
+kept_judges : {M : Type 0} {stands : M → Network → DeviceId → Node → Type 0} {s : Scenario}
+    {hs coming : List Happening} {now : ℕ} {e : OnWire} {machine : M} (signal : Signal)
+    → IsAfterGiven s hs coming now e → (k : IsKept stands s hs coming (now ∷ 2 ∷ e.device.0 ∷ e.link.0 ∷ e.cause ∷ []) now e.device machine)
+    → arrival_at s.network e.device k.node (moment_of s e.device now) e.link signal
+    ≡ arrival_of s (hs ++ coming) e.device now e.link e.cause signal
+kept_judges {stands} {s} {hs} {coming} {now} {e} signal a k =
+    let here = now ∷ 2 ∷ e.device.0 ∷ e.link.0 ∷ e.cause ∷ [] in
+    let up = not_yet_acted stands (e.device.0 ∷ e.link.0 ∷ e.cause ∷ []) k (never_self here) in
+    by (rw up at k.left) signal
+  where
+    by : IsLeft s (hs ++ coming) e.device now k.node → (signal : Signal)
+        → arrival_at s.network e.device k.node (moment_of s e.device now) e.link signal ≡ arrival_of s (hs ++ coming) e.device now e.link e.cause signal
+    by left (control frame) =
+        control_judged (moment_of s e.device now) e.link e.cause frame left (record { time = refl; reading = refl })
+    by left (timed octets) =
+        ap (λ p. timed_arrival s.network e.device e.link p octets (last_taken_by k.node))
+        (same_standpoint (moment_of s e.device now) left (record { time = refl; reading = refl }))
+        ∙ timed_by s e.device e.link (standpoint s (hs ++ coming) e.device now) octets (last_taken_by k.node)
+        (last_taken (hs ++ coming) e.device now e.link e.cause)
+        (taken_last s (hs ++ coming) e.device now e.link e.cause k.node k.taken
+        (λ vl h i. taking_is e.device vl now e.link e.cause h h.note.body (all_sooner a h i)))
+
+-- ---- and as those say that leave none before its place
+
+place_sooner : {now t : ℕ} (r k : ℕ) (device other link by cause from : ℕ) → t ≡ now → device ≡ other → k ≤ r
+    → (by < link) ⊎ ((by ≡ link) × (from < cause))
+    → IsBefore (t ∷ k ∷ other ∷ by ∷ from ∷ []) (now ∷ r ∷ device ∷ link ∷ cause ∷ [])
+place_sooner r k device other link by cause from at same le before = grind (arith, cases_lt)
+
+-- a taking of the device by what is left would stand before it
+at_least_low : (b : Bool) (r : ℕ) → (if b then 12 else 11) ≤ r → 11 ≤ r
+at_least_low true r le = omega arith
+at_least_low false r le = le
+
+abbrev IsApart : DeviceId → NoteBody → Type 0
+IsApart device (notes.Accepted other by from vl cycle) = (device.0 == other.0) ≡ false
+IsApart device (notes.Delivered other by from vl cycle) = (device.0 == other.0) ≡ false
+IsApart device other = Unit {0}
+
+apart : {s : Scenario} {hs coming : List Happening} {now : ℕ} {e : OnWire}
+    → IsAfterGiven s hs coming now e → (z : Happening) → IsIn z coming → (r : ℕ)
+    → (IsBefore (place_of z) (now ∷ r ∷ e.device.0 ∷ e.link.0 ∷ e.cause ∷ []) → ⊥)
+    → (if is_end s.network e.device then 12 else 11) ≤ r → (body : NoteBody) → z.note.body ≡ body
+    → IsApart e.device body
+apart {s} {now} {e} a z i r none high (notes.Accepted other by from of_vl cycle) is =
+    elim (cases_Bool (e.device.0 == other.0)) [
+      | inr other_one ↦ other_one
+      | inl same ↦
+          let one : e.device ≡ other = rw (eqb-true e.device.0 other.0 same) in
+          let sooner = coming_sooner a z i by from
+          (λ js w o. rw is at o) one in
+          let low = at_least_low (is_end s.network e.device) r high in
+          absurd (none (rw is (place_sooner r 11 e.device.0 other.0 e.link.0 by.0 e.cause from (a.moving.are.of_now z i)
+          (rw one) low
+          sooner)))
+    ]
+apart {s} {hs} {coming} {now} {e} a z i r none high (notes.Delivered other by from of_vl cycle) is =
+    elim (cases_Bool (e.device.0 == other.0)) [
+      | inr other_one ↦ other_one
+      | inl same ↦
+          let one : e.device ≡ other = rw (eqb-true e.device.0 other.0 same) in
+          let sooner = coming_sooner a z i by from
+          (λ js w o. rw is at o) one in
+          let split = parted z coming i in
+          let due = (a.moving.are.founded split.0 split.1 z split.2).1 in
+          let caused : IsCaused s (hs ++ split.0) z.note.time (notes.Delivered other by from of_vl cycle) =
+          subst (IsCaused s (hs ++ split.0) z.note.time) is due.cause in
+          let end : is_end s.network e.device ≡ true = ap (is_end s.network) one ∙ delivered_end s (hs ++ split.0) other (time_of z) by from of_vl cycle caused
+          in
+          let low : 12 ≤ r = rw end at high in
+          absurd (none (rw is (place_sooner r 12 e.device.0 other.0 e.link.0 by.0 e.cause from (a.moving.are.of_now z i)
+          (rw one) low
+          sooner)))
+    ]
+apart a z i r none high other is = tt
+
+not_by : (device : DeviceId) (vl : VlId) (t : ℕ) (link : LinkId) (cause at : ℕ) (body : NoteBody) → IsApart device body
+    → is_taken_before device vl t link cause at body ≡ false
+not_by device vl t link cause at (notes.Accepted other by from of_vl cycle) e =
+    rw e
+not_by device vl t link cause at (notes.Delivered other by from of_vl cycle) e =
+    rw e
+not_by device vl t link cause at other e = refl
+
+takes_not : (device : DeviceId) (body : NoteBody) → IsApart device body → IsNoTaking device body
+takes_not device (notes.Accepted other by from of_vl cycle) e = λ at. rw e
+takes_not device (notes.Delivered other by from of_vl cycle) e = λ at. rw e
+takes_not device other e = λ at. refl
+
+module _ {s : Scenario} {hs coming : List Happening} {now : ℕ} {e : OnWire}
+    (a : IsAfterGiven s hs coming now e) where
+  -- so it takes none by what is left
+  no_taking : (z : Happening) → IsIn z coming → (r : ℕ)
+      → (IsBefore (place_of z) (now ∷ r ∷ e.device.0 ∷ e.link.0 ∷ e.cause ∷ []) → ⊥)
+      → (if is_end s.network e.device then 12 else 11) ≤ r → IsNoTaking e.device z.note.body
+  no_taking z i r none high =
+      takes_not e.device z.note.body (apart a z i r none high z.note.body refl)
+
+  last_still : (f rest : List Happening) (r : ℕ) → coming ≡ f ++ rest
+      → NoneBefore place_of rest (now ∷ r ∷ e.device.0 ∷ e.link.0 ∷ e.cause ∷ [])
+      → (if is_end s.network e.device then 12 else 11) ≤ r → (vl : VlId)
+      → last_taken (hs ++ coming) e.device now e.link e.cause vl ≡ last_taken (hs ++ f) e.device now e.link e.cause vl
+  last_still f rest r whole none high vl =
+      let q = λ (h : Happening). is_taken_before e.device vl now e.link e.cause (time_of h) h.note.body in
+      let gone =
+      filter_none q rest (λ z i. not_by e.device vl now e.link e.cause (time_of z) z.note.body
+      (apart a z (rw whole (in_right z f rest i)) r (none z i) high
+      z.note.body refl))
+      in
+      ap (λ l. option_and_then (λ h. taken_cycle h.note.body) (last_or None l))
+      (ap (λ l. filter q (hs ++ l)) whole ∙ ap (filter q) (sym (append_assoc hs f rest))
+      ∙ filter-append q (hs ++ f) rest
+      ∙ ap (λ l. filter q (hs ++ f) ++ l) gone ∙ append-nil (filter q (hs ++ f)))
+
+  heard_as_all : IsHeardAs s hs coming now e (arrival_of s (hs ++ coming) e.device now e.link e.cause e.signal)
+  heard_as_all f rest r whole none high = by e.signal high
+    where
+      late_all : (z : Happening) → IsIn z coming → now ≤ time_of z
+      late_all z i = omega arith
+
+      late : (z : Happening) → IsIn z f → now ≤ time_of z
+      late z i = late_all z (rw whole (in_left z f rest i))
+
+      by : (signal : Signal) → least_rank s.network e.device signal ≤ r
+          → arrival_of s (hs ++ coming) e.device now e.link e.cause signal ≡ arrival_of s (hs ++ f) e.device now
+          e.link e.cause signal
+      by (control frame) high =
+          control_still s hs coming e.device now e.link e.cause frame late_all ∙ sym
+          (control_still s hs f e.device now e.link e.cause frame late)
+      by (timed octets) high =
+          ap (λ p. timed_arrival s.network e.device e.link p octets
+          (last_taken (hs ++ coming) e.device now e.link e.cause))
+          (standpoint_still s hs coming e.device now late_all ∙ sym (standpoint_still s hs f e.device now late))
+          ∙ timed_by s e.device e.link (standpoint s (hs ++ f) e.device now) octets
+          (last_taken (hs ++ coming) e.device now e.link e.cause)
+          (last_taken (hs ++ f) e.device now e.link e.cause)
+          (last_still f rest r whole none high)
+
+-- ---- a frame on a wire arrives, and its device's machine hears it
 
 -- A frame arrives: the world stands behind it, where its devices do.
 

@@ -1,7 +1,13 @@
 -- A control frame that comes up from a switch, and one that a switch takes from below, is of one master.
-use Rattle.net_plan.{proofs.Shape.rules_give_trees, specs.{Paths.{IsPath, IsTree, IsUplink}, declared.tables.{Device.Device, Role.TheVariants.{Relay}}}}
+use Rattle.net_plan.{proofs.Trees.rules_give_trees}
+use Rattle.net_plan.specs.{Paths.{IsPath, IsTree, IsUplink}, Rules.IsChildOf}
+use Rattle.net_plan.specs.{declared.tables.{Device.Device, Role.TheVariants.Relay}}
+use Rattle.run_law.proofs.{law.FirstDeliveries.number_is, scenario.Devices.master_end}
+use Rattle.schedule_tables.proofs.Margins.{shape_rules}
+use Rattle.world_law.proofs.steps_lemmas.{hearing.HeardSteps.rank_is}
+use Rattle.world_law.proofs.steps_lemmas.Words.{standpoint, subst, suc, sym, target_by, time_of, timed, true, way_from}
+use Rattle.world_law.proofs.steps_lemmas.Words.{zero, ℕ}
 use Rattle.{net_plan.specs.Places.{IsCmOf, IsRoleOf, device_at, is_end_system}, run_law.specs.records.Happenings.{frame_by, frame_in, with_clock}}
-use Rattle.{net_plan.specs.Rules.IsChildOf, run_law.proofs.{law.FirstPlaces.number_is, scenario.Devices.master_end}, schedule_tables.proofs.Margins.shape_rules}
 use Rattle.{run_law.specs.control.Arrivals.{are_others, is_of_other_member}, schedule_tables.specs.declared.rule.Rule.TheVariants.Joints}
 use Rattle.{run_law.specs.machines.Calls.{IsFromSwitch, IsLinkAt, IsOneMaster, MayArrive}, tte_units.proofs.general_lemmas.Options.{closed, opened as at_some}}
 use Rattle.{run_law.specs.{scenario.{Devices.member_of, Ways.receiver_of}, timed.Receptions.ArrivesAs}, world_law.proofs.frames.Proper.no_reason}
@@ -13,7 +19,6 @@ use Rattle.world_law.proofs.steps_lemmas.Words.{Scenario, Signal, Some, Standpoi
 use Rattle.world_law.proofs.steps_lemmas.Words.{control, eq-eqb, eqb-true, false, founded_at, frame_fault, frame_or_fault, if◌then◌else◌, in_left, inl, inr}
 use Rattle.world_law.proofs.steps_lemmas.Words.{is_cut, is_end, is_parent_of, launched, length, link_at, nat_lt, not, numbered, numbered_front, numbered_in}
 use Rattle.world_law.proofs.steps_lemmas.Words.{numbered_within, option_and_then, option_map, option_map_or, place_of, rank, refl, signal_of, slice_get}
-use Rattle.world_law.proofs.steps_lemmas.{Words.{standpoint, subst, suc, sym, target_by, time_of, timed, true, way_from, zero, ℕ}, hearing.Ranked.rank_is}
 use Rattle.net_plan.specs.declared.event.What.TheVariants as events
 use Rattle.run_law.specs.declared.note.NoteBody.TheVariants as kinds
 

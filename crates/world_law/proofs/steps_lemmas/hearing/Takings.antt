@@ -1,17 +1,87 @@
--- What a device took last, by its node and by the records.
-use Rattle.run_law.specs.machines.Nodes.{local_at}
+-- What a device takes: how it judges a frame that arrives, and what it took last.
 use Rattle.std.proofs.{Common.arith, lemmas.Bool.or_right}
+use Rattle.run_law.{proofs.law.FirstBroken.off_control}
+use Rattle.run_law.{specs.{device.Standpoints.first_reason, machines.Nodes.{local_at, standpoint_at}}}
 use Rattle.tte_units.proofs.general_lemmas.{Lists.{last_if, last_more}, Naturals.flips}
-use Rattle.world_law.proofs.steps_lemmas.Words.{IsBefore, IsIn, IsKept, IsLeft, IsNoTaking, IsSteady, LinkId, List, Network, Node, None, NoteBody, Option}
-use Rattle.world_law.proofs.steps_lemmas.Words.{Scenario, Some, TakenFrame, VlId, ℕ, ℤ, [], amount, ap, append_assoc, bears_on, changed_at}
-use Rattle.world_law.proofs.steps_lemmas.Words.{comes_before, eq-eqb, eqb-true, false, filter, filter-append, frames_taken, if◌then◌else◌, inl, inr}
-use Rattle.world_law.proofs.steps_lemmas.Words.{is_taken_before, last_or, last_taken, last_taken_by, local_before, lt-ltb, moment_of, moves_no_other}
-use Rattle.world_law.proofs.steps_lemmas.Words.{nat_lt, option_and_then, option_map, or_left, pos, refl, subst, sym, taken_cycle, taken_in, time_of, true}
-use Rattle.world_law.proofs.steps_lemmas.Words.{◌&&◌, ◌++◌, ◌<◌, ◌==◌, ◌||◌, ◌∙◌, ◌∷◌, ◌≡◌, ◌≤ℤ◌, ◌≤◌, ◌⊎◌, Bool, DeviceId, Happening, HasDoneFrom}
-use Rattle.world_law.proofs.{devices.Working.{HasRested, worked_by}, putting.Bearing.{changed_aside, earlier_aside, left_aside, still_aside}}
-use Rattle.world_law.proofs.{rows.AtHand.{frames_put, frames_with}, steps_lemmas.Words.turned_aside, steps_lemmas.hearing.Called.After}
-use Rattle.world_law.{proofs.steps_lemmas.hearing.Took.{done_took, left_took, ready_took, sent_took, took}, specs.device.Takings.taken_by}
+use Rattle.world_law.{specs.device.Takings.taken_by}
+use Rattle.world_law.proofs.{devices.Working.{HasRested, worked_by}}
+use Rattle.world_law.proofs.{putting.Near.{changed_aside, earlier_aside, left_aside, still_aside}}
+use Rattle.world_law.proofs.{rows.AtHand.{frames_put, frames_with}}
+use Rattle.world_law.proofs.steps_lemmas.Words
+use Words.{if◌then◌else◌, ◌&&◌, ◌++◌, ◌<◌, ◌==◌, ◌||◌, ◌∙◌, ◌∷◌, ◌≡◌, ◌≤ℤ◌, ◌≤◌, ◌⊎◌, Bool, DeviceId, Happening}
+use Words.{HasDoneFrom, IsBefore, IsIn, IsKept, IsLeft, IsNoTaking, IsSteady, LinkId, List, Moment, Network, Node, None}
+use Words.{NoteBody, Option, Pcf, PcfRefusal, Reason, Result, Scenario, Signal, Some, Standpoint, TakenFrame, Units}
+use Words.{VlId, [], amount, ap, append_assoc, arrival_at, arrival_of, bears_on, changed_at, comes_before, control}
+use Words.{eq-eqb, eqb-true, false, field, filter, filter-append, frames_taken, inl, inr, is_broken, is_off}
+use Words.{is_synchronised, is_taken_before, last_or, last_taken, last_taken_by, local_before, lt-ltb, moment_of}
+use Words.{moves_no_other, nat_lt, not, octets_fault, octets_or_fault, option_and_then, option_map, or_left, pos, refl}
+use Words.{standpoint, state_before, subst, sym, taken_cycle, taken_in, time_of, timed, timed_arrival, true}
+use Words.{turned_aside, unsigned_abs, ℕ, ℤ}
+use Rattle.world_law.proofs.steps_lemmas.hearing.{Called.After}
+use Rattle.world_law.proofs.steps_lemmas.hearing.{Took.{done_took, left_took, ready_took, sent_took, took}}
+use Rattle.run_law.specs.declared.judgement.Reason.TheVariants as reasons
 use Rattle.run_law.specs.declared.note.NoteBody.TheVariants as notes
+use Rattle.run_law.specs.declared.steps.Arrival.TheVariants as arrivals
+
+-- ---- a device judges a frame that arrives as the records say
+
+-- ---- where the device stands
+
+-- the moment is that of the device at the time
+pub record IsMomentOf (s : Scenario) (device : DeviceId) (t : ℕ) (moment : Moment) : Type 0 where
+  pub time : moment.time.0 ≡ pos t
+  pub reading : moment.reading.0 ≡ pos (s.reading device t)
+
+amount_is : (u : Units) (n : ℕ) → u.0 ≡ pos n → amount u ≡ n
+amount_is u n e = ap unsigned_abs e
+
+module _ {s : Scenario} {hs : List Happening} {device : DeviceId} {t : ℕ} {node : Node} (moment : Moment) where
+  -- the node stands where the records say
+  pub same_standpoint : IsLeft s hs device t node → IsMomentOf s device t moment
+      → standpoint_at node moment ≡ standpoint s hs device t
+  same_standpoint left at = grind (arith, not, is_off, amount, state_before, is_broken, amount_is)
+
+  -- what becomes of a control frame is what the records say
+  pub control_judged : (link : LinkId) (cause : ℕ) (frame : Result Pcf PcfRefusal) → IsLeft s hs device t node
+      → IsMomentOf s device t moment → arrival_at s.network device node moment link (control frame)
+      ≡ arrival_of s hs device t link cause (control frame)
+  control_judged link cause frame left at =
+      rw (same_standpoint left at)
+
+-- ---- a device that takes no part drops all
+
+first_off : (b : Bool) (more : List (Bool × Reason)) → b ≡ false → first_reason ((not b, reasons.Off) ∷ more) ≡ Some reasons.Off
+first_off true more e = absurd cc
+first_off false more e = refl
+
+timed_off : (network : Network) (device : DeviceId) (link : LinkId) (p : Standpoint) (octets : List ℕ) (last : VlId → Option ℕ) → p.takes_part ≡ false
+    → timed_arrival network device link p octets last ≡ arrivals.Dropped reasons.Off
+timed_off network device link p octets last e = grind (arith, octets_or_fault, octets_fault, first_off, nat_lt, field, not, is_synchronised)
+
+no_part : (a b : Bool) → b ≡ true → (a && not b) ≡ false
+no_part true b e = ap not e
+no_part false b e = refl
+
+-- the records say that a broken device drops it
+pub broken_drops : (s : Scenario) (hs : List Happening) (device : DeviceId) (t : ℕ) (link : LinkId) (cause : ℕ) (signal : Signal) → is_broken s device t ≡ true
+    → arrival_of s hs device t link cause signal ≡ arrivals.Dropped reasons.Off
+broken_drops s hs device t link cause (control frame) e =
+    off_control s.network device link (standpoint s hs device t) frame (no_part (not (is_off (state_before s hs device t))) (is_broken s device t) e)
+broken_drops s hs device t link cause (timed octets) e =
+    timed_off s.network device link (standpoint s hs device t) octets (last_taken hs device t link cause)
+    (no_part (not (is_off (state_before s hs device t))) (is_broken s device t) e)
+
+-- and so does a node that is
+pub out_drops : (network : Network) (device : DeviceId) (node : Node) (moment : Moment) (link : LinkId) (signal : Signal) → node.broken ≡ true
+    → arrival_at network device node moment link signal ≡ arrivals.Dropped reasons.Off
+out_drops network device node moment link (control frame) e =
+    off_control network device link (standpoint_at node moment) frame (no_part (not (is_off node.standing.state)) node.broken e)
+out_drops network device node moment link (timed octets) e =
+    timed_off network device link (standpoint_at node moment) octets (last_taken_by node) (no_part (not (is_off node.standing.state)) node.broken e)
+
+-- ---- a control frame leaves the node as it is
+
+-- ---- what a device took last, by its node and by the records
 
 -- did the device take a frame of the virtual link by the record?
 abbrev pub is_taking : DeviceId → VlId → NoteBody → Bool

@@ -1,7 +1,10 @@
 -- A further point brings no emission that is before it.
-use Rattle.compression.proofs.{Elements.{all-filter, in_cases, in_filter, in_none, length-beyond}, Held.{beyond-push_out, held-start, int_lt-false}}
-use Rattle.{compression.proofs.Firsts.counts, std.{proofs.Common.◌*ℤ◌, specs.Prelude.Contains}, tte_units.{proofs.Means.mean_of-floor, specs.Mean.IsMean}}
-use Rattle.compression.{proofs.Growth.{cluster_of-beyond, counted, end_of-least, end_of-most, end_of-one, end_of-two, window_end}, specs.Emission.emission}
+use Rattle.std.{proofs.Common.◌*ℤ◌, specs.Prelude.Contains}
+use Rattle.compression.{specs.Emission.emission}
+use Rattle.compression.proofs.Growth.{all-filter, beyond-push_out, cluster_of-beyond, counted, counts, end_of-least}
+use Rattle.compression.proofs.Growth.{end_of-most, end_of-one, end_of-two, held-start, in_cases, in_filter, in_none}
+use Rattle.compression.proofs.Growth.{int_lt-false, length-beyond, window_end}
+use Rattle.tte_units.{proofs.Means.mean_of-floor, specs.Mean.IsMean}
 use Rattle.compression.specs.{Clusters.{Cluster, beyond, cluster_of, end_of, firsts, of_cycle_within, with_first}, Middle.{last_but_one, middle_of, relative}}
 use Rattle.world_law.proofs.steps_lemmas.Words.{◌&&◌, ◌++◌, ◌+ℤ◌, ◌-ℤ◌, ◌<ℤ◌, ◌==◌, ◌∙◌, ◌∷◌, ◌≡◌, ◌≤ℤ◌, ◌≤◌, ◌⊎◌, AllByRecursion, AreClusters, Bool, List}
 use Rattle.world_law.proofs.steps_lemmas.Words.{Point, [], ap, arith, cases_int, false, filter, filter-append, fold-append, inl, inr, int_le}
@@ -119,11 +122,11 @@ old_or_open (suc n) ow (o ∷ ps) (k ∷ ks) (d ∷ ds) p c few some up are also
           let pushed : AreClusters ow (beyond k.end ps ++ p ∷ []) ds = rw (beyond-push_out k.end ps p past_k) at rest in
           let short = length-beyond k.end ps in
           elim (in_cases d c ds there) [
-            | inl e ↦ inl (rw (sym (sym same ∙ e)) (Rattle.compression.proofs.Elements.in_head k ks))
+            | inl e ↦ inl (rw (sym (sym same ∙ e)) (Rattle.compression.proofs.Growth.in_head k ks))
             | inr more ↦
                 elim (old_or_open n ow (beyond k.end ps) ks ds p c (omega arith) some
                 (all-filter (λ q. q.reading ≤ℤ p.reading) (λ q. int_lt k.end q.reading) ps up.1) are.1 pushed more) [
-                  | inl old ↦ inl (Rattle.compression.proofs.Elements.in_tail k c ks old)
+                  | inl old ↦ inl (Rattle.compression.proofs.Growth.in_tail k c ks old)
                   | inr open_ ↦ inr open_
                 ]
           ]

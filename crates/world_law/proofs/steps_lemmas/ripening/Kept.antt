@@ -1,5 +1,15 @@
 -- The device of a frame that is permanent, and tells it no time, is kept.
-use Rattle.world_law.proofs.{devices.Working.{HasRested, rested}, giving.GivenParts.up_to_place, runs.Settled.{frame_source, late_of}}
+use Rattle.std.proofs.Common.{Contains}
+use Rattle.compression.proofs.Times.{one_list_of_clusters}
+use Rattle.world_law.proofs.{devices.{Borne.tell_owned, Working.{HasRested, rested}}, giving.GivenParts.up_to_place}
+use Rattle.world_law.proofs.{runs.Worlds.{frame_source, late_of}}
+use Rattle.world_law.proofs.putting.{Moving.{stays, turned_by}}
+use Rattle.world_law.proofs.putting.Near
+use Near.{before_aside, changed_aside, earlier_aside, frames_aside, left_aside, still_aside}
+use Rattle.world_law.proofs.steps_lemmas.{hearing.Takings.frames_placed}
+use Rattle.world_law.proofs.steps_lemmas.ripening.{Judged.{Hears, IsTold, cleared_told}}
+use Rattle.world_law.proofs.steps_lemmas.ripening.Unmoved
+use Unmoved.{IsByRole, IsFirst, IsSame, is_grown, left_grown, own_skip, points_by_role, points_not, same_by_role}
 use Rattle.world_law.proofs.steps_lemmas.Words.{HasDoneTask, no_task_at, ◌++◌, ◌+ℤ◌, ◌+◌, ◌||◌, ◌∙◌, ◌∷◌, ◌≡◌, ◌≤ℤ◌, ◌≤◌, ◌⊎◌, AllByRecursion, Bool}
 use Rattle.world_law.proofs.steps_lemmas.Words.{Compressed, DeviceId, Happening, HasDoneFrom, HasSentFrom, HasTurnedOn, IsAlike, IsAtRest, IsBefore}
 use Rattle.world_law.proofs.steps_lemmas.Words.{IsIn, IsKept, IsLeft, IsNoTaking, IsPending, IsWaiting, Judgement, List, Network, Node}
@@ -9,14 +19,8 @@ use Rattle.world_law.proofs.steps_lemmas.Words.{doing, earlier_still, emitting, 
 use Rattle.world_law.proofs.steps_lemmas.Words.{inl, inr, ints, is_cm, is_joined_by, is_timed, length, master_of, moment_of}
 use Rattle.world_law.proofs.steps_lemmas.Words.{moves, natural, not, observation_window, point_at, never_self, pos}
 use Rattle.world_law.proofs.steps_lemmas.Words.{reading_for, refl, ripe_as, ripening, state_before, sym, taken_in, task_place, time_of}
-use Rattle.compression.proofs.Times.{one_list_of_clusters}
-use Rattle.{std.proofs.Common.Contains, world_law.proofs.devices.Borne.tell_owned}
-use Rattle.world_law.proofs.steps_lemmas.{hearing.Takings.frames_placed, ripening.Merely.own_skip}
-use Rattle.world_law.proofs.putting.{Bearing.{before_aside, changed_aside, earlier_aside, frames_aside, left_aside, still_aside}, Moving.{stays, turned_by}}
 use Rattle.world_law.proofs.steps_lemmas.{Words.{true, turned_aside, undone_alike, value_of, waiting_alike, ℕ}, ripening.Clustered.{old_or_open, open_later}}
-use Rattle.world_law.proofs.steps_lemmas.ripening.{Judged.{Hears, cleared_told}, JustTold.IsTold}
 use Rattle.world_law.proofs.steps_lemmas.ripening.Ripens.{IsRipe, all_late, in_time, late_mere, not_beyond, rest_ends, ripe_more, sooner_of}
-use Rattle.world_law.proofs.steps_lemmas.ripening.Grown.{IsByRole, IsFirst, IsSame, is_grown, left_grown, points_by_role, points_not, same_by_role}
 use Rattle.run_law.specs.declared.note.NoteBody.TheVariants as kinds
 
 -- ---- where it stands before the call

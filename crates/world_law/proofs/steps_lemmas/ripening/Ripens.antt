@@ -9,8 +9,9 @@ use Rattle.world_law.proofs.steps_lemmas.Words.{cases_Bool, cases_int, cases_lt,
 use Rattle.world_law.proofs.steps_lemmas.Words.{in_parts, inl, inr, ints, is_broken, key, master_of, members_in, moment_of, natural, no_higher, numbered_in}
 use Rattle.world_law.proofs.steps_lemmas.Words.{numbered_parts, place_of, point_at, point_by, point_of, points_of, pos, rank, refl, ripe_place, same_device}
 use Rattle.world_law.proofs.steps_lemmas.Words.{◌++◌, ◌+ℤ◌, ◌+◌, ◌-◌, ◌<ℤ◌, ◌<◌, ◌^◌, ◌∙◌, ◌∷◌, ◌≡◌, ◌≤ℤ◌, ◌≤◌, Compressed, DeviceId, Happening}
-use Rattle.world_law.proofs.{Words.{in_left, is_at_source, parted, true}, acts.NoActs.turning_stretch, putting.Moving.off_source}
-use Rattle.world_law.proofs.{frames.Proper.{HasCome, IsSound, has_come, is_sound, link_of, received}, steps_lemmas.ripening.Merely.IsMere}
+use Rattle.world_law.proofs.{Words.{in_left, is_at_source, parted, true}, acts.NoActs.turning_stretch}
+use Rattle.world_law.proofs.{frames.Proper.{HasCome, IsSound, has_come, is_sound, link_of, received}}
+use Rattle.world_law.proofs.{putting.Moving.off_source, steps_lemmas.ripening.Unmoved.IsMere}
 use Rattle.world_law.specs.source.Sources.{IsRipening}
 use Rattle.world_law.{proofs.steps_lemmas.Words.{standpoint, subst, suc, sym, time_of, unsigned_abs, zero}, specs.source.First.NoSourceBefore}
 use Rattle.run_law.specs.declared.judgement.Why.TheVariants as whys

@@ -1,17 +1,161 @@
--- Time passes where nothing is to come.
-use Rattle.world_law.proofs.runs.Settled.{coming_of, none_pending, none_to_come}
-use Rattle.world_law.proofs.devices.Working.{worked_by}
-use Rattle.world_law.proofs.{acts.{Acting.{IsUnmoved, cleared_on, had_come_before}, NoActs.nothing_comes_before}, devices.Resting.{IsPast, IsWorked, at_rest}}
-use Rattle.world_law.{proofs.{giving.GivenParts.no_later_events, runs.Worlds.nothing_settled_is_all}, specs.source.First.NoSourceBefore}
-use Rattle.world_law.{proofs.devices.Passes.passes_if, specs.{device.Own.IsStill, steps.Steps.PassedStep, world.{Moves.{NothingBefore, StandsAt}, World.way_now}}}
-use Rattle.world_law.proofs.steps_lemmas.Words.{◌++◌, ◌+◌, ◌-◌, ◌<ℤ◌, ◌<◌, ◌^◌, ◌∙◌, ◌∷◌, ◌≡◌, ◌≤ℤ◌, ◌≤◌, AreComing, DeviceId, Down, Happening, both_ways}
-use Rattle.world_law.proofs.steps_lemmas.Words.{HasDoneFrom, HasSentFrom, HaveBefallen, IsBefore, IsHeld, IsIn, IsKept, IsOut, IsPending, IsReadyAt}
-use Rattle.world_law.proofs.steps_lemmas.Words.{IsSteady, LinkId, List, Network, Node, Note, Scenario, Some, Stands, Task, Up, Way, World, []}
-use Rattle.world_law.proofs.steps_lemmas.Words.{act_place, acts_before, adjustment_after, all_up_to, amount, ap, append-nil, are_past, arith, cases_Bool}
-use Rattle.world_law.proofs.steps_lemmas.Words.{cases_int, cases_lt, change_still, changed_at, doing, emitting, false, filter_map, happenings, has_cleared}
-use Rattle.world_law.proofs.steps_lemmas.Words.{inl, inr, ints, last_or, length, members_in, natural, no_later_breaks, not_on_after, numbered_in}
-use Rattle.world_law.proofs.steps_lemmas.Words.{own_time, pos, reading_for, refl, ripe_place, slice_get, state_after, subst, sym, time_of, true, up_to, ℕ, ℤ}
-use Rattle.run_law.proofs.runs.Places.{before_later_time, before_of_time, earlier_time}
+-- A world begins, time passes where nothing is to come, and clocks are shown at the end.
+use Rattle.run_law.{specs.machines.Nodes.begun_node}
+use Rattle.run_law.proofs.{records.Happenings.none_numbered}
+use Rattle.run_law.proofs.runs.{Grow.empty_run}
+use Rattle.run_law.proofs.runs.{Places.{before_later_time, before_next_time, before_of_time, earlier_time}}
+use Rattle.world_law.proofs.{acts.{Acting.{IsUnmoved, cleared_on, had_come_before}, NoActs.nothing_comes_before}}
+use Rattle.world_law.proofs.{giving.{Given.device_in, GivenParts.{no_later_events, up_to_place}}}
+use Rattle.world_law.proofs.{putting.{Placing.same_record, Putting.{IsPutting, held_put, known_put, settled_put}}}
+use Rattle.world_law.proofs.devices.{Standing.{IsPast, IsWorked, all_past, at_rest, held_shows}, Unmoved.passes_if}
+use Rattle.world_law.proofs.devices.{Working.worked_by}
+use Rattle.world_law.proofs.runs.Worlds.{coming_of, late_of, none_pending, none_to_come, nothing_settled_is_all, run_to}
+use Rattle.world_law.proofs.steps_lemmas.Words
+use Words.{◌++◌, ◌+ℤ◌, ◌+◌, ◌-ℤ◌, ◌-◌, ◌<ℤ◌, ◌<◌, ◌^◌, ◌↔◌, ◌∙◌, ◌∷◌, ◌≡◌, ◌≤ℤ◌, ◌≤◌, AreComing, ArePutIn, ComesFirst}
+use Words.{DeviceId, Down, Happening, HasDoneFrom, HasSentFrom, HaveBefallen, IsBefore, IsDue, IsHeld, IsIn, IsKept}
+use Words.{IsLeft, IsMoving, IsOut, IsOwnSource, IsPending, IsReadyAt, IsSource, IsSteady, LinkId, List, Network, Node}
+use Words.{Note, NoteBody, Scenario, Some, Stands, StandsBehind, State, Task, Units, Up, Way, World, [], act_place}
+use Words.{acts_before, adjustment_after, all_up_to, amount, ap, append-nil, are_past, arith, at_least, behind}
+use Words.{both_ways, cases_Bool, cases_int, cases_lt, chain, change_still, changed_at, clock_place, comes_first}
+use Words.{correcting, device_still, doing, due_of, emitting, false, filter_map, happenings, has_cleared, inl, inr}
+use Words.{ints, is_at_source, key, last_or, length, members_in, natural, no_cluster, no_later_breaks, no_task_at}
+use Words.{none_in, not_on_after, numbered_in, observation_window, own_time, place_of, ports_still, pos, rank}
+use Words.{reading_for, record_of, refl, ripe_place, scenario, second, settled_as, slice_get, some_same, stands_on}
+use Words.{state_after, subst, sym, time_of, true, units_of, up_to, value_of, waiting_still, wires_still, ℕ, ℤ}
+use Rattle.world_law.specs.{device.Own.IsStill, source.First.NoSourceBefore, steps.Steps.{Begun, PassedStep}}
+use Rattle.world_law.specs.{world.{Calls.IsStateOf, Moves.{NothingBefore, StandsAt}, World.way_now}}
+use Rattle.run_law.specs.declared.judgement.Why.TheVariants as whys
+use Rattle.run_law.specs.declared.note.NoteBody.TheVariants as kinds
+
+-- ---- a fresh world stands for the run of no records under no events
+
+-- nothing of the run is before the first source
+low_rank : (t k : ℕ) (ws : List ℕ) → 1 ≤ k → IsBefore (t ∷ k ∷ ws) (0 ∷ 1 ∷ []) → ⊥
+low_rank t k ws one (inl lt) = absurd (omega arith)
+low_rank t k ws one (inr (e, inl lt)) = absurd (omega arith)
+low_rank t k ws one (inr (e, inr (f, b))) = b
+
+source_from : {s : Scenario} {hs : List Happening} {w : List ℕ} → IsSource s hs w → IsBefore w (0 ∷ 1 ∷ []) → ⊥
+source_from {s} (IsSource.acting t device task a) b =
+    low_rank t 4 (device.0 ∷ []) (omega arith) (acts_before s.network t device task (0 ∷ 1 ∷ []) b)
+source_from source b = grind arith
+
+begins_at : (a : Units) (r : ℕ) → r ≡ 0 → a.0 ≡ (pos r +ℤ a.0)
+begins_at a r e = omega (arith, ints)
+
+left_fresh : (network : Network) (f : DeviceId → ℕ → ℕ) (device : DeviceId) (t : ℕ) → f device 0 ≡ 0
+    → IsLeft (scenario network f []) [] device t (begun_node network device)
+left_fresh network f device t zero_first = grind (arith, begins_at)
+
+in_time : {r : ℕ} (v a precision : ℤ) → r ≡ 0 → a <ℤ v → pos 0 ≤ℤ precision → pos r <ℤ ((v -ℤ a) +ℤ precision)
+in_time v a precision e lt le = omega (arith, ints)
+
+ahead_time : {r : ℕ} (network : Network) (device : DeviceId) (task : Task) → r ≡ 0 → pos 0 ≤ℤ network.precision.0
+    → IsPending network device (begun_node network device) task → pos r <ℤ (reading_for network (begun_node network device) task +ℤ network.precision.0)
+ahead_time {r} network device (doing deed) e le p = in_time (value_of network deed) _ network.precision.0 e p.1.ahead le
+ahead_time network device (emitting sent) e le p = absurd
+    (no_cluster (observation_window network) p.1.clusters p.1.cluster p.1.are p.1.there)
+
+kept_fresh : {M : Type 0} (stands : M → Network → DeviceId → Node → Type 0) (network : Network) (f : DeviceId → ℕ → ℕ) (device : DeviceId) (machine : M)
+    → f device 0 ≡ 0 → pos 0 ≤ℤ network.precision.0 → stands machine network device (begun_node network device)
+    → IsKept stands (scenario network f []) [] [] (0 ∷ 1 ∷ []) 0 device machine
+kept_fresh stands network f device machine zero_first le is = record {
+  node = begun_node network device;
+  is = is;
+  sound = refl;
+  up = 0;
+  acted = inl (refl, λ task b a. absurd (low_rank 0 4 (device.0 ∷ []) (omega arith) (acts_before network 0 device task (0 ∷ 1 ∷ []) b)));
+  told = λ over. absurd cc;
+  left = left_fresh network f device 0 zero_first;
+  taken = refl;
+  worked = record {
+    undone = λ deed u x from lt. absurd (omega arith);
+    done = λ deed there. absurd (none_in deed there);
+    unsent = λ sent w x lt. absurd (omega arith);
+    sent = λ sent there. absurd (none_in sent there);
+  };
+  bare = λ other. (refl, refl);
+  ready = record {
+    time = omega (arith, ints);
+    begun = omega (arith, ints);
+    last = ap pos (sym zero_first);
+    undone = λ task p x lt. absurd (omega arith);
+    in_time = λ task p. ahead_time network device task zero_first le p;
+  };
+  still = λ same h i. absurd i;
+  turned = λ on. absurd cc;
+  cleared = λ cycle there. absurd (none_in (correcting cycle) there);
+  phase = λ at p b. b;
+}
+
+pub begun : {C M : Type 0} (reading : C → ℕ → ℕ) (stands : M → Network → DeviceId → Node → Type 0) → Begun reading stands
+begun {C} {M} reading stands network f world fresh forward steady zero_first le range rules =
+    let s = scenario network f [] in
+    let now = sym fresh.now in
+    let on : (p : List ℕ) → IsBefore p (0 ∷ []) → IsBefore p (0 ∷ 1 ∷ []) = λ p b. before_of_time p 0 (1 ∷ []) b in
+    let none =
+    none_to_come (λ front y not due off. source_from off.2 off.3) in
+    record {
+      same = fresh.of_it;
+      range = range;
+      rules = rules;
+      forward = forward;
+      steady = steady;
+      precise = le;
+      frontier = 0 ∷ 1 ∷ [];
+      run = run_to [] (0 ∷ 1 ∷ [])
+          (empty_run place_of (IsDue s) (0 ∷ [])
+          (λ y due here. elim here [ inl lt ↦ absurd (omega arith) | inr bad ↦ bad.1 ])) none
+          (λ w source waits b. waits b) (λ z i. absurd i) on;
+      of_now = λ p b. on p (rw fresh.now at b);
+      not_later = λ p b. rw (sym now) (before_next_time p 0 (1 ∷ []) b);
+      limit = rw (sym now) (omega arith);
+      lines = fresh.lines;
+      given = fresh.given;
+      ended = λ time. (λ ends. absurd (none_in _ ends), λ it. absurd (cc));
+      befallen = record { past = λ i e at. absurd cc; told = λ i e at. absurd cc; begun = λ i e at. absurd cc; sent = λ i e link octets at. absurd cc };
+      clocks = λ device lt. let own = fresh.clocks device lt in (own.0, own.1, λ t late. own.2 t (omega arith));
+      broken = fresh.broken;
+      ways = rw now at fresh.ways;
+      room = let none : length world.settled ≡ 0 = ap length fresh.settled in omega arith;
+      known =
+          rw fresh.settled (record { unmoved = λ device le h i. absurd i; never_on = λ device le t. refl });
+      devices = λ device lt.
+          let m = fresh.machines device lt in (
+            m.0,
+            m.1,
+            inl (subst (λ l. IsKept stands s [] l (0 ∷ 1 ∷ []) world.now device m.0) (sym fresh.settled)
+                (subst (λ n. IsKept stands s [] [] (0 ∷ 1 ∷ []) n device m.0) now
+                (kept_fresh stands network f device m.0 (zero_first device) le m.2))),
+          );
+      early = λ first p b. rw now at (chain p (0 ∷ 1 ∷ []) (0 ∷ 2 ∷ []) b (inr (refl, inl (omega arith))));
+      untold = none_pending fresh.pending fresh.befell (λ number h it. absurd (none_numbered number h it.there));
+      wires =
+          rw fresh.wires (record {
+            real = λ e i. absurd i;
+            all =
+                λ t device link cause a told not. absurd (none_numbered cause a.putting a.there);
+          });
+      ports =
+          rw fresh.ports (record {
+            real = λ e i. absurd i;
+            all =
+                λ t device link cause d not. absurd (none_numbered cause d.giving d.there);
+          });
+      waiting =
+          rw fresh.waiting (record {
+            real = λ e i. absurd i;
+            later = λ e i. absurd i;
+            sound = λ e i. absurd i;
+            all = λ e it sound not. absurd (none_numbered e.cause it.arrival it.there);
+          });
+      stored =
+          rw fresh.stored (record { real = λ e i. absurd i; all = λ device vl taking last. absurd cc });
+      are =
+          rw fresh.settled (coming_of none on (λ z i. absurd i));
+      shown = λ device lt ended. absurd (cc);
+    }
+
+-- ---- time passes where nothing is to come
 
 -- no way changes without an event
 ways_stay : {s : Scenario} {frontier : List ℕ} {now : ℕ} (t : ℕ) (link : LinkId) (way : Way)
@@ -272,3 +416,116 @@ passed_step {C} {M} reading stands s world notes t old settled lt few running no
             | inr ge ↦ absurd (none.acting device m.0 node task m.1 is p x from ge (inl before))
           ]),
     ))
+
+-- ---- the clock of a device is shown at the end
+
+-- only the record of a device's clock comes from its source at the end
+clock_own : (s : Scenario) (js : List Happening) (t members : ℕ) (body : NoteBody) (device : DeviceId) (now : ℕ)
+    → IsOwnSource s js t members body (now ∷ 14 ∷ device.0 ∷ []) → (t ≡ now) × (rank body ∷ key members body ≡ 14 ∷ device.0 ∷ [])
+clock_own s js t m (kinds.Clock other reading adjustment state) device now o = (cc, cc)
+clock_own s js t m (kinds.State d state cause whys.SyncClique) device now o = grind arith
+clock_own s js t m other device now o = grind arith
+
+-- what is late is at its source where it is a clock's
+last_rank : (body : NoteBody) → 14 ≤ rank body → is_at_source body ≡ true
+last_rank (kinds.Clock other reading adjustment state) late = refl
+last_rank other late = absurd (omega arith)
+
+-- so nothing is to come where a clock comes first
+none_coming : {s : Scenario} {hs : List Happening} (coming : List Happening) {now : ℕ}
+    (device : DeviceId) → IsMoving s hs coming now 14 (device.0 ∷ []) → coming ≡ []
+none_coming [] device m = refl
+none_coming (y ∷ coming) {now} device m =
+    let late = at_least y now 14 (device.0 ∷ []) (m.are.of_now y (inl refl)) (m.are.after y (inl refl)) in
+    absurd (both_ways _ (late_of m.are y (inl refl)) (last_rank y.note.body late))
+
+pub nothing_put : (now : ℕ) (network : Network) (hs : List Happening) (body : NoteBody) (settled : List Happening)
+    → ArePutIn network hs now (body ∷ []) [] settled → settled ≡ settled_as network hs now body ∷ []
+nothing_put now network hs body settled (mid, put, last) = from put.front put.back put.was put.is
+  where
+    from : (front back : List Happening) → [] ≡ front ++ back → mid ≡ front ++ settled_as network hs now body ∷ back → settled ≡ settled_as network hs now body
+        ∷ []
+    from [] [] was is = last ∙ is
+    from [] (b ∷ back) was is = absurd cc
+    from (f ∷ front) back was is = absurd cc
+
+shown_more : (now : ℕ) {shown : ℕ} (device d : DeviceId) → shown ≡ device.0 → IsBefore (clock_place now d)
+    (behind (clock_place now device)) ↔ (d.0 < shown + 1)
+shown_more now device d e = grind (arith, up_to_place, clock_place, cases_lt)
+
+-- the clock of the next device is shown, and its record is to come
+pub clock_step : {C M : Type 0} {reading : C → ℕ → ℕ} {stands : M → Network → DeviceId → Node → Type 0} (s : Scenario)
+    {world : World C M} {notes : List Note} (device : DeviceId) {machine : M} (state : State) (adjustment : Units)
+    (settled : List Happening) {old : Stands reading stands s world notes}
+    → device.0 < length s.network.device → world.ended ≡ true → world.shown ≡ device.0
+    → ComesFirst reading stands s world notes old (clock_place world.now device)
+    → slice_get world.machines device.0 ≡ Some machine → IsStateOf stands s.network device machine state adjustment
+    → ArePutIn s.network (happenings s.network notes) world.now
+    (kinds.Clock device (units_of (s.reading device world.now)) adjustment state ∷ []) world.settled settled
+    → StandsBehind reading stands s (record world { early = false; settled = settled; shown = world.shown + 1 }) notes
+    (clock_place world.now device)
+clock_step {C} {M} {reading} {stands} s {world} {notes} device {machine} state adjustment settled {old} lt ended shown
+    first there stood put =
+    let hs = happenings s.network notes in
+    let now = world.now in
+    let more = device.0 ∷ [] in
+    let here = now ∷ 14 ∷ more in
+    let waits : IsBefore here old.frontier → ⊥ = λ b. let less = (old.shown device lt ended).0 b in omega
+    arith in
+    let c = comes_first old 14 more (inr (refl, inl (omega arith))) refl waits first in
+    let empty = none_coming world.settled device c.moving in
+    let moving : IsMoving s hs [] now 14 more = rw empty at c.moving in
+    let body = kinds.Clock device (units_of (s.reading device now)) adjustment state in
+    let w = record_of s.network hs [] now body in
+    let m2 = old.devices device lt in
+    let machine_is = some_same m2.0 machine _ m2.1 there in
+    let shows = held_shows stands s hs world.settled old.frontier now device m2.0 m2.2 (old.untold.done c.told)
+    (all_past reading stands s world notes old) old.befallen in
+    let is = stood shows.0 (rw (sym machine_is) shows.1) in
+    let at_end = device_in s.network device lt in
+    let due = due_of s hs [] now body (record {
+      is = at_end.0;
+      there = at_end.1;
+      ends = (old.ended (units_of now)).1 (ended, refl);
+      reads = refl;
+      adjusted = is.1 ∙ shows.2.adjustment ∙ ap (λ l. adjustment_after s (up_to now (hs ++ l)) device) empty;
+      in_state = is.0 ∙ shows.2.state ∙ ap (λ l. state_after s (up_to now (hs ++ l)) device) empty;
+    }) in
+    let p : IsPutting s hs [] [] now 14 more w = record {
+      one = record {
+        moving = moving;
+        given = old.run.founded;
+        at = refl;
+        due = due;
+        before = λ y i. absurd i;
+        none = λ y i b. i;
+        fresh = λ y i same. i;
+        mine = refl;
+        here = IsSource.ending (units_of now) device at_end.0 at_end.1 ((old.ended (units_of now)).1 (ended, refl));
+        aside = λ x j other same hears. let six : 14 ≡ 6 = ap second same in omega arith;
+      };
+      late = omega arith;
+      idle = tt;
+      own = λ zs y y_due few at own.
+          let it = clock_own s (hs ++ zs) (time_of y) (members_in y) y.note.body device now own in
+          rw (sym it.1) (ap (λ n. n ∷ rank y.note.body ∷ key (members_in y) y.note.body) (sym it.0));
+    } in
+    let all = nothing_put now s.network hs body settled
+    (rw empty at put)
+    ∙ ap (λ h. h ∷ []) (sym (same_record s.network hs [] now body (omega arith))) in
+    let room = first.room in
+    rw all (stands_on c world.machines (world.shown + 1) (omega arith)
+    (settled_put p)
+    (known_put hs [] [] w tt (rw empty at old.known))
+    (λ d within.
+    let k = c.devices d within in (
+      k.0,
+      k.1,
+      held_put [] [] w tt refl
+          (subst (λ l. IsHeld stands s hs l (behind here) now d k.0) empty
+          (device_still c (no_task_at s.network now d 14 more (inr (omega arith))) k.2)),
+    ))
+    (wires_still c (λ two. omega arith))
+    (ports_still c (λ eight. omega arith))
+    (waiting_still c (λ three. omega arith))
+    (λ d within over. shown_more now device d shown))

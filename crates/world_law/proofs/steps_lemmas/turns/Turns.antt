@@ -1,11 +1,33 @@
--- The turn of a source, which is worked off with its records to come: what stands there is given.
-use Rattle.world_law.proofs.steps_lemmas.Words.{◌++◌, ◌+◌, ◌<◌, ◌∙◌, ◌∷◌, ◌≡◌, ◌≤◌, ◌⊎◌, ArePutIn, DeviceId, Happening, IsBefore, IsIn}
-use Rattle.world_law.proofs.steps_lemmas.Words.{List, Network, NoneBefore, Node, Note, NoteBody, Scenario, Stands, StandsBehind, World, [], ap, append-nil, arith}
-use Rattle.world_law.proofs.steps_lemmas.Words.{before_behind, behind, chain, false, happenings, in_left, in_parts, in_right, inl, inr, is_at_source}
-use Rattle.world_law.proofs.steps_lemmas.Words.{both_ways, place_of, rank, refl, second, settled_as, subst, sym, true, ℕ}
-use Rattle.world_law.proofs.{giving.{Given.given_from, GivenParts.{source_kinds, up_to_place}}, runs.{Over.stand_of, Settled.late_of}}
-use Rattle.world_law.specs.steps.Turns.{IsTurn, TurnsBy, next_note, starts_there}
-use Rattle.world_law.specs.world.Moves.{StandsAt}
+-- The turns of sources: of what a device does, of frames, and of clocks that are shown at the end.
+use Rattle.run_law.specs.{control.Leaving.{Departure, leaves, on_cut_way, too_old}, declared.steps.Arrival.Arrival}
+use Rattle.run_law.specs.{records.Happenings.frame_from}
+use Rattle.world_law.proofs.{giving.{Given.given_from, GivenParts.{source_kinds, up_to_place}}}
+use Rattle.world_law.proofs.{runs.{Foremost.stand_of, Worlds.late_of}}
+use Rattle.world_law.proofs.steps_lemmas.{hearing.HeardSteps.heard_step}
+use Rattle.world_law.proofs.steps_lemmas.{ripening.{RipenedSteps.ripened_step, Ripens.ripe_more}}
+use Rattle.world_law.proofs.steps_lemmas.{steps.{LeftSteps.left_step, Passed.clock_step}}
+use Rattle.world_law.proofs.steps_lemmas.Words
+use Words.{if◌then◌else◌, ◌++◌, ◌+◌, ◌<◌, ◌∙◌, ◌∷◌, ◌≡◌, ◌≤◌, ◌⊎◌, Act, ArePutIn, AtPort, Bool, Compressed, DeviceId}
+use Words.{Happening, IsBefore, IsIn, LinkId, List, Network, Node, NoneBefore, Note, NoteBody, Ripe, Scenario, Some}
+use Words.{Stands, StandsBehind, State, Units, Waiting, World, [], amount, ap, append-nil, arith, arrival_body}
+use Words.{before_behind, behind, both_ways, chain, false, happenings, in_left, in_parts, in_right, inl, inr}
+use Words.{is_at_source, is_broken, is_cut, length, place_of, port_place, rank, refl, second, settled_as, subst, sym}
+use Words.{time_of, true, way_from, wire_place, ℕ}
+use Rattle.world_law.proofs.steps_lemmas.acting.{ActedSteps.acted_step}
+use Rattle.world_law.proofs.steps_lemmas.acting.{Kept.{act_rest, act_stands, late_rank, low_rank}}
+use Rattle.world_law.specs.{world.{Moves.StandsAt, Outcomes.{departure_body, judged_as}}}
+use Rattle.world_law.specs.steps.{Acting.{AreActBodies, first_bodies, joining_bodies, rank_of_act}}
+use Rattle.world_law.specs.steps.{Ripening.ripe_bodies, Steps.departure_now}
+use Rattle.world_law.specs.steps.Turns
+use Turns.{ActedTurn, ClockTurn, HeardTurn, IsTurn, LeftTurn, RipenedTurn, TurnsBy, next_note, starts_there}
+use Rattle.run_law.specs.declared.note.NoteBody.TheVariants as kinds
+use Rattle.run_law.specs.declared.steps.Act.TheVariants as acts
+use Rattle.run_law.specs.declared.steps.Arrival.TheVariants as arrivals
+use Rattle.run_law.specs.declared.steps.Ripe.TheVariants as ripe
+use Rattle.sync_state.specs.declared.answers.Verdict.TheVariants as verdicts
+use Rattle.sync_state.specs.declared.state.State.TheVariants as states
+
+-- ---- the turn of a source, which is worked off with its records to come: what stands there is given
 
 -- ---- what is put in
 
@@ -83,11 +105,11 @@ pub data AreThere (network : Network) (hs : List Happening) (now : ℕ) (at : Li
       → AreThere network hs now at bodies
 
 -- a record that is the only one
-pub one_there : {network : Network} {hs : List Happening} {now : ℕ} {at : List ℕ} (body : NoteBody)
+one_there : {network : Network} {hs : List Happening} {now : ℕ} {at : List ℕ} (body : NoteBody)
     → is_at_source body ≡ true → place_of (settled_as network hs now body) ≡ at → AreThere network hs now at (body ∷ [])
 one_there body own place = AreThere.first body [] own place (λ other i. absurd i)
 
-pub one_later : {network : Network} {hs : List Happening} {now : ℕ} {at : List ℕ} (body : NoteBody)
+one_later : {network : Network} {hs : List Happening} {now : ℕ} {at : List ℕ} (body : NoteBody)
     → is_at_source body ≡ false → AreThere network hs now at (body ∷ [])
 one_later body late = AreThere.later (body ∷ []) (λ other i. elim i [
   | inl e ↦ ap is_at_source e ∙ late
@@ -95,7 +117,7 @@ one_later body late = AreThere.later (body ∷ []) (λ other i. elim i [
 ])
 
 -- two, of which the second stands behind the first
-pub two_there : {network : Network} {hs : List Happening} {now r : ℕ} {more : List ℕ} (body change : NoteBody)
+two_there : {network : Network} {hs : List Happening} {now r : ℕ} {more : List ℕ} (body change : NoteBody)
     → is_at_source body ≡ true → place_of (settled_as network hs now body) ≡ now ∷ r ∷ more → r < rank change
     → AreThere network hs now (now ∷ r ∷ more) (body ∷ change ∷ [])
 two_there {r} body change own place less = AreThere.first body (change ∷ []) own place (λ other i. elim i [
@@ -123,7 +145,7 @@ none_starts [] late = refl
 none_starts (body ∷ bodies) late = late body (inl refl)
 
 -- where the first of them is of a higher rank, none stands where the source does
-pub high_starts : {network : Network} {hs : List Happening} {now r : ℕ} {rest : List ℕ} {bodies : List NoteBody}
+high_starts : {network : Network} {hs : List Happening} {now r : ℕ} {rest : List ℕ} {bodies : List NoteBody}
     → AreThere network hs now (now ∷ r ∷ rest) bodies
     → ((body : NoteBody) (others : List NoteBody) → bodies ≡ body ∷ others → r < rank body)
     → starts_there bodies ≡ false
@@ -212,7 +234,7 @@ turn_by {reading} {stands} {s} {world} {notes} old r {rest} kind {bodies} mid {n
     ])))
 
 -- the turn of a source: its own record is the next once the others are put in, and may be given
-pub turn_of : {C M : Type 0} {reading : C → ℕ → ℕ} {stands : M → Network → DeviceId → Node → Type 0} {s : Scenario}
+turn_of : {C M : Type 0} {reading : C → ℕ → ℕ} {stands : M → Network → DeviceId → Node → Type 0} {s : Scenario}
     {world : World C M} {notes : List Note} (old : Stands reading stands s world notes) (r : ℕ) {rest : List ℕ}
     → IsTurnRank r → {bodies : List NoteBody} (mid : World C M) → mid.settled ≡ world.settled
     → NoneBefore place_of world.settled (world.now ∷ r ∷ rest)
@@ -239,3 +261,172 @@ turn_of {s} {world} {notes} old r {rest} kind mid same none there step = record 
       };
   then_stands = λ new more turn. turn_by old r kind mid same none there step turn;
 }
+
+-- ---- the turns of what a device does by itself
+
+-- a broken way makes a dispatch a loss: neither stands where the act does
+dispatch_there : {network : Network} {hs : List Happening} {now : ℕ} {at : List ℕ} (cut : Bool) (lost sent : NoteBody)
+    → is_at_source lost ≡ false → is_at_source sent ≡ false
+    → AreThere network hs now at ((if cut then lost else sent) ∷ [])
+dispatch_there true lost sent x y = one_later lost x
+dispatch_there false lost sent x y = one_later sent y
+
+joining_there : (s : Scenario) (hs : List Happening) (now number : ℕ) (device : DeviceId)
+    (sent : Compressed) (heard : Ripe)
+    → AreThere s.network hs now (now ∷ 4 ∷ act_rest s.network device (acts.Emit sent heard))
+    (kinds.Compressed device sent.opened sent.at sent.cycle sent.members (judged_as heard)
+    ∷ joining_bodies number device heard)
+joining_there s hs now number device sent ripe.Integrates = two_there _ _ refl refl (omega arith)
+joining_there s hs now number device sent heard = one_there _ refl refl
+
+first_there : (s : Scenario) (hs : List Happening) (now number : ℕ) (device : DeviceId) (cycle : ℕ)
+    (by adjustment : Units)
+    (was : State) → AreThere s.network hs now (now ∷ 6 ∷ device.0 ∷ [])
+    (kinds.Corrected device cycle by adjustment ∷ first_bodies number device was)
+first_there s hs now number device cycle by adjustment states.Joining = two_there _ _ refl refl (omega arith)
+first_there s hs now number device cycle by adjustment was = one_there _ refl refl
+
+act_there : (s : Scenario) (hs : List Happening) (now : ℕ) (device : DeviceId) (was : State) (adjustment : Units)
+    (act : Act) (bodies : List NoteBody) → AreActBodies s hs now device was adjustment act bodies
+    → AreThere s.network hs now (now ∷ rank_of_act act ∷ act_rest s.network device act) bodies
+act_there s hs now device was adjustment (acts.Send frame) bodies are =
+    rw are (one_there _ refl refl)
+act_there s hs now device was adjustment (acts.Emit sent heard) bodies are =
+    rw are (joining_there s hs now (length hs + 1) device sent heard)
+act_there s hs now device was adjustment (acts.Correct cycle (verdicts.Corrected by)) bodies are =
+    rw are (first_there s hs now (length hs + 1) device cycle by adjustment was)
+act_there s hs now device was adjustment (acts.Correct cycle verdicts.SyncClique) bodies are =
+    rw are (one_later _ refl)
+act_there s hs now device was adjustment (acts.Correct cycle verdicts.AsyncClique) bodies are =
+    rw are (one_later _ refl)
+act_there s hs now device was adjustment (acts.Correct cycle verdicts.Cleared) bodies are =
+    AreThere.later bodies (λ b i. absurd (rw are at i))
+act_there s hs now device was adjustment (acts.Dispatch row cycle) bodies are =
+    rw are.4 (dispatch_there (is_cut s are.0.row.link (way_from s.network device are.0.row.link) now) _ _ refl refl)
+
+-- where the first of its records is of a higher rank than any act, none of them stands where it is done
+pub act_starts_late : (s : Scenario) (hs : List Happening) (now : ℕ) (device : DeviceId) (was : State)
+    (adjustment : Units) (act : Act) (bodies : List NoteBody) → AreActBodies s hs now device was adjustment act bodies
+    → ((body : NoteBody) (others : List NoteBody) → bodies ≡ body ∷ others → 6 < rank body)
+    → starts_there bodies ≡ false
+act_starts_late s hs now device was adjustment act bodies are high =
+    let low = low_rank act in
+    high_starts (act_there s hs now device was adjustment act bodies are)
+    (λ body others whole. let above = high body others whole in omega arith)
+
+-- nothing to come of a higher rank stands before it
+none_above : (now r : ℕ) (more : List ℕ) (zs : List Happening) → ((z : Happening) → IsIn z zs → time_of z ≡ now)
+    → ((z : Happening) → IsIn z zs → r < rank z.note.body)
+    → NoneBefore place_of zs (now ∷ r ∷ more)
+none_above now r more zs of above z i (inl lt) = omega arith
+none_above now r more zs of above z i (inr (e, inl lt)) = omega arith
+none_above now r more zs of above z i (inr (e, inr (f, b))) = omega arith
+
+pub acted_turn : {C M : Type 0} (reading : C → ℕ → ℕ) (stands : M → Network → DeviceId → Node → Type 0)
+    → ActedTurn reading stands
+acted_turn reading stands s world notes device after bodies machines old a set =
+    let now = world.now in
+    let r = rank_of_act a.act in
+    let rest = act_rest s.network device a.act in
+    let acted = record world { early = false; machines = machines } in
+    rw (act_stands s.network now device a.act) (turn_of old r (inr (inr (inr (inr (late_rank a.act, low_rank a.act)))))
+    acted refl
+    (none_above now r rest world.settled old.are.of_now a.apart)
+    (act_there s (happenings s.network notes) now device a.was a.adjustment a.act bodies a.are)
+    (λ settled put. acted_step reading stands s settled a set put))
+
+-- ---- the turns of what leaves, arrives and is permanent
+
+-- ---- a frame leaves
+
+left_there : (network : Network) (hs : List Happening) (now : ℕ) (e : AtPort) (is : Departure)
+    → AreThere network hs now (now ∷ 8 ∷ e.device.0 ∷ e.link.0 ∷ e.cause ∷ []) (departure_body e is ∷ [])
+left_there network hs now e (leaves clock) = one_there _ refl refl
+left_there network hs now e too_old = one_later _ refl
+left_there network hs now e on_cut_way = one_later _ refl
+
+-- of a broken device none does
+left_or_none : {network : Network} {hs : List Happening} {now : ℕ} {at : List ℕ} {body : NoteBody} (broken : Bool)
+    → AreThere network hs now at (body ∷ []) → AreThere network hs now at (if broken then [] else body ∷ [])
+left_or_none true there = AreThere.later [] (λ other i. absurd i)
+left_or_none false there = there
+
+pub left_turn : {C M : Type 0} (reading : C → ℕ → ℕ) (stands : M → Network → DeviceId → Node → Type 0)
+    → LeftTurn reading stands
+left_turn reading stands s world notes e ports old i at first without =
+    let now = world.now in
+    let rest = e.device.0 ∷ e.link.0 ∷ e.cause ∷ [] in
+    let place : port_place e ≡ now ∷ 8 ∷ rest = rw at in
+    let is = departure_now s e now in
+    rw place (turn_of old 8 (inr (inr (inl refl))) (record world { ports = ports; early = false }) refl
+    (subst (λ q. NoneBefore place_of world.settled q) place first.after)
+    (left_or_none (is_broken s e.device now)
+    (left_there s.network (happenings s.network notes) now e is))
+    (λ settled put. left_step reading stands s world notes e ports settled i at first without put))
+
+-- ---- a frame arrives
+
+heard_there_too : (network : Network) (hs : List Happening) (now : ℕ) (device : DeviceId) (link : LinkId)
+    (cause : ℕ) (is : Arrival)
+    → AreThere network hs now (now ∷ 2 ∷ device.0 ∷ link.0 ∷ cause ∷ []) (arrival_body device link cause is ∷ [])
+heard_there_too network hs now device link cause (arrivals.PassesAndWaits frame way point) = one_there _ refl refl
+heard_there_too network hs now device link cause (arrivals.Dropped reason) = one_later _ refl
+heard_there_too network hs now device link cause (arrivals.Accepted vl cycle) = one_later _ refl
+heard_there_too network hs now device link cause (arrivals.Delivered vl cycle) = one_later _ refl
+heard_there_too network hs now device link cause other = one_there _ refl refl
+
+pub heard_turn : {C M : Type 0} (reading : C → ℕ → ℕ) (stands : M → Network → DeviceId → Node → Type 0)
+    → HeardTurn reading stands
+heard_turn reading stands s world notes e machine heard octets result machines wires old i at first there octets_of may
+    hears set without =
+    let rest = e.device.0 ∷ e.link.0 ∷ e.cause ∷ [] in
+    let place : wire_place e ≡ world.now ∷ 2 ∷ rest = rw at in
+    let arrived = record world { early = false; machines = machines; wires = wires } in
+    subst (λ q. TurnsBy reading stands s notes (arrival_body e.device e.link e.cause result ∷ []) arrived q) (sym place)
+    (turn_of old 2 (inl refl) arrived refl (subst (λ q. NoneBefore place_of world.settled q) place first.after)
+    (heard_there_too s.network (happenings s.network notes) world.now e.device e.link e.cause result)
+    (λ settled put. heard_step s e result wires
+    settled i at
+    first there octets_of may hears set without put))
+
+-- ---- a frame is permanent
+
+judged_there : (hs : List Happening) (now : ℕ) (e : Waiting) → frame_from hs e.cause ≡ Some e.frame
+    → now ∷ 3 ∷ e.device.0 ∷ amount e.point
+    ∷ Rattle.std.specs.Option.option_map_or (λ f. f.members.0) (frame_from hs e.cause) 0 ∷ e.link.0 ∷ e.cause ∷ []
+    ≡ now ∷ 3 ∷ ripe_more e
+judged_there hs now e frame =
+    rw frame
+
+ripe_there : (network : Network) (hs : List Happening) (now number : ℕ) (e : Waiting)
+    → frame_from hs e.cause ≡ Some e.frame → (is : Ripe)
+    → AreThere network hs now (now ∷ 3 ∷ ripe_more e) (ripe_bodies number e.device e.link e.cause e.point is)
+ripe_there network hs now number e frame (ripe.Dropped reason) = one_later _ refl
+ripe_there network hs now number e frame ripe.Integrates =
+    two_there _ _ refl (judged_there hs now e frame) (omega arith)
+ripe_there network hs now number e frame other = one_there _ refl (judged_there hs now e frame)
+
+pub ripened_turn : {C M : Type 0} (reading : C → ℕ → ℕ) (stands : M → Network → DeviceId → Node → Type 0)
+    → RipenedTurn reading stands
+ripened_turn reading stands s world notes e machine ripe result machines waiting old i reached first there has set
+    without =
+    let it = old.waiting.real e i in
+    let frame : frame_from (happenings s.network notes) e.cause ≡ Some e.frame =
+    rw it.there
+    it.awaited.of_frame in
+    turn_of old 3 (inr (inl refl))
+    (record world { early = false; machines = machines; waiting = waiting }) refl first.after
+    (ripe_there s.network (happenings s.network notes) world.now (length notes + 1) e frame result)
+    (λ settled put. ripened_step s e result waiting settled i
+    reached first there has set without put)
+
+-- ---- the clock of a device is shown at the end, and its record is given
+
+pub clock_turn : {C M : Type 0} (reading : C → ℕ → ℕ) (stands : M → Network → DeviceId → Node → Type 0)
+    → ClockTurn reading stands
+clock_turn reading stands s world notes device machine state adjustment old lt ended shown first there stood =
+    turn_of old 14 {rest = (device.0 ∷ [])} (inr (inr (inr (inl refl))))
+    (record world { early = false; shown = world.shown + 1 })
+    refl first.after (one_there _ refl refl)
+    (λ settled put. clock_step s device state adjustment settled lt ended shown
+    first there stood put)

@@ -1,5 +1,6 @@
 use Rattle.{run_law.specs.scenario.Hypothesis.breaks_at}
-use Rattle.{std.{proofs.Common.{◌∙◌, ap, not, sym}}, world_state.proofs.Emptied.{alike, all_kept, keeps_it}}
+use Rattle.std.proofs.Common.{◌∙◌, ap, not, sym}
+use Rattle.world_state.proofs.Queues.{alike, all_kept, keeps_it}
 use Rattle.world_state.proofs.applying.drop_waiting.Goals as goal
 
 pub returns-in-Some : goal.returns-in-Some

@@ -1,4 +1,5 @@
-use Rattle.{std.proofs.{Common.{◌∙◌, arith}, lemmas.List.{get_or-set_other, length-set}}, world_state.proofs.Befallings.loop_step}
+use Rattle.std.proofs.{Common.{◌∙◌, arith}, lemmas.List.{get_or-set_other, length-set}}
+use Rattle.world_state.proofs.WorldSteps.{loop_step}
 use Rattle.world_state.proofs.befalling.settle_all.Goals as goal
 
 pub loop-index-preserved : goal.loop-index-preserved

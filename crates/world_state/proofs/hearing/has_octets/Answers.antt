@@ -1,5 +1,5 @@
-use Rattle.pcf_codec.{proofs.{Encoding.{Fits, spells}, Outcomes.spelt_read}, specs.Encoded.encoded}
-use Rattle.world_state.proofs.Hearings.{control_octets}
+use Rattle.pcf_codec.{proofs.Spellings.{Fits, spells, spelt_read}, specs.Encoded.encoded}
+use Rattle.world_state.proofs.WorldSteps.{control_octets}
 use Rattle.world_state.proofs.hearing.has_octets.Goals as goal
 
 pub returns : goal.returns

@@ -1,5 +1,6 @@
 use Rattle.{device_rules.specs.Reading.AreOfFrame, pcf_codec.specs.Encoded.encoded}
-use Rattle.{std.proofs.Common.{subst}, world_state.proofs.Hearings.{given_octets, may_hear, may_hear_some}}
+use Rattle.std.proofs.Common.{subst}
+use Rattle.world_state.proofs.WorldSteps.{given_octets, may_hear, may_hear_some}
 use Rattle.world_state.specs.{Hearing.{IsAsSent}, Keeping.keeps}
 use Rattle.world_state.proofs.hearing.hear_signal.Goals as goal
 

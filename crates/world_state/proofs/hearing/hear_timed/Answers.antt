@@ -1,6 +1,6 @@
 use Rattle.{world_state.specs.{Keeping.keeps}}
 use Rattle.{device_rules.specs.Reading.AreHeaded, std.proofs.Common.{◌∙◌, refl, rules}}
-use Rattle.world_state.proofs.{Hearings.{made_are, may_hear, may_hear_some, sent_octets}, Made.{made_heading, made_signal}}
+use Rattle.world_state.proofs.WorldSteps.{made_are, made_heading, made_signal, may_hear, may_hear_some, sent_octets}
 use Rattle.world_state.specs.{Views.octets_of, declared.contents.Timed.TheVariants.Made}
 use Rattle.world_state.proofs.hearing.hear_timed.Goals as goal
 

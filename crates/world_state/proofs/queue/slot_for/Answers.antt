@@ -1,6 +1,6 @@
 use Rattle.std.proofs.{Common.{◌∙◌, ap, arith, refl, subst, take}, Math.Seq.take-length}
 use Rattle.world_state.proofs.queue.slot_for.Goals.{else-place-cause-via-else-place-cause, else-place-cause-via-then-place-cause+else-place-rank}
-use Rattle.world_state.{proofs.queue_lemmas.Finding.{is_one, none_more}, specs.queue.Finding.NoSlotFor}
+use Rattle.world_state.{proofs.queue_lemmas.Slots.{is_one, none_more}, specs.queue.Finding.NoSlotFor}
 use Rattle.world_state.proofs.queue.slot_for.Goals as goal
 
 pub returns-then-place-rank-clause-found : goal.returns-then-place-rank-clause-found

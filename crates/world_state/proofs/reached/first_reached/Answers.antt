@@ -1,5 +1,5 @@
 use Rattle.std.{proofs.{Common.{◌∙◌, ap, sym}, lemmas.Bool.both_ways}, specs.{Option.option_copied}}
-use Rattle.world_state.{proofs.Queues.none_reached}
+use Rattle.world_state.proofs.Queues.{none_reached}
 use Rattle.world_state.proofs.reached.first_reached.Goals as goal
 
 pub returns-else-is_reached : goal.returns-else-is_reached

@@ -1,5 +1,5 @@
 use Rattle.std.{proofs.Common.{sym}}
-use Rattle.world_state.{proofs.Queues.least_is}
+use Rattle.world_state.proofs.Queues.{least_is}
 use Rattle.world_state.proofs.timing.least_point.Goals as goal
 
 pub returns-in-Some : goal.returns-in-Some

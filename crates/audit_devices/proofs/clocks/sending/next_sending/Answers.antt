@@ -1,4 +1,5 @@
-use Rattle.{audit_devices.proofs.clocks_lemmas.Dispatches.{next_sent, none_sent}, sync_state.specs.declared.state.State.TheVariants.Synchronised}
+use Rattle.audit_devices.proofs.clocks_lemmas.Reached.{next_sent, none_sent}
+use Rattle.sync_state.specs.declared.state.State.TheVariants.{Synchronised}
 use Rattle.{audit_devices.specs.Showing.IsSteady, audit_law.specs.events.Readings.scenario_under, std.proofs.Common.{◌+◌, ◌∙◌, ◌≡◌, arith, rules, sym}}
 use Rattle.audit_devices.proofs.clocks.sending.next_sending.Goals as goal
 

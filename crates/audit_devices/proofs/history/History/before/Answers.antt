@@ -1,4 +1,4 @@
-use Rattle.audit_devices.proofs.Partitions.{last_kept}
+use Rattle.audit_devices.proofs.Kept.{last_kept}
 use Rattle.audit_devices.proofs.Words.{◌∙◌, ◌≡◌, Bool, Entry, List, None, Option, Shown, Some, ap, is_before, last_or, option_map_or, slice_get-last, sym, true}
 use Rattle.audit_devices.proofs.history.History.before.Goals as goal
 

@@ -1,4 +1,5 @@
-use Rattle.{audit_devices.proofs.Lasting.ordered_by, std.specs.Prelude.nat_le}
+use Rattle.std.specs.Prelude.{nat_le}
+use Rattle.audit_devices.proofs.Kept.{ordered_by}
 use Rattle.audit_devices.proofs.Words.{◌≡◌, Bool, Entry, IsPartitionPoint, IsPartitionedBy, List, always_returns_same, false, of_calls, rules, subst}
 use Rattle.audit_devices.proofs.Words.{sym, time_at, true}
 use Rattle.audit_devices.proofs.history.History.count_up_to.Goals as goal

@@ -1,4 +1,4 @@
-use Rattle.audit_devices.proofs.{Partitions.kept_front, Words.{subst, sym, true}}
+use Rattle.audit_devices.proofs.{Kept.kept_front, Words.{subst, sym, true}}
 use Rattle.audit_devices.proofs.Words.{◌∙◌, ◌≡◌, ◌≤◌, Bool, Entry, IsPartitionPoint, IsPartitionedBy, List, always_returns_same, ap}
 use Rattle.audit_devices.proofs.Words.{false, is_before, length, of_calls, rules}
 use Rattle.audit_devices.specs.Keeping.{last_shown}

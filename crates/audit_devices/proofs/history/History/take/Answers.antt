@@ -1,4 +1,5 @@
-use Rattle.audit_devices.proofs.{Kept.{kept_on, kept_still, none_later}, KeptAll.{on_ok, place_met}, Words.{effect_of, if◌then◌else◌, subst, sym, ℕ}}
+use Rattle.audit_devices.proofs.{Kept.{kept_on, kept_still, none_later}, KeptAll.{on_ok, place_met}}
+use Rattle.audit_devices.proofs.{Words.{if◌then◌else◌, effect_of, subst, sym, ℕ}}
 use Rattle.audit_devices.proofs.Words.{◌++◌, ◌∙◌, ◌∷◌, ◌≡◌, Bool, Entry, Keeps, List, Nothing, Shows, [], ap, carried_by, effect_by}
 use Rattle.audit_devices.proofs.history.History.take.Goals as goal
 

@@ -1,4 +1,5 @@
-use Rattle.{audit_devices.proofs.Follows.follows, sync_state.proofs.membership_lemmas.SummaryLemmas.silence_summarizes}
+use Rattle.audit_devices.proofs.Follows.{follows}
+use Rattle.sync_state.proofs.membership_lemmas.SummaryLemmas.{silence_summarizes}
 use Rattle.audit_devices.proofs.shown.Shown.after.Goals as goal
 
 pub returns : goal.returns

@@ -1,5 +1,5 @@
 use Rattle.audit_devices.proofs.Words.{◌∙◌, ◌∷◌, ◌≤◌, Shows, [], arith, got_at, records_before, subst, sym}
-use Rattle.audit_devices.proofs.{KeptAll.earlier_are, Lasting.{end_later, end_near, up_to_end}}
+use Rattle.audit_devices.proofs.{Kept.{end_later, end_near, up_to_end}, KeptAll.earlier_are}
 use Rattle.audit_devices.proofs.standings.Standings.after_time.Goals as goal
 
 pub returns-clause-near : goal.returns-clause-near

@@ -1,5 +1,5 @@
 use Rattle.audit_devices.proofs.Words.{◌++◌, ◌∙◌, ◌∷◌, ◌≡◌, Global, List, Taking, Vec, [], ap, arith, length, length-append, option_map_or, refl, slice_get}
-use Rattle.audit_devices.proofs.Takes.{more_room}
+use Rattle.audit_devices.proofs.KeptAll.{more_room}
 use Rattle.audit_devices.proofs.takings.DeviceTakings.make_room.Goals as goal
 
 pub loop-init : goal.loop-init

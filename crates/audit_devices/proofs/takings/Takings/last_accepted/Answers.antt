@@ -1,4 +1,4 @@
-use Rattle.audit_devices.proofs.{Takes.last_accepted_is, Words.{option_map_or, subst, sym, taken_of, takings_of}}
+use Rattle.audit_devices.proofs.{KeptAll.last_accepted_is, Words.{option_map_or, subst, sym, taken_of, takings_of}}
 use Rattle.audit_devices.proofs.Words.{◌∙◌, ◌≡◌, AscendAll, DeviceTakings, List, None, Option, Taking, [], ap, filter, got_at, is_taking_before, last_or}
 use Rattle.audit_devices.proofs.takings.Takings.last_accepted.Goals as goal
 

@@ -1,4 +1,5 @@
-use Rattle.audit_devices.proofs.{Takes.last_taken_is, Words.{last_or, option_map, option_map_or, subst, sym, taken_of, takings_of}}
+use Rattle.audit_devices.proofs.{KeptAll.last_taken_is}
+use Rattle.audit_devices.proofs.{Words.{last_or, option_map, option_map_or, subst, sym, taken_of, takings_of}}
 use Rattle.audit_devices.proofs.Words.{◌∙◌, ◌≡◌, AscendAll, Bool, DeviceTakings, None, Option, Some, Taking, [], ap, filter, got_at, is_taking_before}
 use Rattle.audit_devices.proofs.takings.Takings.last_taken.Goals as goal
 

@@ -1,5 +1,5 @@
 use Rattle.audit_devices.proofs.Words.{◌++◌, ◌∙◌, ◌∷◌, ◌≡◌, [], ap, arith, length, length-append}
-use Rattle.audit_devices.proofs.Takes.{items_by, more_devices, no_devices, none_taken}
+use Rattle.audit_devices.proofs.KeptAll.{items_by, more_devices, no_devices, none_taken}
 use Rattle.audit_devices.proofs.takings.Takings.new.Goals as goal
 
 pub loop-init : goal.loop-init

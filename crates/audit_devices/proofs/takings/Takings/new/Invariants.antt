@@ -1,4 +1,4 @@
-use Rattle.audit_devices.proofs.{Takes.items_by, Words.{◌≡◌, VlId, [], length, ℕ}}
+use Rattle.audit_devices.proofs.{KeptAll.items_by, Words.{◌≡◌, VlId, [], length, ℕ}}
 use Rattle.audit_devices.proofs.takings.Takings.new.Given as goal
 
 abbrev pub invariant-loop : goal.invariant-loop

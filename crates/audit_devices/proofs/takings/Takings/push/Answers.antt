@@ -1,5 +1,7 @@
-use Rattle.audit_devices.proofs.{KeptAll.on_ok, Words.{◌++◌, ◌<◌, ◌∙◌, ◌∷◌, ◌≡◌, None, Some, [], arith, got_at, length, refl, rules, subst, sym, time_of}}
-use Rattle.{audit_devices.proofs.Takes.{kept_on, nothing_taken, of_ok, other_taken, taken_on, told_by}, std.specs.Vec.with_item}
+use Rattle.std.specs.Vec.{with_item}
+use Rattle.audit_devices.proofs.{KeptAll.{kept_on, nothing_taken, of_ok, on_ok, other_taken, taken_on, told_by}}
+use Rattle.audit_devices.proofs.Words.{◌++◌, ◌<◌, ◌∙◌, ◌∷◌, ◌≡◌, None, Some, [], arith, got_at, length, refl, rules}
+use Rattle.audit_devices.proofs.Words.{subst, sym, time_of}
 use Rattle.audit_devices.specs.{Taking.taken_by, Takings.{HasTaken, TakesRightly, kept_of, taker_count}, declared.takings.Takings.Takings}
 use Rattle.audit_devices.proofs.takings.Takings.push.Goals as goal
 

@@ -1,4 +1,4 @@
-use Rattle.audit_law.proofs.events_lemmas.Reaching.{halves_down, halves_up}
+use Rattle.audit_law.proofs.events_lemmas.Clocks.{halves_down, halves_up}
 use Rattle.std.proofs.Common.{◌+◌, ◌-◌, ◌/◌, arith}
 use Rattle.audit_law.proofs.events.clocks.count_short.Goals as goal
 

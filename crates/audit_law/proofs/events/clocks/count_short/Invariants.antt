@@ -1,4 +1,4 @@
-use Rattle.audit_law.proofs.events_lemmas.Reaching.{IsHalved}
+use Rattle.audit_law.proofs.events_lemmas.Clocks.{IsHalved}
 use Rattle.std.proofs.Common.{◌-◌}
 use Rattle.audit_law.proofs.events.clocks.count_short.Given as goal
 

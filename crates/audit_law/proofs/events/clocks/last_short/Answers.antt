@@ -1,4 +1,4 @@
-use Rattle.audit_law.proofs.events_lemmas.Reaching.{first_of_last, last_readable, left_of, rising, set_last_at}
+use Rattle.audit_law.proofs.events_lemmas.Clocks.{first_of_last, last_readable, left_of, rising, set_last_at}
 use Rattle.audit_law.{specs.events.Settings.{change_to, later_than, value_at}}
 use Rattle.audit_law.specs.events.Clocks.{IsReadable}
 use Rattle.std.{proofs.Common.{ap, arith, subst, sym}}

@@ -1,4 +1,5 @@
-use Rattle.{audit_law.proofs.events_lemmas.Clocking.value_ready, std.proofs.{Common.{◌≤◌, arith}, lemmas.Int.ints}}
+use Rattle.std.proofs.{Common.{◌≤◌, arith}, lemmas.Int.ints}
+use Rattle.audit_law.proofs.events_lemmas.Clocks.{value_ready}
 use Rattle.audit_law.proofs.events.clocks.reading.Goals as goal
 
 pub read-requires-clause-stepped : goal.read-requires-clause-stepped

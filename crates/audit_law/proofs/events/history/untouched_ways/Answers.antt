@@ -1,4 +1,5 @@
-use Rattle.{audit_law.{proofs.events_lemmas.Beginning.two_more, specs.events.Beginnings.AreWaysOf}, tte_units.proofs.general_lemmas.Lists.take_all}
+use Rattle.audit_law.{proofs.events_lemmas.Histories.two_more, specs.events.Beginnings.AreWaysOf}
+use Rattle.tte_units.proofs.general_lemmas.Lists.{take_all}
 use Rattle.{std.proofs.Common.{◌++◌, ◌∙◌, ◌∷◌, [], ap, subst, sym}}
 use Rattle.{std.{proofs.lemmas.List.take_more, specs.Prelude.take}}
 use Rattle.audit_law.proofs.events.history.untouched_ways.Goals as goal

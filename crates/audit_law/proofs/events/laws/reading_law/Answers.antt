@@ -1,4 +1,4 @@
-use Rattle.audit_law.proofs.events_lemmas.Reading.{reads_on}
+use Rattle.audit_law.proofs.events_lemmas.Keeping.{reads_on}
 use Rattle.audit_law.proofs.events.laws.reading_law.Goals as goal
 
 pub returns : goal.returns

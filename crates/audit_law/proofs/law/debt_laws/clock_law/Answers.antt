@@ -1,4 +1,4 @@
-use Rattle.audit_law.proofs.law_lemmas.EndingClocks.{clock_law}
+use Rattle.audit_law.proofs.law_lemmas.EventDebts.{clock_law}
 use Rattle.audit_law.proofs.law.debt_laws.clock_law.Goals as goal
 
 pub returns : goal.returns

@@ -1,4 +1,4 @@
-use Rattle.audit_law.proofs.law_lemmas.SameRuns.{same_runs}
+use Rattle.audit_law.proofs.law_lemmas.SameDue.{same_runs}
 use Rattle.audit_law.proofs.law.laws.same_runs_law.Goals as goal
 
 pub returns : goal.returns

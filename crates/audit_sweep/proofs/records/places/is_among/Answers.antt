@@ -1,4 +1,5 @@
-use Rattle.{run_law.{proofs.law.FirstPlaces.in_at, specs.records.Order.IsIn}, std.{proofs.lemmas.Bool.ltb-true, specs.Prelude.slice_get}}
+use Rattle.std.{proofs.lemmas.Bool.ltb-true, specs.Prelude.slice_get}
+use Rattle.run_law.{proofs.law.FirstDeliveries.in_at, specs.records.Order.IsIn}
 use Rattle.{std.proofs.Common.{◌≡◌, Some, length, subst, sym}, tte_units.proofs.general_lemmas.Lists.got_at}
 use Rattle.audit_sweep.proofs.records.places.is_among.Goals as goal
 

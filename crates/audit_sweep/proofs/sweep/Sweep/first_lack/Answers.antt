@@ -1,6 +1,7 @@
 use Rattle.{audit_law.specs.law.FirstDebts.earlier_of, audit_sweep.specs.{Lacking.{AreEventsTold, TellsFirstLack}, unpaid.Clocks.IsOnlyEnd}}
 use Rattle.audit_sweep.specs.unpaid.Sorts.{IsClockDebt, IsDispatchDebt, IsEmissionDebt, IsPointDebt, IsRecordDebt, IsSendingDebt}
-use Rattle.audit_sweep.proofs.Lacks.{back, first_of, founded, here, kept_for_clocks, kept_for_clusters, of_devices, only_end, some_here, tells_lack, there}
+use Rattle.audit_sweep.proofs.Lacks.{back, first_of, founded, here, kept_for_clocks, kept_for_clusters, of_devices}
+use Rattle.audit_sweep.proofs.Lacks.{only_end, some_here, tells_lack, there}
 use Rattle.audit_sweep.proofs.Words.{◌∙◌, ◌≡◌, Network, Units, amount, ap, refl, scenario_under, subst, sym}
 use Rattle.audit_sweep.specs.unpaid.points.Kept as clocks
 use Rattle.audit_sweep.specs.unpaid.emissions.Kept as clusters

@@ -1,4 +1,5 @@
-use Rattle.{audit_sweep.proofs.{MoreRecords.sound_more, SomeSwept.{knows_of_some, range_of_some, same_end}}, run_law.specs.records.Order.AllBefore}
+use Rattle.audit_sweep.proofs.{Lacks.{knows_of_some, range_of_some, same_end}, NextRecords.sound_more}
+use Rattle.run_law.specs.records.Order.{AllBefore}
 use Rattle.audit_sweep.proofs.{NamedDevices.named_more, Words.{◌∙◌, IsDue, founded_of_sound, happening, place_of, refl, scenario_under, subst, sym}}
 use Rattle.audit_sweep.proofs.sweep.Sweep.push.Goals as goal
 

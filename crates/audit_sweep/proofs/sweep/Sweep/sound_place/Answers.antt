@@ -1,4 +1,5 @@
-use Rattle.{audit_sweep.proofs.SomeSwept.{end_of_some, knows_of_some, range_of_some, time_within}, run_law.specs.records.Order.AllBefore}
+use Rattle.audit_sweep.proofs.Lacks.{end_of_some, knows_of_some, range_of_some, time_within}
+use Rattle.run_law.specs.records.Order.{AllBefore}
 use Rattle.audit_sweep.proofs.Words.{IsDue, amount, ap, arith, founded_of_sound, happening, inl, place_of, scenario_under, subst, sym}
 use Rattle.audit_sweep.proofs.sweep.Sweep.sound_place.Goals as goal
 

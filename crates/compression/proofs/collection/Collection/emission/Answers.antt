@@ -1,5 +1,5 @@
 use Rattle.std.proofs.{Common.{◌∙◌, ◌≡◌, ap, arith}, lemmas.Int.ints}
-use Rattle.compression.{proofs.Emitting.{fits_within, middle-within}, specs.Middle.{middle_of, relative}}
+use Rattle.compression.{proofs.Collectors.{fits_within, middle-within}, specs.Middle.{middle_of, relative}}
 use Rattle.compression.proofs.collection.Collection.emission.Goals as goal
 
 pub overflow_add-result-2 : goal.overflow_add-result-2

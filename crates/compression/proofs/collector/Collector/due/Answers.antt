@@ -1,4 +1,5 @@
-use Rattle.{compression.{proofs.Emitting.IsLeast-first}, std.proofs.{Common.arith, lemmas.Int.ints}}
+use Rattle.std.proofs.{Common.arith, lemmas.Int.ints}
+use Rattle.compression.proofs.Collectors.{IsLeast-first}
 use Rattle.compression.proofs.collector.Collector.due.Goals as goal
 
 pub emission-requires-clause-time : goal.emission-requires-clause-time

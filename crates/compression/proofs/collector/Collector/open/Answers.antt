@@ -1,4 +1,4 @@
-use Rattle.compression.{proofs.Sound.{IsSound-opened, length-push, room_to_open}, specs.{Clusters.{Point}}}
+use Rattle.compression.{proofs.Collectors.{IsSound-opened, length-push, room_to_open}, specs.Clusters.Point}
 use Rattle.{compression.specs.Row.IsSound, std.proofs.Common.{◌∙◌, ap, arith, length, subst}}
 use Rattle.compression.proofs.collector.Collector.open.Goals as goal
 

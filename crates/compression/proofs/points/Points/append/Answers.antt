@@ -1,5 +1,5 @@
 use Rattle.std.proofs.{Common.{◌<◌, FitsSigned, arith, length, rules, w64}, lemmas.{Int.to_z-of_z, List.length-append}}
-use Rattle.compression.{proofs.Ascents.IsAscending-push, specs.Ascent.MayFollow}
+use Rattle.compression.{proofs.Middles.IsAscending-push, specs.Ascent.MayFollow}
 use Rattle.compression.proofs.points.Points.append.Goals as goal
 
 pub invariant_of-self : goal.invariant_of-self

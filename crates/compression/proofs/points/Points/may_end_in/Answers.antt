@@ -1,5 +1,5 @@
 use Rattle.std.{proofs.{Common.{◌∙◌, ◌≡◌, None, Some, ap, arith, sym}, lemmas.Int.to_z-of_z}, specs.List.last_or}
-use Rattle.compression.proofs.Ascents.{slice_get-last}
+use Rattle.compression.proofs.Middles.{slice_get-last}
 use Rattle.compression.proofs.points.Points.may_end_in.Goals as goal
 
 pub returns-in-Some : goal.returns-in-Some

@@ -1,5 +1,5 @@
 use Rattle.std.proofs.{Common.{◌∙◌, FitsSigned, pos, refl, rules, slice_index_or, subst, w64}, lemmas.Int.to_z-of_z}
-use Rattle.compression.{proofs.Ascents.{offset_at-within, offset_fits}, specs.Ascent.IsAscending}
+use Rattle.compression.{proofs.Middles.{offset_at-within, offset_fits}, specs.Ascent.IsAscending}
 use Rattle.compression.proofs.points.Points.offset.Goals as goal
 
 pub overflow_sub-result : goal.overflow_sub-result

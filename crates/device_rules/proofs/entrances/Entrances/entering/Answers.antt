@@ -1,4 +1,5 @@
-use Rattle.{device_rules.proofs.Entered.{entered, found_is, has_period, unknown}, std.proofs.Common.{◌∙◌, sym}}
+use Rattle.std.proofs.Common.{◌∙◌, sym}
+use Rattle.device_rules.proofs.Takings.{entered, found_is, has_period, unknown}
 use Rattle.device_rules.proofs.entrances.Entrances.entering.Goals as goal
 
 pub returns-in-Some-row_at-clause-period : goal.returns-in-Some-row_at-clause-period

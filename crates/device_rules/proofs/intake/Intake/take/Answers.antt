@@ -1,5 +1,5 @@
 use Rattle.std.{proofs.{Common.{◌∙◌, None, Some, rules, sym}, lemmas.Int.to_z-of_z}, specs.Int.{w128, w64}}
-use Rattle.device_rules.{proofs.Takings.{cycle_same, found_at, has_taken, judged, none_there, place_same}}
+use Rattle.device_rules.proofs.Takings.{cycle_same, found_at, has_taken, judged, none_there, place_same}
 use Rattle.device_rules.proofs.intake.Intake.take.Goals as goal
 
 pub returns-in_default-clause-is : goal.returns-in_default-clause-is

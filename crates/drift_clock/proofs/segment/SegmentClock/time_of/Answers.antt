@@ -1,5 +1,6 @@
 use Rattle.std.proofs.Common.{◌+◌, ◌<◌, ap, arith, sym}
-use Rattle.drift_clock.{proofs.Reaches.{IsCounted, segment_counts_up}, specs.{Counts.gain, Segment.Segment, SegmentLaws.gain_near}}
+use Rattle.drift_clock.{proofs.Drifts.{IsCounted, segment_counts_up}}
+use Rattle.drift_clock.{specs.{Counts.gain, Segment.Segment, SegmentLaws.gain_near}}
 use Rattle.drift_clock.proofs.segment.SegmentClock.time_of.Goals as goal
 
 -- as many steps count as many units

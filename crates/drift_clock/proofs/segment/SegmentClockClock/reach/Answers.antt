@@ -1,6 +1,6 @@
 use Rattle.std.proofs.Common.{◌%◌, ◌*◌, ◌+◌, ◌<◌, ◌^◌, ◌≡◌, ◌≤◌, ap, arith, pos, sym, unsigned_abs}
 use Rattle.std.proofs.lemmas.Int.{ints}
-use Rattle.drift_clock.proofs.Reaches.{IsCounted, counts_on, reach_from, segment_comes, segment_reached}
+use Rattle.drift_clock.proofs.Drifts.{IsCounted, counts_on, reach_from, segment_comes, segment_reached}
 use Rattle.drift_clock.specs.Segment.{segment_count, segment_reading}
 use Rattle.drift_clock.proofs.segment.SegmentClockClock.reach.Goals as goal
 

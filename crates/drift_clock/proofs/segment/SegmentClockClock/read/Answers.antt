@@ -1,4 +1,5 @@
-use Rattle.{drift_clock.{proofs.Drifts.whole_grains, specs.{Counts.rounded, Segment.{segment_count}}}, std.proofs.Common.{◌∙◌, ap, pos, sym}}
+use Rattle.std.proofs.Common.{◌∙◌, ap, pos, sym}
+use Rattle.drift_clock.{proofs.Drifts.whole_grains, specs.{Counts.rounded, Segment.segment_count}}
 use Rattle.drift_clock.proofs.segment.SegmentClockClock.read.Goals as goal
 
 pub returns : goal.returns

@@ -1,5 +1,5 @@
 use Rattle.std.proofs.{Common.{◌%◌, ◌*◌, ◌+◌, ◌/◌, ◌<◌, ◌≡◌, ◌≤◌, arith, unsigned_abs}, lemmas.Int.ints}
-use Rattle.drift_clock.proofs.Reaches.{reach_from, steady_reaches}
+use Rattle.drift_clock.proofs.Drifts.{reach_from, steady_reaches}
 use Rattle.drift_clock.proofs.steady.SteadyClockClock.reach.Goals as goal
 
 pub returns : goal.returns

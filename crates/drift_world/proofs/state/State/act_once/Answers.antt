@@ -1,8 +1,9 @@
-use Rattle.drift_world.proofs.ActSteps.{above_then, acted_turns, acts_late, asked_to_act, behind_part, later_then, left_in}
-use Rattle.drift_world.proofs.{ActRecords.{AreProper, IsFine}, ActSteps.{never_broken, octets_then, proper_at, row_within}}
-use Rattle.drift_world.proofs.{AtSource.at_rank, Fits.{all_put_some, have_octets, sized_so}}
-use Rattle.drift_world.proofs.{OwnPlaces.{no_change, no_shelf, no_waiter}, Showings.shows_of}
-use Rattle.drift_world.proofs.Turned.{all_put_in, first_given, next_first}
+use Rattle.drift_world.proofs.{Showings.shows_of, Signals.{all_put_some, have_octets, sized_so}}
+use Rattle.drift_world.proofs.{Turned.{all_put_in, first_given, next_first, no_change, no_shelf, no_waiter}}
+use Rattle.drift_world.proofs.{Turning.at_rank}
+use Rattle.drift_world.proofs.ActSteps.{AreProper, IsFine, above_then, acted_turns, acts_late, asked_to_act}
+use Rattle.drift_world.proofs.ActSteps.{behind_part, later_then, left_in, never_broken, octets_then, proper_at}
+use Rattle.drift_world.proofs.ActSteps.{row_within}
 use Rattle.world_law.specs.{source.Sources.task_place, steps.Acting.task_of, world.{World.is_at_source}}
 use Rattle.drift_world.proofs.Words.{◌+◌, ◌∙◌, ◌≡◌, ◌≤◌, ComesFirst, HasActed, HasItsOctets, IsSomeAnd}
 use Rattle.drift_world.proofs.Words.{List, None, Note, Option, Scenario, Settled, Some, Stands, TurnsIn, ap, arith}

@@ -1,9 +1,12 @@
-use Rattle.{drift_world.proofs.Applies.{any_mapped, waits_more, ways_more}, std.specs.Prelude.All, world_law.proofs.steps_lemmas.steps.AppliedParts.broken_more}
-use Rattle.drift_world.proofs.{Beginnings.found, Words.{not, scenario, subst, sym, true, turns_on, unsigned_abs, waiting_as, way_as, world_of, ℕ}}
-use Rattle.drift_world.proofs.{Elsewhere.{clock_elsewhere, waits_elsewhere}, Fitting.{apart_kept, below_more, ways_short}, TurnedOn.turned_on_is}
+use Rattle.std.specs.Prelude.{All}
+use Rattle.drift_world.proofs.{Beginnings.{any_mapped, found, waits_more, ways_more}, Events.turned_on_is}
+use Rattle.drift_world.proofs.{Fitting.{apart_kept, below_more, ways_short}, Timings.{clock_elsewhere, waits_elsewhere}}
+use Rattle.drift_world.proofs.Words.{not, scenario, subst, sym, true, turns_on, unsigned_abs, waiting_as, way_as}
+use Rattle.drift_world.proofs.Words.{world_of, ℕ}
+use Rattle.world_law.{proofs.steps_lemmas.steps.{Applied.applied_step, AppliedParts.broken_more}}
+use Rattle.world_law.{specs.{source.Applying.note_of_event, world.Outcomes.also_befell}}
 use Rattle.drift_world.proofs.Words.{◌++◌, ◌+◌, ◌<◌, ◌∙◌, ◌∷◌, ◌≡◌, AreApart, Bool, Down, List, Note, Some, Up, What}
 use Rattle.drift_world.proofs.Words.{World, [], amount, ap, arith, breaks_at, ints, is_turned_on_at, keeps, length, list_any, map}
-use Rattle.world_law.{proofs.steps_lemmas.steps.Applied.applied_step, specs.{source.Applying.note_of_event, world.Outcomes.{also_befell}}}
 use Rattle.{net_plan.specs.{Belonging.IsOfNetwork, declared.ids.DeviceId.DeviceId}, world_law.specs.world.World.Befell}
 use Rattle.run_law.specs.declared.note.NoteBody.TheVariants as kinds
 use Rattle.drift_world.proofs.state.State.apply.Goals as goal

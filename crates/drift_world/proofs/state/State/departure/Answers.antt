@@ -1,5 +1,7 @@
-use Rattle.{drift_world.proofs.{Fits.{have_octets, left_octets}, Showings.{departure_is, way_by}}, world_law.proofs.giving.GivenParts.some_same}
-use Rattle.drift_world.proofs.{OwnPlaces.{departed_late, departed_none}, Words.{is_parent_of, length, slice_get_read, subst, sym}}
+use Rattle.drift_world.proofs.{Showings.{departure_is, way_by}, Signals.{have_octets, left_octets}}
+use Rattle.drift_world.proofs.{Turned.{departed_late, departed_none}}
+use Rattle.drift_world.proofs.{Words.{is_parent_of, length, slice_get_read, subst, sym}}
+use Rattle.world_law.proofs.giving.GivenParts.{some_same}
 use Rattle.drift_world.proofs.Words.{◌<◌, ◌∙◌, DeviceId, LinkId, Some, WayNow, ap, arith}
 use Rattle.{world_state.specs.Leaving.port_entry}
 use Rattle.drift_world.proofs.state.State.departure.Goals as goal

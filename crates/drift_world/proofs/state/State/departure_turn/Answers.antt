@@ -1,6 +1,7 @@
-use Rattle.drift_world.{proofs.Fits.{all_put, have_octets, sound_same}, specs.declared.{source.Source.TheVariants.Departure, state.State.State}}
-use Rattle.drift_world.proofs.{OwnPlaces.{changes_both, no_shelf, no_waiter}, Turning.{kept_timers, plain_step, step_kept}}
-use Rattle.drift_world.proofs.{AtSource.source_at, Timings.aside, Turned.{all_put_in, first_given, next_first, turns_of}}
+use Rattle.drift_world.{specs.declared.{source.Source.TheVariants.Departure, state.State.State}}
+use Rattle.drift_world.proofs.{Signals.{all_put, have_octets, sound_same}, Timings.aside}
+use Rattle.drift_world.proofs.{Turning.{kept_timers, plain_step, source_at, step_kept}}
+use Rattle.drift_world.proofs.Turned.{all_put_in, changes_both, first_given, next_first, no_shelf, no_waiter, turns_of}
 use Rattle.drift_world.proofs.state.State.departure_turn.Goals.{After-leave_port}
 use Rattle.drift_world.proofs.Words.{◌∙◌, ◌≡◌, List, None, Note, Option, Scenario, Settled, Some, Stands, TurnsIn, ap, arith}
 use Rattle.drift_world.proofs.Words.{changed_device, keeps, numbers_of, rank, refl, subst, sym, world_of}

@@ -1,6 +1,7 @@
 use Rattle.{drift_world.proofs.Showings.way_by}
 use Rattle.drift_world.proofs.Words.{◌<◌, ◌∙◌, None, Some, WayNow, ap, is_parent_of, length, slice_get_within, subst}
-use Rattle.{schedule_tables.proofs.EntryLemmas.one_entry, world_state.specs.Acting.{IsDispatched, dispatched_by}}
+use Rattle.schedule_tables.proofs.SlotLemmas.{one_entry}
+use Rattle.world_state.specs.Acting.{IsDispatched, dispatched_by}
 use Rattle.drift_world.proofs.state.State.dispatched_at.Goals as goal
 
 pub returns-in_err-hand : goal.returns-in_err-hand

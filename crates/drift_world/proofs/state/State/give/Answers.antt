@@ -1,4 +1,5 @@
-use Rattle.drift_world.proofs.{Fits.sound_same, Gave.{changes_since, popped_world, unchanged, with_first}, Words.{settled_at, subst, sym, units_of, world_of}}
+use Rattle.drift_world.proofs.{Givings.{changes_since, popped_world, unchanged, with_first}, Signals.sound_same}
+use Rattle.drift_world.proofs.{Words.{settled_at, subst, sym, units_of, world_of}}
 use Rattle.{world_law.{proofs.giving.Given.given_step, specs.{steps.Turns.IsNext, world.World.IsDueAs}}, drift_world.proofs.Words.{IsOwn, Scenario, Some, append-nil, map}}
 use Rattle.drift_world.{proofs.state.State.give.Goals.After-unwrap-first, specs.declared.state.State.State}
 use Rattle.drift_world.proofs.Words.{◌++◌, ◌+◌, ◌∙◌, ◌∷◌, ◌≡◌, HasItsOctets, List, NoSourceBefore, Note, Settled}

@@ -1,6 +1,7 @@
-use Rattle.drift_world.proofs.{Fits.sized_so, Givings.launched_on, MayGive.{low_with, may_give, may_in}, Words.world_of}
+use Rattle.drift_world.proofs.{MayGive.{low_with, may_give, may_in}, Signals.sized_so, Words.world_of}
+use Rattle.drift_world.proofs.Givings.{from_ports, from_wire, launched_on, waits_apart, waits_below, waits_elsewhere}
+use Rattle.drift_world.proofs.Givings.{waits_more, wire_is, wire_sound}
 use Rattle.{drift_world.proofs.state.State.give_first.Goals.After-launch_octets, world_law.specs.steps.Turns.IsLaunched}
-use Rattle.drift_world.proofs.Gave.{from_ports, from_wire, waits_apart, waits_below, waits_elsewhere, waits_more, wire_is, wire_sound}
 use Rattle.drift_world.proofs.Words.{◌+◌, ◌∙◌, ◌≡◌, ChangesOnly, IsPutOn, IsSound, IsStoredBy}
 use Rattle.drift_world.proofs.Words.{ap, arith, changed_device, inl, inr, length}
 use Rattle.drift_world.proofs.Words.{refl, subst, sym, units_of, wire_entry}

@@ -1,5 +1,6 @@
-use Rattle.drift_world.{proofs.{Turning.{gives_first, kept_timers, plain_step, step_kept}, state.State.give_next.Goals.In-Ok}, specs.declared.state.State.State}
-use Rattle.drift_world.proofs.Timings.{in_range}
+use Rattle.drift_world.{specs.declared.state.State.State}
+use Rattle.drift_world.proofs.{Timings.in_range, Turning.{gives_first, kept_timers, plain_step, step_kept}}
+use Rattle.drift_world.proofs.{state.State.give_next.Goals.In-Ok}
 use Rattle.drift_world.proofs.Words.{◌++◌, ◌∙◌, ◌∷◌, ◌≡◌, List, Note, Scenario, Stands, World, [], ap, arith}
 use Rattle.drift_world.proofs.Words.{keeps, note_of, settled_at, sym, units_of, world_of}
 use Rattle.drift_world.proofs.state.State.give_next.Given as given

@@ -1,9 +1,9 @@
 use Rattle.drift_world.proofs.{Heeds.told_timed, state.State.hear_turn.Goals.{After-give_first, After-put_in}}
-use Rattle.drift_world.proofs.{AtSource.source_at, Fits.{all_put, have_octets, sound_same}, Timings.rekeyed}
-use Rattle.drift_world.{proofs.{Halves.{set_act, waits_as}, OwnPlaces.{changes_both, no_shelf, waits_at}}, specs.declared.state.State.State}
-use Rattle.drift_world.proofs.Turning.{kept_timers, rekeyed_step, runs_on, step_kept}
+use Rattle.drift_world.{specs.declared.state.State.State}
+use Rattle.drift_world.proofs.{Signals.{all_put, have_octets, sound_same}, Timings.{rekeyed, set_act, waits_as}}
+use Rattle.drift_world.proofs.{Turned.{all_put_in, changes_both, first_given, next_first, no_shelf, turns_of, waits_at}}
+use Rattle.drift_world.proofs.{Turning.{kept_timers, rekeyed_step, runs_on, source_at, step_kept}}
 use Rattle.drift_world.specs.{declared.source.Source.TheVariants.Arrival}
-use Rattle.drift_world.proofs.Turned.{all_put_in, first_given, next_first, turns_of}
 use Rattle.drift_world.proofs.Words.{◌∙◌, ◌∷◌, ◌≡◌, DeviceId, IsSound, None}
 use Rattle.drift_world.proofs.Words.{Settled, Some, [], ap, arith, changed_device, length, rank}
 use Rattle.drift_world.proofs.Words.{StandsOn, StandsWith, refl, subst, sym, world_of}

@@ -1,11 +1,14 @@
-use Rattle.drift_world.proofs.{Fits.{below_without, have_octets, sized_so}, state.State.hear_wire.Goals.{After-index_mut-machine, After-read}}
-use Rattle.{drift_world.proofs.Hears.{as_sent, heard_octets, heard_turns, may_come, moment_is}, tte_units.proofs.general_lemmas.Lists.{set_aside, set_same}}
-use Rattle.{drift_world.proofs.{OwnPlaces.{arrived_device, arrived_late}, Rising.settled_in_order, Turned.one_turn, Words.{false, subst, sym, world_of}}, world_state.proofs.UnderWays.sound_without}
+use Rattle.drift_world.proofs.{Rising.settled_in_order, Turned.{arrived_device, arrived_late, one_turn}, Turning.is_at}
+use Rattle.drift_world.proofs.{Words.{false, subst, sym, world_of}}
+use Rattle.drift_world.proofs.{state.State.hear_wire.Goals.{After-index_mut-machine, After-read}}
+use Rattle.drift_world.proofs.Signals
+use Signals.{as_sent, below_without, have_octets, heard_octets, heard_turns, may_come, moment_is, sized_so}
+use Rattle.tte_units.proofs.general_lemmas.Lists.{set_aside, set_same}
+use Rattle.world_state.proofs.Queues.{sound_without}
 use Rattle.drift_world.proofs.Words.{◌+◌, ◌∙◌, ◌≡◌, DeviceId, Moment, Note, Scenario, Some, Stands, ap, arith, changed_device}
 use Rattle.drift_world.proofs.Words.{List, keeps, length-set, length_permutation, moment_of, rank, refl, settled_at, slice_get_read}
 use Rattle.{std.proofs.Common.{set, slice_get}, world_law.proofs.giving.GivenParts.some_same}
 use Rattle.world_law.specs.world.World.{is_at_source}
-use Rattle.drift_world.proofs.Turning.{is_at}
 use Rattle.drift_world.proofs.state.State.hear_wire.Given as given
 use Rattle.drift_world.proofs.state.State.hear_wire.Goals as goal
 

@@ -1,4 +1,4 @@
-use Rattle.drift_world.proofs.Launches.{sound_after}
+use Rattle.drift_world.proofs.Turned.{sound_after}
 use Rattle.drift_world.proofs.state.State.launch_frame.Goals as goal
 
 pub returns-clause-sound : goal.returns-clause-sound

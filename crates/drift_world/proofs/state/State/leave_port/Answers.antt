@@ -1,8 +1,10 @@
-use Rattle.{drift_world.proofs.{Alike.turns_alike, Rising.settled_in_order, Showings.shows_of, Turned.some_turn}, world_state.specs.{Leaving.port_entry, declared.queue.Entry.Entry}}
-use Rattle.{drift_world.proofs.Fits.{below_without, sized_so}, world_law.proofs.steps_lemmas.turns.SourceTurns.left_turn}
+use Rattle.drift_world.proofs.{ActSteps.{departed_is, frame_of_port}, Alike.turns_alike, Rising.settled_in_order}
+use Rattle.drift_world.proofs.{Showings.shows_of, Signals.{below_without, sized_so}, Turned.some_turn}
+use Rattle.world_law.proofs.steps_lemmas.turns.Turns.{left_turn}
+use Rattle.world_state.{proofs.Queues.{ports_without, sound_without, wires_stay}}
+use Rattle.world_state.{specs.{Leaving.port_entry, declared.queue.Entry.Entry}}
 use Rattle.world_law.specs.steps.{Steps.{departure_now}}
 use Rattle.drift_world.proofs.Words.{length_permutation, numbers_of, on_wire, refl, subst, sym, world_of}
-use Rattle.{drift_world.proofs.Puts.{departed_is, frame_of_port}, world_state.proofs.UnderWays.{ports_without, sound_without, wires_stay}}
 use Rattle.drift_world.proofs.Words.{◌+◌, ◌∷◌, ◌≡◌, ComesFirst, Content, IsPermutation-sym, Port, World, []}
 use Rattle.drift_world.proofs.Words.{arith, at_port, departure_body, false, happenings, in_permuted, inl, is_broken, is_given, keeps}
 use Rattle.std.specs.List.{filter_map}

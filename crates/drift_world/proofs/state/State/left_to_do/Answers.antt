@@ -1,7 +1,9 @@
 use Rattle.drift_world.proofs.Words.{◌≡◌, Kept, Scenario, Some, arith, pos, slice_get_read, sym}
 use Rattle.{drift_world.specs.Showing.IsOf, std.specs.List.slice_get}
 use Rattle.drift_world.proofs.state.State.left_to_do.Goals.{After-is_reached}
-use Rattle.{drift_world.proofs.state.State.left_to_do.Given.Over, world_law.proofs.giving.GivenParts.some_same, world_state.proofs.Acts.{none_due, some_due}}
+use Rattle.drift_world.proofs.state.State.left_to_do.Given.{Over}
+use Rattle.world_law.proofs.giving.GivenParts.{some_same}
+use Rattle.world_state.proofs.WorldSteps.{none_due, some_due}
 use Rattle.drift_world.proofs.state.State.left_to_do.Goals as goal
 
 -- the machine of the device

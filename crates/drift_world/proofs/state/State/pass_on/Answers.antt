@@ -1,6 +1,7 @@
-use Rattle.drift_world.proofs.{Nearings.passing_nears, Words.{inl, inr, keeps, refl, true, world_of, ℕ}, state.State.pass_on.Goals.After-pass_to}
-use Rattle.drift_world.proofs.Sources.{of_world}
-use Rattle.drift_world.{proofs.Turning.{passed_same, passes, whole_run}, specs.{Turns.{IsPassed, IsWhole, PassSays}, declared.state.State.State}}
+use Rattle.drift_world.{specs.{Turns.{IsPassed, IsWhole, PassSays}, declared.state.State.State}}
+use Rattle.drift_world.proofs.{Foremost.of_world, Nearings.passing_nears, Turning.{passed_same, passes, whole_run}}
+use Rattle.drift_world.proofs.{Words.{inl, inr, keeps, refl, true, world_of, ℕ}}
+use Rattle.drift_world.proofs.{state.State.pass_on.Goals.After-pass_to}
 use Rattle.drift_world.proofs.Words.{◌+◌, ◌<◌, ◌^◌, ◌∙◌, ◌≡◌, ◌≤◌, ◌⊎◌, List, Note, Scenario, Stands, StandsOn, Turn, ap, arith, both_ways, false}
 use Rattle.drift_world.proofs.state.State.pass_on.Given as given
 use Rattle.drift_world.proofs.state.State.pass_on.Goals as goal

@@ -1,4 +1,4 @@
-use Rattle.drift_world.proofs.{Halves.set_both, Timings.may_still}
+use Rattle.drift_world.proofs.Timings.{may_still, set_both}
 use Rattle.drift_world.proofs.state.State.rekey.Goals as goal
 
 pub rekey_act-requires : goal.rekey_act-requires

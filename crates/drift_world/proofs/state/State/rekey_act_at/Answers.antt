@@ -1,4 +1,5 @@
-use Rattle.{drift_world.proofs.{Timings.{IsLow, acts_timed, not_past}, Words.{sym}}, tte_units.proofs.general_lemmas.Lists.{set_aside, set_same}}
+use Rattle.drift_world.proofs.{Timings.{IsLow, acts_timed, not_past}, Words.sym}
+use Rattle.tte_units.proofs.general_lemmas.Lists.{set_aside, set_same}
 use Rattle.drift_world.proofs.Words.{◌+◌, ◌<◌, ◌∙◌, ◌≡◌, ◌≤◌, DeviceId, ap, arith, length, length-set, refl, slice_get_read, slice_set, subst}
 use Rattle.{drift_world.proofs.state.State.rekey_act_at.Given.Over, std.proofs.lemmas.List.Elements.All-set, world_law.proofs.giving.GivenParts.some_same}
 use Rattle.{drift_world.specs.Parts.part_rank}

@@ -1,5 +1,6 @@
-use Rattle.drift_world.proofs.{Halves.set_ripe, Words.{◌^◌, ◌∙◌, ◌≡◌, ArrivedAt, ap, arith, changed_device, length, refl, subst, sym}}
-use Rattle.{drift_world.proofs.{Said.far_kind, Timings.{aside, in_range, rekeyed}}, run_law.specs.plain.Bodies.body_of}
+use Rattle.drift_world.proofs.{Said.far_kind, Timings.{aside, in_range, rekeyed, set_ripe}}
+use Rattle.drift_world.proofs.{Words.{◌^◌, ◌∙◌, ◌≡◌, ArrivedAt, ap, arith, changed_device, length, refl, subst, sym}}
+use Rattle.run_law.specs.plain.Bodies.{body_of}
 use Rattle.drift_world.proofs.state.State.rekey_after.Goals as goal
 
 pub rekey_ripe-requires : goal.rekey_ripe-requires

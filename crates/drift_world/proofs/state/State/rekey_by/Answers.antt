@@ -1,4 +1,4 @@
-use Rattle.drift_world.proofs.{Elsewhere.its_device, Timings.in_range, Words.{◌+◌, ◌≡◌, ◌⊎◌, IsSomeAnd, length, subst, sym}}
+use Rattle.drift_world.proofs.{Timings.{in_range, its_device}, Words.{◌+◌, ◌≡◌, ◌⊎◌, IsSomeAnd, length, subst, sym}}
 use Rattle.drift_world.specs.Stepping.{SetsOnly}
 use Rattle.drift_world.proofs.state.State.rekey_by.Goals as goal
 

@@ -1,4 +1,5 @@
-use Rattle.{drift_world.proofs.Timings.{IsLow, not_past, ripe_timed}, tte_units.proofs.general_lemmas.Lists.{set_aside, set_same}}
+use Rattle.drift_world.proofs.Timings.{IsLow, not_past, ripe_timed}
+use Rattle.tte_units.proofs.general_lemmas.Lists.{set_aside, set_same}
 use Rattle.drift_world.proofs.Words.{◌<◌, ◌∙◌, ◌≡◌, ◌≤◌, DeviceId, ap, arith, length, length-set, refl, slice_get_read, subst, sym}
 use Rattle.std.proofs.Common.{slice_set}
 use Rattle.{std.proofs.lemmas.List.Elements.All-set, world_law.proofs.giving.GivenParts.some_same}

@@ -1,8 +1,10 @@
-use Rattle.drift_world.proofs.{Dues.due_stays, Ripenings.{dropped_late, joined_fits, judged_source, octets_fit, record_fits}}
-use Rattle.drift_world.proofs.{OwnPlaces.{judged_far, judged_rank, no_shelf, no_waiter}}
-use Rattle.{drift_world.{proofs.Fits.{all_put_some, have_octets, sound_same}, specs.declared.state.State.State}, world_state.specs.Ripening.{joined_record, ripe_record}}
-use Rattle.{drift_world.proofs.{Timings.rekeyed_by, Turned.{all_put_in, first_given, next_first, turns_of}}, run_law.specs.declared.steps.Ripe.Ripe}
-use Rattle.drift_world.{proofs.Turning.{is_at, kept_timers, rekeyed_step, runs_on, step_kept}, specs.declared.source.Source.TheVariants.Ripening}
+use Rattle.drift_world.{specs.declared.{source.Source.TheVariants.Ripening, state.State.State}}
+use Rattle.drift_world.proofs.{Nearings.due_stays, Signals.{all_put_some, have_octets, sound_same}, Timings.rekeyed_by}
+use Rattle.drift_world.proofs.{Turning.{is_at, kept_timers, rekeyed_step, runs_on, step_kept}}
+use Rattle.drift_world.proofs.Turned.{all_put_in, dropped_late, first_given, joined_fits, judged_far, judged_rank}
+use Rattle.drift_world.proofs.Turned.{judged_source, next_first, no_shelf, no_waiter, octets_fit, record_fits, turns_of}
+use Rattle.run_law.specs.declared.steps.Ripe.{Ripe}
+use Rattle.world_state.specs.Ripening.{joined_record, ripe_record}
 use Rattle.drift_world.proofs.Words.{◌++◌, ◌+◌, ◌∙◌, ◌∷◌, ◌≡◌, ChangesOnly, IsSound, Kept, List, Meaning, Network, Note}
 use Rattle.drift_world.proofs.Words.{Option, Scenario, Settled, Some, Stands, TurnsIn, Waits, World, [], ap, arith, both_ways}
 use Rattle.drift_world.proofs.Words.{changed_device, keeps, length, rank, refl, ripe_place, subst, sym, true}

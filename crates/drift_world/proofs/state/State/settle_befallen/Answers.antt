@@ -1,6 +1,8 @@
 use Rattle.drift_world.proofs.{BefallenLaws.{all_fresh, befallen_behind, numbers_given, octets_settled}, state.State.settle_befallen.Goals.After-settle_all}
-use Rattle.drift_world.proofs.{Fits.{have_octets, sized_so, sound_same}, Nearings.settled_length, Words.{◌+◌, ◌≡◌, ap, arith, length, refl, subst, sym}}
-use Rattle.{std.proofs.Common.All, world_state.{proofs.Befallings.{settled_with, sound_settled}, specs.Befalling.AreSettledBy}}
+use Rattle.std.proofs.Common.{All}
+use Rattle.drift_world.proofs.{Nearings.settled_length, Signals.{have_octets, sized_so, sound_same}}
+use Rattle.drift_world.proofs.{Words.{◌+◌, ◌≡◌, ap, arith, length, refl, subst, sym}}
+use Rattle.world_state.{proofs.WorldSteps.{settled_with, sound_settled}, specs.Befalling.AreSettledBy}
 use Rattle.drift_world.proofs.state.State.settle_befallen.Given as given
 use Rattle.drift_world.proofs.state.State.settle_befallen.Goals as goal
 

@@ -1,5 +1,6 @@
-use Rattle.drift_world.proofs.{AtSource.source_at, OwnPlaces.{changes_both, no_change, no_shelf, no_waiter}}
-use Rattle.drift_world.proofs.{Timings.aside, Turned.{first_given, next_first, turns_of}, Turning.kept_timers}
+use Rattle.drift_world.proofs.{Timings.aside}
+use Rattle.drift_world.proofs.{Turned.{changes_both, first_given, next_first, no_change, no_shelf, no_waiter, turns_of}}
+use Rattle.drift_world.proofs.{Turning.{kept_timers, source_at}}
 use Rattle.drift_world.proofs.Words.{◌∙◌, None, Some, ap, arith, changed_device, refl, world_of}
 use Rattle.drift_world.specs.declared.{source.Source.TheVariants.Clock, state.State.State}
 use Rattle.drift_world.proofs.state.State.show.Goals as goal

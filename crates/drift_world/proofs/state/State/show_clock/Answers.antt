@@ -1,5 +1,6 @@
-use Rattle.{run_law.proofs.runs.Determined.same_units, world_law.proofs.{giving.GivenParts.some_same, steps_lemmas.turns.ClockTurns.clock_turn}}
-use Rattle.{drift_world.proofs.{Rising.settled_in_order, Turned.one_turn}, run_law.specs.declared.note.NoteBody.TheVariants.{Clock as Shown}}
+use Rattle.drift_world.proofs.{Rising.settled_in_order, Turned.one_turn}
+use Rattle.run_law.{proofs.runs.Determined.same_units, specs.declared.note.NoteBody.TheVariants.Clock as Shown}
+use Rattle.world_law.proofs.{giving.GivenParts.some_same, steps_lemmas.turns.Turns.clock_turn}
 use Rattle.drift_world.proofs.Words.{◌<◌, ◌∙◌, None, NoteBody, Settled, amount, ap, arith, keeps, length, pos}
 use Rattle.drift_world.proofs.Words.{slice_get_read, sym, world_of}
 use Rattle.drift_world.proofs.state.State.show_clock.Goals as goal

@@ -1,5 +1,7 @@
-use Rattle.drift_world.proofs.Foremost.{arrival_first, clock_first, departure_first, due_after, events_first, from_some, none_before, place_after, placed}
-use Rattle.drift_world.proofs.{Foremost.slot_first, state.State.source_by.Goals.{else-self-2-via-else-self-2, else-self-2-via-then-self-2+else-self-as_slice}}
+use Rattle.drift_world.proofs.Foremost.{arrival_first, clock_first, departure_first, due_after, events_first, from_some}
+use Rattle.drift_world.proofs.Foremost.{none_before, place_after, placed, slot_first}
+use Rattle.drift_world.proofs.state.State.source_by.Goals.{else-self-2-via-else-self-2}
+use Rattle.drift_world.proofs.state.State.source_by.Goals.{else-self-2-via-then-self-2+else-self-as_slice}
 use Rattle.drift_world.proofs.Words.{SlotTimer, IsFirst, ap, arith, both_ways, length, refl}
 use Rattle.drift_world.proofs.state.State.source_by.Goals as goal
 

@@ -1,5 +1,6 @@
 use Rattle.drift_world.proofs.Words.{◌-◌, ◌∙◌, ◌∷◌, ◌≡◌, ◌≤◌, DeviceId, SlotTimer, [], ap, arith, inl, length, refl, sym}
-use Rattle.drift_world.proofs.{Sources.{due_acts, due_part, due_ripe, slot_high}, state.State.source_of_slot.Given.Over}
+use Rattle.drift_world.proofs.{Foremost.{due_acts, due_part, due_ripe, slot_high}}
+use Rattle.drift_world.proofs.{state.State.source_of_slot.Given.Over}
 use Rattle.drift_world.{proofs.state.State.source_of_slot.Goals.{After-of_rank, else-slot-devices, then-slot-devices+in_default}}
 use Rattle.drift_world.proofs.state.State.source_of_slot.Goals as goal
 

@@ -1,5 +1,6 @@
-use Rattle.drift_world.{proofs.{TurnSays.turns_then, Nearings.{as_far, no_more}}, specs.{Turns.IsStep, declared.state.State.State}}
-use Rattle.drift_world.proofs.{Turning.{kept_then, roomier, step_kept}, Words.{◌∙◌, ap, arith, sym}, state.State.turn.Goals.After-make_places}
+use Rattle.drift_world.{specs.{Turns.IsStep, declared.state.State.State}}
+use Rattle.drift_world.proofs.{Nearings.{as_far, no_more, turns_then}, Turning.{kept_then, roomier, step_kept}}
+use Rattle.drift_world.proofs.{Words.{◌∙◌, ap, arith, sym}, state.State.turn.Goals.After-make_places}
 use Rattle.drift_world.proofs.state.State.turn.Given as given
 use Rattle.drift_world.proofs.state.State.turn.Goals as goal
 

@@ -1,4 +1,5 @@
-use Rattle.drift_world.{proofs.Laters.{IsThere, is_there, time_limit}, specs.{Later.{ComesBehind}, Running.{event_note, option_given}}}
+use Rattle.drift_world.{proofs.Events.{IsThere, is_there, time_limit}}
+use Rattle.drift_world.{specs.{Later.ComesBehind, Running.{event_note, option_given}}}
 use Rattle.{drift_world.proofs.world.World.apply.Goals.In-Ok, net_plan.specs.declared.event.Event.Event}
 use Rattle.drift_world.proofs.Words.{◌+◌, ◌∙◌, List, Network, Note}
 use Rattle.drift_world.proofs.Words.{ap, append-nil, arith, both_ways, ints, sym}

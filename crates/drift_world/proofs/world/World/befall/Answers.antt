@@ -1,5 +1,7 @@
-use Rattle.{drift_world.proofs.{Elsewhere.timed_by_event, Fits.sound_timers, Onwards.befalls, Shortness.sets_short}, net_plan.specs.declared.event.Event.Event}
-use Rattle.{drift_world.{proofs.Timings.unmoved, specs.declared.state.State.State}, precision_law.proofs.traffic_lemmas.safety_lemmas.Histories.slow_rate}
+use Rattle.drift_world.{proofs.{Onwards.{befalls, sets_short}, Signals.sound_timers, Timings.{timed_by_event, unmoved}}}
+use Rattle.drift_world.{specs.declared.state.State.State}
+use Rattle.net_plan.specs.declared.event.Event.{Event}
+use Rattle.precision_law.proofs.traffic_lemmas.safety_lemmas.Lawful.{slow_rate}
 use Rattle.drift_world.proofs.Words.{◌*◌, ◌++◌, ◌∙◌, ◌∷◌, ◌≡◌, IsLawful, IsWithinHypothesis, List, Network, Note}
 use Rattle.drift_world.proofs.Words.{StandsUnder, World, [], ap, arith, length, reading_of, refl, scenario, sym, world_of}
 use Rattle.drift_world.proofs.world.World.befall.Given as given

@@ -1,4 +1,5 @@
-use Rattle.drift_world.{proofs.{Fits.sound_timers, Freshness.{first_sound, first_stands}, Words.world_of}, specs.Beginning.{IsFirstState}}
+use Rattle.drift_world.{proofs.{Onwards.{first_sound, first_stands}, Signals.sound_timers, Words.world_of}}
+use Rattle.drift_world.{specs.Beginning.IsFirstState}
 use Rattle.drift_world.proofs.Words.{◌∙◌, IsInRange, IsLawful, KeepsRules, StandsUnder, [], ap, length, reading_of, scenario, subst, sym}
 use Rattle.std.proofs.lemmas.List.{length-replicate}
 use Rattle.drift_world.proofs.world.World.begin.Given as given

@@ -1,5 +1,6 @@
-use Rattle.{drift_world.proofs.{LocalValues.{complete_reads, local_value, now_reads}, LocalsBefore.local_is_before}, world_law.proofs.giving.GivenParts.some_same}
-use Rattle.drift_world.proofs.{Locals.{clock_stepped, local_is}, Words.{in_all, inl, inr, ints, length, reading_of, scenario, sym}}
+use Rattle.drift_world.proofs.{Words.{in_all, inl, inr, ints, length, reading_of, scenario, sym}}
+use Rattle.drift_world.proofs.Locals.{clock_stepped, complete_reads, local_is, local_is_before, local_value, now_reads}
+use Rattle.world_law.proofs.giving.GivenParts.{some_same}
 use Rattle.drift_world.proofs.Words.{◌<◌, ◌^◌, ◌∙◌, ◌≤◌, World, amount, ap, arith}
 use Rattle.drift_world.proofs.world.World.local_at.Given as given
 use Rattle.drift_world.proofs.world.World.local_at.Goals as goal

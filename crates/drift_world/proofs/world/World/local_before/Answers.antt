@@ -1,4 +1,4 @@
-use Rattle.drift_world.proofs.{LocalsBefore.local_is_before, Words.{reading_of, scenario, sym}}
+use Rattle.drift_world.proofs.{Locals.local_is_before, Words.{reading_of, scenario, sym}}
 use Rattle.drift_world.proofs.Words.{◌∙◌, ◌≤◌, World, amount, ap, arith, in_all, ints}
 use Rattle.drift_world.proofs.world.World.local_before.Goals as goal
 

@@ -1,7 +1,10 @@
-use Rattle.drift_world.{proofs.{Retries.comes_up_to, Words.{keeps_clock_laws, reading_of, scenario, subst, sym, world_of}}, specs.Running.next_of}
+use Rattle.drift_world.{specs.Running.next_of}
+use Rattle.drift_world.proofs.{Turning.comes_up_to}
+use Rattle.drift_world.proofs.{Words.{keeps_clock_laws, reading_of, scenario, subst, sym, world_of}}
+use Rattle.precision_law.{proofs.traffic_lemmas.safety_lemmas.Lawful.before}
+use Rattle.precision_law.{specs.traffic.safety.{Headline.IsSafeFront, Under.IsUnder}}
 use Rattle.drift_world.proofs.Words.{◌++◌, ◌∷◌, ◌≡◌, Bool, Err, IfOk, IsLawful, IsRunOf, List, Network, Note, Ok, Result}
 use Rattle.drift_world.proofs.Words.{Scenario, Stands, World, [], amount, ap, arith, begins_at_zero, false, given_by, ints, keeps}
-use Rattle.precision_law.{proofs.traffic_lemmas.safety_lemmas.Clocked.before, specs.traffic.safety.{Headline.IsSafeFront, Under.IsUnder}}
 use Rattle.drift_world.proofs.world.World.next_given.Given as given
 use Rattle.drift_world.proofs.world.World.next_given.Goals as goal
 

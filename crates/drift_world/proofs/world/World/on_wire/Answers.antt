@@ -1,4 +1,4 @@
-use Rattle.{drift_world.{proofs.JustPut.shown_put}}
+use Rattle.drift_world.proofs.Signals.{shown_put}
 use Rattle.{drift_world.proofs.Words.{sym}}
 use Rattle.drift_world.proofs.world.World.on_wire.Goals as goal
 

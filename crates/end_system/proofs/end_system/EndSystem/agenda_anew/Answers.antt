@@ -1,4 +1,4 @@
-use Rattle.end_system.proofs.{TimedFrames.{above, local_range}, Words.{◌+ℤ◌, ◌∙◌, IsAgenda, Units, [], ap, subst, ℤ}}
+use Rattle.end_system.proofs.{Ripe.{above, local_range}, Words.{◌+ℤ◌, ◌∙◌, IsAgenda, Units, [], ap, subst, ℤ}}
 use Rattle.end_system.proofs.end_system.EndSystem.agenda_anew.Goals as goal
 
 pub local_at-local-requires-clause-low : goal.local_at-local-requires-clause-low

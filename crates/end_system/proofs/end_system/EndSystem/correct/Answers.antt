@@ -1,5 +1,7 @@
-use Rattle.end_system.proofs.{Advance.{low_at, not_fallen}, Tasks.first_is_correction, Words.{HasVerdict, IsCorrection, refl, subst, sym}}
-use Rattle.end_system.proofs.Correct.{at_point, below_range, corrects, near_a, near_b, number_after, number_bound, number_fits, still_small}
+use Rattle.end_system.proofs.{Tasks.first_is_correction, Words.{HasVerdict, IsCorrection, refl, subst, sym}}
+use Rattle.end_system.proofs.Corrections
+use Corrections.{at_point, below_range, corrects, low_at, near_a, near_b, not_fallen, number_after, number_bound}
+use Corrections.{number_fits, still_small}
 use Rattle.end_system.proofs.end_system.EndSystem.correct.Goals as goal
 
 pub at_correction-verdict-requires : goal.at_correction-verdict-requires

@@ -1,6 +1,8 @@
 use Rattle.end_system.proofs.Words.{◌∙◌, IsDispatch, Standing, ap, dispatching, next_point, refl, subst, sym}
-use Rattle.end_system.proofs.Advance.{correction_stays, dispatch_in_range, no_correcting_row, no_sending_row, not_fallen, number_stays, sending_stays}
-use Rattle.end_system.proofs.{Advance.{slot_there, small_same}, Tasks.first_is_dispatch}
+use Rattle.end_system.proofs.{Tasks.first_is_dispatch}
+use Rattle.end_system.proofs.Corrections
+use Corrections.{correction_stays, dispatch_in_range, no_correcting_row, no_sending_row, not_fallen, number_stays}
+use Corrections.{sending_stays, slot_there, small_same}
 use Rattle.end_system.proofs.end_system.EndSystem.dispatch.Goals as goal
 
 pub next_behind-self-requires : goal.next_behind-self-requires

@@ -1,6 +1,9 @@
-use Rattle.{end_system.proofs.Advance.not_fallen, run_law.specs.machines.Answers.after_arrival}
-use Rattle.end_system.proofs.{Arrive.{control_at, control_still}, Words.{◌∙◌, Node, StandsAsEnd, ap, arith, arriving, called, subst, sym}}
-use Rattle.{end_system.{proofs.Ripe.stands_later, specs.Controls.arrival_of}, pcf_codec.specs.Decoding.decoded, std.proofs.lemmas.Grind.common_steps}
+use Rattle.std.proofs.lemmas.Grind.{common_steps}
+use Rattle.end_system.{specs.Controls.arrival_of}
+use Rattle.end_system.proofs.{Arrivals.{control_at, control_still}, Corrections.not_fallen, Ripe.stands_later}
+use Rattle.end_system.proofs.{Words.{◌∙◌, Node, StandsAsEnd, ap, arith, arriving, called, subst, sym}}
+use Rattle.pcf_codec.specs.Decoding.{decoded}
+use Rattle.run_law.specs.machines.Answers.{after_arrival}
 use Rattle.end_system.proofs.end_system.EndSystem.hear_control.Goals as goal
 
 pub arrival-requires : goal.arrival-requires

@@ -1,7 +1,9 @@
-use Rattle.{device_rules.proofs.Takings.{dropped_by, heard_by, is_whole}, end_system.proofs.TimedFrames.{clock_is, heading_at, local_range, stands_with}}
-use Rattle.{device_rules.specs.Headings.heading_fault, end_system.proofs.Ripe.{small_now, stands_later}}
+use Rattle.device_rules.{proofs.Takings.{dropped_by, heard_by, is_whole}, specs.Headings.heading_fault}
+use Rattle.end_system.proofs.{Corrections.not_fallen}
+use Rattle.end_system.proofs.{Ripe.{clock_is, heading_at, local_range, small_now, stands_later, stands_with}}
+use Rattle.end_system.proofs.Words.{◌+ℤ◌, ◌∙◌, SyncPlan, Units, ap, arith, arriving, ints, refl, standpoint_at, subst}
+use Rattle.end_system.proofs.Words.{sym}
 use Rattle.{device_rules.specs.Intakes.IsTakenSo, run_law.specs.machines.Nodes.local_at, std.proofs.Common.true}
-use Rattle.end_system.proofs.{Advance.not_fallen, Words.{◌+ℤ◌, ◌∙◌, SyncPlan, Units, ap, arith, arriving, ints, refl, standpoint_at, subst, sym}}
 use Rattle.end_system.proofs.end_system.EndSystem.hear_timed.Goals as goal
 
 pub returns-in-Some : goal.returns-in-Some

@@ -1,4 +1,6 @@
-use Rattle.end_system.proofs.{Advance.not_fallen, Ripe.{does_tell, joined_number, joined_small_by, joined_value, joins, point_high, point_low, wide_range}}
+use Rattle.end_system.proofs.{Corrections.not_fallen}
+use Rattle.end_system.proofs.Ripe.{does_tell, joined_number, joined_small_by, joined_value, joins, point_high}
+use Rattle.end_system.proofs.Ripe.{point_low, wide_range}
 use Rattle.end_system.proofs.end_system.EndSystem.join.Goals as goal
 
 pub integrate-joined-requires : goal.integrate-joined-requires

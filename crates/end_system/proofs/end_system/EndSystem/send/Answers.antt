@@ -1,5 +1,7 @@
-use Rattle.end_system.proofs.Advance.{correction_stays, dispatch_stays, low_at, no_correcting, no_dispatching, not_fallen, number_stays, sending_in_range}
-use Rattle.end_system.proofs.{Advance.sending_next, Tasks.first_is_sending, Words.{◌∙◌, IsSending, Pcf, ap, next_point, refl, sending, subst}}
+use Rattle.end_system.proofs.{Tasks.first_is_sending, Words.{◌∙◌, IsSending, Pcf, ap, next_point, refl, sending, subst}}
+use Rattle.end_system.proofs.Corrections
+use Corrections.{correction_stays, dispatch_stays, low_at, no_correcting, no_dispatching, not_fallen, number_stays}
+use Corrections.{sending_in_range, sending_next}
 use Rattle.end_system.proofs.end_system.EndSystem.send.Goals as goal
 
 pub in_next_cycle-requires : goal.in_next_cycle-requires

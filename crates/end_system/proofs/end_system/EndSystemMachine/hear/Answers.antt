@@ -1,4 +1,5 @@
-use Rattle.end_system.proofs.{Arrive.{is_control, is_timed, off_arrival}, Ripe.{is_on, stands_later}, Words.{◌∙◌, ap, arith, sym}}
+use Rattle.end_system.proofs.{Arrivals.{is_control, is_timed, off_arrival}, Ripe.{is_on, stands_later}}
+use Rattle.end_system.proofs.{Words.{◌∙◌, ap, arith, sym}}
 use Rattle.run_law.specs.{control.Wires.signal_of, device.States.is_off, machines.Answers.arrival_at}
 use Rattle.end_system.proofs.end_system.EndSystemMachine.hear.Goals as goal
 

@@ -1,4 +1,6 @@
-use Rattle.end_system.proofs.{Ripe.{is_ignored, is_not_on, is_on, point_high, point_low, ripe_at, small_now, stands_later}, Words.{◌∙◌, ap, sym}}
+use Rattle.end_system.proofs.{Words.{◌∙◌, ap, sym}}
+use Rattle.end_system.proofs.Ripe.{is_ignored, is_not_on, is_on, point_high, point_low, ripe_at, small_now}
+use Rattle.end_system.proofs.Ripe.{stands_later}
 use Rattle.run_law.specs.{device.States.is_off, machines.Calls.IsHearing}
 use Rattle.end_system.proofs.end_system.EndSystemMachine.ripen.Goals as goal
 

@@ -1,4 +1,6 @@
-use Rattle.end_system.{proofs.{WhichFirst.{corrects_first, dispatches_first, sends_first}, Tasks.none_is_due, Words.{◌∙◌, Some, ap, subst}}, specs.Agendas.IsFirstDue}
+use Rattle.end_system.{specs.Agendas.IsFirstDue}
+use Rattle.end_system.proofs.{Tasks.{corrects_first, dispatches_first, none_is_due, sends_first}}
+use Rattle.end_system.proofs.{Words.{◌∙◌, Some, ap, subst}}
 use Rattle.end_system.proofs.end_system.EndSystemTellsKind.first_kind.Goals as goal
 
 pub returns-in-Some-Sending : goal.returns-in-Some-Sending

@@ -1,4 +1,4 @@
-use Rattle.end_system.proofs.{Arrive.off_arrival, Ripe.{is_on, stands_later}, Words.{◌∙◌, ap, sym}}
+use Rattle.end_system.proofs.{Arrivals.off_arrival, Ripe.{is_on, stands_later}, Words.{◌∙◌, ap, sym}}
 use Rattle.run_law.specs.{control.Wires.signal_of, device.States.is_off, machines.{Answers.arrival_at, Nodes.arriving}}
 use Rattle.end_system.proofs.end_system.EndSystemTellsKind.hear_heading.Goals as goal
 

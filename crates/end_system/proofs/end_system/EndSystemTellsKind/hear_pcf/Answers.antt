@@ -1,4 +1,4 @@
-use Rattle.end_system.proofs.{Arrive.{off_arrival, spelled}, Before.stood_before, Ripe.{is_on, stands_later}}
+use Rattle.end_system.proofs.{Arrivals.{off_arrival, spelled}, Ripe.{is_on, stands_later, stood_before}}
 use Rattle.end_system.proofs.Words.{◌∙◌, EndSystem, StandsAsEnd, ap, subst, sym}
 use Rattle.run_law.specs.{control.Wires.{control, signal_of}, device.States.is_off, machines.{Answers.arrival_at, Nodes.arriving}}
 use Rattle.end_system.proofs.end_system.EndSystemTellsKind.hear_pcf.Goals as goal

@@ -1,4 +1,5 @@
-use Rattle.{end_system.proofs.{OwnLemmas.is_own, Words.{A, B, refl}}, schedule_tables.specs.declared.rule.Rule.TheVariants.Connections}
+use Rattle.end_system.proofs.{Arrivals.is_own, Words.{A, B, refl}}
+use Rattle.schedule_tables.specs.declared.rule.Rule.TheVariants.{Connections}
 use Rattle.end_system.proofs.own.Own.new.Goals as goal
 
 pub uplink_of-requires-clause-one : goal.uplink_of-requires-clause-one

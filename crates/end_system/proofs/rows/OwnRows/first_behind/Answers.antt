@@ -1,4 +1,5 @@
-use Rattle.{end_system.proofs.{RowNext.first_next, Values.{at_least, some_length}, Words.{◌%◌, ◌+◌, ◌∷◌, [], ap, ℕ}}, std.proofs.Common.{◌-◌, ◌/◌}}
+use Rattle.std.proofs.Common.{◌-◌, ◌/◌}
+use Rattle.end_system.proofs.{Ripe.{at_least, some_length}, RowSearch.first_next, Words.{◌%◌, ◌+◌, ◌∷◌, [], ap, ℕ}}
 use Rattle.end_system.proofs.rows.OwnRows.first_behind.Goals as goal
 
 pub returns-clause-next : goal.returns-clause-next

@@ -1,6 +1,7 @@
 use Rattle.end_system.proofs.Words.{◌∙◌, ◌≡◌, AreInOrder, List, Slot, Some, amount_most, ap, arith, length, refl, slice_get, slice_get_read, subst, sym}
 use Rattle.schedule_tables.specs.Slots.{AreBelow, IsFirstSlot}
-use Rattle.end_system.proofs.{RowSearch.{few_cycles, first_here, first_later, is_of, next_block, slot_at, slot_offset}, Values.at_least}
+use Rattle.end_system.proofs.{Ripe.at_least}
+use Rattle.end_system.proofs.{RowSearch.{few_cycles, first_here, first_later, is_of, next_block, slot_at, slot_offset}}
 use Rattle.end_system.proofs.rows.OwnRows.first_from.Goals as goal
 
 pub overflow_add-first : goal.overflow_add-first

@@ -1,4 +1,4 @@
-use Rattle.end_system.proofs.{RowNext.next_next, RowSearch.device_is, Words.refl}
+use Rattle.end_system.proofs.{RowSearch.{device_is, next_next}, Words.refl}
 use Rattle.end_system.proofs.rows.OwnRows.next_behind.Goals as goal
 
 pub first_from-requires-clause-same : goal.first_from-requires-clause-same

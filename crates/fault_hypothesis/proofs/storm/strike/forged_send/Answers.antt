@@ -1,4 +1,5 @@
-use Rattle.{fault_hypothesis.proofs.storm_lemmas.{Belongings.uplink_within, Masters.master_uplink}, std.proofs.Common.{refl, rules, sym}}
+use Rattle.std.proofs.Common.{refl, rules, sym}
+use Rattle.fault_hypothesis.proofs.storm_lemmas.Masters.{master_uplink, uplink_within}
 use Rattle.{std.{proofs.lemmas.Option.slice_get_read}}
 use Rattle.fault_hypothesis.proofs.storm.strike.forged_send.Goals as goal
 

@@ -1,4 +1,4 @@
-use Rattle.fault_hypothesis.proofs.Judging.{second_by}
+use Rattle.fault_hypothesis.proofs.Keeping.{second_by}
 use Rattle.fault_hypothesis.proofs.watch.Watch.breaks_second.Goals as goal
 
 pub returns-in-Break : goal.returns-in-Break

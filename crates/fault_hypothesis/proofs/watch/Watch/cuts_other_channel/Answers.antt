@@ -1,4 +1,4 @@
-use Rattle.{fault_hypothesis.proofs.Judging.cut_by}
+use Rattle.fault_hypothesis.proofs.Keeping.{cut_by}
 use Rattle.{std.proofs.Common.{◌∙◌}}
 use Rattle.fault_hypothesis.proofs.watch.Watch.cuts_other_channel.Goals as goal
 

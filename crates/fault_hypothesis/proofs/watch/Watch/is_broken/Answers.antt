@@ -1,4 +1,5 @@
-use Rattle.{fault_hypothesis.proofs.Judging.broken_by, std.{proofs.Common.{rules, tests}}}
+use Rattle.std.proofs.Common.{rules, tests}
+use Rattle.fault_hypothesis.proofs.Keeping.{broken_by}
 use Rattle.fault_hypothesis.proofs.watch.Watch.is_broken.Goals as goal
 
 pub returns : goal.returns

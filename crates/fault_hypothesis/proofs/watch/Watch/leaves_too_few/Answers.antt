@@ -1,5 +1,5 @@
-use Rattle.{fault_hypothesis.proofs.Judging.few_by, std.{proofs.Common.{◌∙◌}}}
-use Rattle.{fault_hypothesis.{proofs.SoundMasters.left_by_break}}
+use Rattle.std.proofs.Common.{◌∙◌}
+use Rattle.fault_hypothesis.proofs.Keeping.{few_by, left_by_break}
 use Rattle.fault_hypothesis.proofs.watch.Watch.leaves_too_few.Goals as goal
 
 pub returns-in-Break : goal.returns-in-Break

@@ -1,4 +1,5 @@
-use Rattle.{fault_hypothesis.proofs.{Cuts.faulty_begins, Keeping.none_on}, tte_units.proofs.general_lemmas.Lists.{any_none, none_stands}}
+use Rattle.fault_hypothesis.proofs.Keeping.{faulty_begins, none_on}
+use Rattle.tte_units.proofs.general_lemmas.Lists.{any_none, none_stands}
 use Rattle.{run_law.specs.scenario.Faults.Breaks, std.proofs.Common.{arith, refl}}
 use Rattle.fault_hypothesis.proofs.watch.Watch.new.Goals as goal
 

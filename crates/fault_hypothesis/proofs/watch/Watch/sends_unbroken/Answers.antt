@@ -1,4 +1,6 @@
-use Rattle.{fault_hypothesis.proofs.Judging.sends_by, net_plan.specs.Places.link_at, std.proofs.Common.{◌∙◌, ap, sym}}
+use Rattle.std.proofs.Common.{◌∙◌, ap, sym}
+use Rattle.fault_hypothesis.proofs.Keeping.{sends_by}
+use Rattle.net_plan.specs.Places.{link_at}
 use Rattle.fault_hypothesis.proofs.watch.Watch.sends_unbroken.Goals as goal
 
 pub returns-in-Some : goal.returns-in-Some

@@ -1,4 +1,6 @@
-use Rattle.{lens.{proofs.draw_lemmas.Marking.draft_is, specs.draw.Drafts.IsDraftOf}, lens_svg.specs.Views.View, std.proofs.Common.{None, refl, subst}}
+use Rattle.std.proofs.Common.{None, refl, subst}
+use Rattle.lens.{proofs.draw_lemmas.Marking.draft_is, specs.draw.Drafts.IsDraftOf}
+use Rattle.lens_svg.specs.Views.{View}
 use Rattle.lens.proofs.draw.drawing.draft_of.Goals as goal
 
 pub take_records-requires-clause-none : goal.take_records-requires-clause-none

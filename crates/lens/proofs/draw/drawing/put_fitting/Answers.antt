@@ -1,4 +1,5 @@
-use Rattle.{lens.proofs.draw_lemmas.Marking.{front_fails, front_given}, tte_forms.specs.Putting.shown_by}
+use Rattle.lens.proofs.draw_lemmas.Marking.{front_fails, front_given}
+use Rattle.tte_forms.specs.Putting.{shown_by}
 use Rattle.lens.proofs.draw.drawing.put_fitting.Goals as goal
 
 pub returns-in-Err-clause-gives : goal.returns-in-Err-clause-gives

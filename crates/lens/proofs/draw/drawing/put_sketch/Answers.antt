@@ -1,4 +1,6 @@
-use Rattle.{lens.proofs.draw_lemmas.Marking.{fit_answer, wide_answer}, std.proofs.Common.sym, tte_forms.specs.Putting.shown_by}
+use Rattle.std.proofs.Common.{sym}
+use Rattle.lens.proofs.draw_lemmas.Marking.{fit_answer, wide_answer}
+use Rattle.tte_forms.specs.Putting.{shown_by}
 use Rattle.lens.proofs.draw.drawing.put_sketch.Goals as goal
 
 pub returns-then-fits-clause-gives : goal.returns-then-fits-clause-gives

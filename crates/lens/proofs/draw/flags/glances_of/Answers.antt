@@ -1,4 +1,5 @@
-use Rattle.{lens.proofs.draw_lemmas.Keeping.own_none, std.proofs.Common.refl}
+use Rattle.std.proofs.Common.{refl}
+use Rattle.lens.proofs.draw_lemmas.Keeping.{own_none}
 use Rattle.lens.proofs.draw.flags.glances_of.Goals as goal
 
 pub take_records-requires-clause-none : goal.take_records-requires-clause-none

@@ -1,4 +1,6 @@
-use Rattle.lens.{proofs.draw_lemmas.{Keeping.{IsSpread, spread_all, spread_first, spread_next}, Lanes.{lanes_first, lanes_next}}, specs.draw.Keeping.{AreLanes, lanes_on, passed_on}}
+use Rattle.lens.{specs.draw.Keeping.{AreLanes, lanes_on, passed_on}}
+use Rattle.lens.proofs.draw_lemmas.{Keeping.{IsSpread, spread_all, spread_first, spread_next}}
+use Rattle.lens.proofs.draw_lemmas.{Naming.{lanes_first, lanes_next}}
 use Rattle.{lens_svg.specs.Sketching.glance_of, net_plan.specs.declared.tables.Device.Device, std.proofs.lemmas.List.length-map}
 use Rattle.std.{proofs.Common.{◌-◌, ◌≡◌, ◌≤◌, ◌∙◌, List, ap, arith, drop, false, length, map, subst, sym}, specs.Prelude.suc}
 use Rattle.lens.proofs.draw.flags.kept_flags.Goals as goal

@@ -1,4 +1,5 @@
-use Rattle.lens.{proofs.draw_lemmas.Keeping.IsSpread, specs.{declared.draw.subject.Subject.Subject, draw.Keeping.{AreLanes, AreOwn}}}
+use Rattle.lens.{proofs.draw_lemmas.Keeping.IsSpread}
+use Rattle.lens.{specs.{declared.draw.subject.Subject.Subject, draw.Keeping.{AreLanes, AreOwn}}}
 use Rattle.{lens_svg.specs.Sketching.glance_of, run_law.specs.declared.note.Note.Note, std.proofs.Common.{◌≡◌, List, drop, map, ℕ}}
 use Rattle.{tte_reports.specs.Reports.IsReportOf, tte_units.specs.declared.units.Units.Units}
 use Rattle.lens.proofs.draw.flags.kept_flags.Given as goal

@@ -1,4 +1,4 @@
-use Rattle.lens.proofs.draw_lemmas.Lines.{marks_stand, pictures_draw_plans}
+use Rattle.lens.proofs.draw_lemmas.Marking.{marks_stand, pictures_draw_plans}
 use Rattle.lens.proofs.draw.laws.lines_law.Goals as goal
 
 pub returns-clause-plans : goal.returns-clause-plans

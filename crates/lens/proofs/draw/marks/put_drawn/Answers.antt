@@ -1,7 +1,8 @@
-use Rattle.{lens.proofs.draw_lemmas.Parts.{flat_all, flat_fails, flat_more}, lens.specs.draw.Picture.found_line, lens_svg.specs.declared.mark.Mark.Mark}
+use Rattle.lens.{proofs.draw_lemmas.Marking.{flat_all, flat_fails, flat_more}, specs.draw.Picture.found_line}
+use Rattle.lens_svg.specs.declared.mark.Mark.{Mark}
+use Rattle.tte_forms.{proofs.Puts.PutsLines-none, specs.Putting.shown_by}
 use Rattle.{run_law.specs.declared.note.Note.Note, std.proofs.Common.{◌∙◌, List, refl, ℕ}, tte_reports.specs.Places.note_at}
 use Rattle.net_plan.specs.declared.network.Network.{Network}
-use Rattle.tte_forms.{proofs.Puts.PutsLines-none, specs.Putting.shown_by}
 use Rattle.lens.proofs.draw.marks.put_drawn.Goals as goal
 
 abbrev line_by : Network → List Note → Mark → List (List ℕ)

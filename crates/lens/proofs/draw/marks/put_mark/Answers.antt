@@ -1,7 +1,9 @@
-use Rattle.lens.{proofs.draw_lemmas.{Marking.found_in_range, Parts.draws_one}, specs.draw.Picture.found_line}
-use Rattle.{lens_svg.specs.Marking.mark_line, lens_why.proofs.Notes.note_of, run_law.specs.declared.note.Note.Note}
-use Rattle.std.proofs.Common.{◌∙◌, ◌∷◌, ◌≡◌, List, Option, [], subst, sym, ℕ}
+use Rattle.lens.{proofs.draw_lemmas.Marking.{draws_one, found_in_range}, specs.draw.Picture.found_line}
+use Rattle.lens_svg.specs.Marking.{mark_line}
+use Rattle.lens_why.proofs.Cutting.{note_of}
+use Rattle.run_law.specs.declared.note.Note.{Note}
 use Rattle.tte_forms.{proofs.Puts.PutsLines-none, specs.Putting.{Puts, PutsLines, shown_by}}
+use Rattle.std.proofs.Common.{◌∙◌, ◌∷◌, ◌≡◌, List, Option, [], subst, sym, ℕ}
 use Rattle.lens.proofs.draw.marks.put_mark.Goals as goal
 
 pub make_mark_line-requires-clause-of_network : goal.make_mark_line-requires-clause-of_network

@@ -1,4 +1,5 @@
-use Rattle.lens.{proofs.draw_lemmas.Naming.{named_audits, named_given, not_unknown, unknown_given}, specs.draw.Naming.{IsUnknown, Names}}
+use Rattle.lens.{proofs.draw_lemmas.Naming.{named_audits, named_given, not_unknown, unknown_given}}
+use Rattle.lens.{specs.draw.Naming.{IsUnknown, Names}}
 use Rattle.net_plan.specs.{Ranges.IsInRange}
 use Rattle.std.proofs.Common.{refl, subst, sym}
 use Rattle.tte_forms.specs.Putting.{shown_by}

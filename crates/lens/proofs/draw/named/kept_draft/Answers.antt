@@ -1,4 +1,6 @@
-use Rattle.{lens.proofs.draw_lemmas.Marking.draft_is, lens.specs.declared.draw.drawing.Draft.Draft, lens_svg.specs.Views.View, std.proofs.Common.{◌∙◌, Some}}
+use Rattle.std.proofs.Common.{◌∙◌, Some}
+use Rattle.lens.{proofs.draw_lemmas.Marking.draft_is, specs.declared.draw.drawing.Draft.Draft}
+use Rattle.lens_svg.specs.Views.{View}
 use Rattle.lens.proofs.draw.named.kept_draft.Goals as goal
 
 pub returns : goal.returns

@@ -1,4 +1,4 @@
-use Rattle.lens.{proofs.draw_lemmas.Parts.{flat_fails, flat_more}, specs.draw.Picture.{layer_lines, layers}}
+use Rattle.lens.{proofs.draw_lemmas.Marking.{flat_fails, flat_more}, specs.draw.Picture.{layer_lines, layers}}
 use Rattle.{std.proofs.Common.◌∙◌, tte_forms.specs.Putting.shown_by}
 use Rattle.lens.proofs.draw.putting.put_front.Goals as goal
 

@@ -1,4 +1,5 @@
-use Rattle.{lens.{proofs.draw_lemmas.Parts.{listed_fails, listed_more}, specs.draw.Picture.some_line}, tte_forms.specs.Putting.{PutFails, PutsLines, shown_by}}
+use Rattle.lens.{proofs.draw_lemmas.Marking.{listed_fails, listed_more}, specs.draw.Picture.some_line}
+use Rattle.tte_forms.specs.Putting.{PutFails, PutsLines, shown_by}
 use Rattle.{lens_svg.specs.Clocks.gauge_of, std.proofs.Common.{◌∙◌, subst}}
 use Rattle.lens.proofs.draw.putting.put_gauges.Goals as goal
 

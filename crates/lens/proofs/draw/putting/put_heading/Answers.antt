@@ -1,4 +1,6 @@
-use Rattle.{lens.proofs.draw_lemmas.Parts.draws_one, lens_svg.specs.Titles.heading_line, tte_forms.specs.Putting.{Puts, shown_by}}
+use Rattle.lens.proofs.draw_lemmas.Marking.{draws_one}
+use Rattle.lens_svg.specs.Titles.{heading_line}
+use Rattle.tte_forms.specs.Putting.{Puts, shown_by}
 use Rattle.std.proofs.Common.{◌∙◌, ◌∷◌, ◌≡◌, List, [], ap, subst, ℕ}
 use Rattle.lens.proofs.draw.putting.put_heading.Goals as goal
 

@@ -1,4 +1,5 @@
-use Rattle.{lens.{proofs.draw_lemmas.Parts.{places_fail, places_more}, specs.draw.Picture.some_line}, tte_forms.specs.Putting.{PutFails, PutsLines, shown_by}}
+use Rattle.lens.{proofs.draw_lemmas.Marking.{places_fail, places_more}, specs.draw.Picture.some_line}
+use Rattle.tte_forms.specs.Putting.{PutFails, PutsLines, shown_by}
 use Rattle.{lens_svg.specs.Layers.on_lane}
 use Rattle.std.proofs.Common.{◌<◌, ◌∙◌, length, subst}
 use Rattle.lens.proofs.draw.putting.put_lanes.Goals as goal

@@ -1,4 +1,6 @@
-use Rattle.{lens.proofs.draw_lemmas.Parts.draws_one, std.proofs.Common.{◌∙◌, ◌∷◌, ◌≡◌, List, [], subst, ℕ}, tte_forms.specs.Putting.{Puts, shown_by}}
+use Rattle.std.proofs.Common.{◌∙◌, ◌∷◌, ◌≡◌, List, [], subst, ℕ}
+use Rattle.lens.proofs.draw_lemmas.Marking.{draws_one}
+use Rattle.tte_forms.specs.Putting.{Puts, shown_by}
 use Rattle.lens.specs.draw.{Signs.sign_line}
 use Rattle.lens.proofs.draw.putting.put_shared.Goals as goal
 

@@ -1,4 +1,5 @@
-use Rattle.{lens.{proofs.draw_lemmas.Parts.draws_one, specs.draw.Picture.some_line}, tte_forms.specs.Putting.{Puts, shown_by}}
+use Rattle.lens.{proofs.draw_lemmas.Marking.draws_one, specs.draw.Picture.some_line}
+use Rattle.tte_forms.specs.Putting.{Puts, shown_by}
 use Rattle.{lens_svg.specs.Elements.element_line, std.proofs.Common.{◌∙◌, ◌∷◌, ◌≡◌, List, [], subst, sym, ℕ}}
 use Rattle.lens.proofs.draw.putting.put_some.Goals as goal
 

@@ -1,4 +1,6 @@
-use Rattle.{lens.{proofs.draw_lemmas.Parts.{flat_fails, flat_more}, specs.draw.Picture.some_line}, std.proofs.Common.◌∙◌, tte_forms.specs.Putting.shown_by}
+use Rattle.std.proofs.Common.{◌∙◌}
+use Rattle.lens.{proofs.draw_lemmas.Marking.{flat_fails, flat_more}, specs.draw.Picture.some_line}
+use Rattle.tte_forms.specs.Putting.{shown_by}
 use Rattle.lens_svg.specs.Windows.{box_of}
 use Rattle.lens.proofs.draw.putting.put_windows.Goals as goal
 

@@ -1,4 +1,5 @@
-use Rattle.{lens.proofs.events_lemmas.PutLines.{puts_all, puts_fail, puts_more, puts_none}, tte_traces.proofs.storms_lemmas.Existing.IsStormy}
+use Rattle.lens.proofs.events_lemmas.StormEvents.{puts_all, puts_fail, puts_more, puts_none}
+use Rattle.tte_traces.proofs.storms_lemmas.Drawn.{IsStormy}
 use Rattle.{net_plan.specs.Belonging.IsOfNetwork, std.specs.Io.KnownBytes.Appends, trace_text.specs.EventLine.event_line, tte_forms.specs.Putting.shown_by}
 use Rattle.{net_plan.specs.declared.network.Network.Network, std.proofs.Common.{◌∙◌, refl, subst, sym}, tte_traces.specs.storms.Laws.FitsFrames}
 use Rattle.tte_io.specs.Told.{AppendsFront}

@@ -1,4 +1,7 @@
-use Rattle.{lens.proofs.events_lemmas.PutLines.HasPutEvents, std.proofs.Common.◌≡◌, tte_forms.specs.Putting.shown_by, tte_traces.specs.storms.Storms.left_of}
+use Rattle.std.proofs.Common.{◌≡◌}
+use Rattle.lens.proofs.events_lemmas.StormEvents.{HasPutEvents}
+use Rattle.tte_forms.specs.Putting.{shown_by}
+use Rattle.tte_traces.specs.storms.Storms.{left_of}
 use Rattle.lens.proofs.events.putting.put_events.Given as goal
 
 abbrev pub invariant-events : goal.invariant-events

@@ -1,4 +1,6 @@
-use Rattle.{lens_clocks.specs.Answer.clocks_answer, run_law.specs.records.Happenings.happenings, tte_reports.proofs.Times.{end_same, end_soon}}
+use Rattle.lens_clocks.specs.Answer.{clocks_answer}
+use Rattle.run_law.specs.records.Happenings.{happenings}
+use Rattle.tte_reports.proofs.Reports.{end_same, end_soon}
 use Rattle.{std.proofs.{Common.{◌∙◌, ap, arith, inl, refl, rules, subst, sym, ℤ}, lemmas.Int.to_z-of_z}, std.specs.{Int.w64, Prelude.unsigned_abs}}
 use Rattle.tte_audit.specs.Report.{events_of, scenario_of}
 use Rattle.tte_forms.specs.{Answering.Gives, Putting.shown_by}

@@ -1,4 +1,5 @@
-use Rattle.{lens_flows.{proofs.AllTold.{answer_there, writable_all}, specs.Writing.IsWritable}, std.proofs.Common.{List, inl, subst, sym}}
+use Rattle.std.proofs.Common.{List, inl, subst, sym}
+use Rattle.lens_flows.{proofs.AllTold.{answer_there, writable_all}, specs.Writing.IsWritable}
 use Rattle.lens_flows.specs.{Answer.told_answer, declared.counts.told.FlowTold.FlowTold}
 use Rattle.{std.specs.Prelude.All, tte_forms.specs.{Answering.Gives, Putting.shown_by}}
 use Rattle.lens_flows.proofs.answering.FlowsReportCommand.put.Goals as goal

@@ -1,4 +1,4 @@
-use Rattle.lens_flows.proofs.counts_lemmas.Fated.{fate_one}
+use Rattle.lens_flows.proofs.counts_lemmas.Counts.{fate_one}
 use Rattle.lens_flows.specs.judge.{Courses.scenario_of, Fates.HasFate}
 use Rattle.std.proofs.{Common.{◌∙◌, ◌≡◌, inl, inr, rules, subst, sym}, lemmas.Bool.false≢true}
 use Rattle.lens_flows.proofs.counts.counting.count_cycle.Goals.{then-eq+then-were_on, else-eq, else-eq-via-then-eq+else-were_on, else-eq-via-else-eq}

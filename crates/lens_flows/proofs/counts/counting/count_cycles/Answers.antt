@@ -1,6 +1,9 @@
-use Rattle.lens_flows.proofs.counts_lemmas.Certainty.{certain_all, certain_few, certain_next, certain_none}
-use Rattle.lens_flows.proofs.counts_lemmas.{Counts.{few_next, next_counted, no_counts, none_above, zero_counts}, Fated.{all_counted, none_counted}}
-use Rattle.{lens_flows.{proofs.judge_lemmas.Rows.receiver_there, specs.judge.Courses.scenario_of}, std.proofs.Common.arith}
+use Rattle.std.proofs.Common.{arith}
+use Rattle.lens_flows.{specs.judge.Courses.scenario_of}
+use Rattle.lens_flows.proofs.{judge_lemmas.Judging.receiver_there}
+use Rattle.lens_flows.proofs.counts_lemmas.Counts.{all_counted, certain_all, certain_few, certain_next, certain_none}
+use Rattle.lens_flows.proofs.counts_lemmas.Counts.{few_next, next_counted, no_counts, none_above, none_counted}
+use Rattle.lens_flows.proofs.counts_lemmas.Counts.{zero_counts}
 use Rattle.lens_flows.proofs.counts.counting.count_cycles.Goals as goal
 
 pub next_begun-requires-clause-device : goal.next_begun-requires-clause-device

@@ -1,6 +1,6 @@
-use Rattle.lens_flows.{proofs.counts_lemmas.Fated.{AreCountsUpTo, AreUpTo}, specs.judge.Courses.{IsCourse, scenario_of}}
+use Rattle.lens_flows.{proofs.counts_lemmas.Counts.{AreCountsUpTo, AreUpTo, CountsUpTo}}
+use Rattle.lens_flows.{specs.judge.{Certain.IsCertainAt, Courses.{IsCourse, scenario_of}}}
 use Rattle.{net_plan.specs.declared.event.Event.Event, run_law.specs.records.Happenings.Happening, std.proofs.Common.{◌-◌, ◌^◌, ◌≤◌, List}}
-use Rattle.lens_flows.{proofs.counts_lemmas.Tallies.CountsUpTo, specs.judge.Certain.IsCertainAt}
 use Rattle.lens_flows.proofs.counts.counting.count_cycles.Given as goal
 
 -- the cycles that have begun are counted, and no count is above the time

@@ -1,5 +1,6 @@
 use Rattle.std.proofs.{Common.{◌<◌, ◌^◌, ◌∙◌, ◌≡◌, ap, arith, length, rules, subst, sym, take, ℕ}, Math.Seq.take-length, lemmas.List.take_more}
-use Rattle.lens_flows.proofs.counts_lemmas.Sums.{few_counted, next_delivered, none_delivered, others_delivered, taken_short}
+use Rattle.lens_flows.proofs.counts_lemmas.Telling
+use Telling.{few_counted, next_delivered, none_delivered, others_delivered, taken_short}
 use Rattle.lens_flows.specs.{counts.Deliveries.AreDeliveries, judge.Courses.scenario_of}
 use Rattle.lens_flows.proofs.counts.deliveries.count_deliveries.Goals.{else-is_of, then-is_of}
 use Rattle.lens_flows.proofs.counts.deliveries.count_deliveries.Goals as goal

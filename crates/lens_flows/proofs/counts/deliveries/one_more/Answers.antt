@@ -1,5 +1,5 @@
 use Rattle.std.proofs.Common.{rules, subst}
-use Rattle.lens_flows.{proofs.judge_lemmas.Rows.receiver_there, specs.counts.Nearest.{IsInsideSome, TellsLeast}}
+use Rattle.lens_flows.{proofs.judge_lemmas.Judging.receiver_there, specs.counts.Nearest.{IsInsideSome, TellsLeast}}
 use Rattle.lens_flows.proofs.counts.deliveries.one_more.Goals as goal
 
 pub place_at-place-requires-clause-device : goal.place_at-place-requires-clause-device

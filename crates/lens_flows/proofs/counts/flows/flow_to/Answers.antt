@@ -1,4 +1,5 @@
-use Rattle.{lens_flows.proofs.counts_lemmas.FlowParts.{no_end_system, no_window}, std.proofs.Common.{◌∙◌, sym}}
+use Rattle.std.proofs.Common.{◌∙◌, sym}
+use Rattle.lens_flows.proofs.counts_lemmas.Counts.{no_end_system, no_window}
 use Rattle.lens_flows.proofs.counts.flows.flow_to.Goals as goal
 
 pub returns-then-not-is_end : goal.returns-then-not-is_end

@@ -1,4 +1,4 @@
-use Rattle.lens_flows.proofs.counts_lemmas.FlowParts.{all_vls, no_flows}
+use Rattle.lens_flows.proofs.counts_lemmas.Counts.{all_vls, no_flows}
 use Rattle.{lens_flows.specs.counts.PartLists.AreFlowsBefore, std.proofs.Common.{ap, arith, length, subst, sym}}
 use Rattle.lens_flows.proofs.counts.flows.flows_of.Goals as goal
 

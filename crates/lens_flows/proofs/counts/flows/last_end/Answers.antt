@@ -1,4 +1,5 @@
-use Rattle.{lens_flows.proofs.{counts_lemmas.Ends.{ends_all, ends_more, ends_none}, judge_lemmas.Spans.span_short}, std.proofs.Common.arith}
+use Rattle.std.proofs.Common.{arith}
+use Rattle.lens_flows.proofs.{counts_lemmas.Counts.{ends_all, ends_more, ends_none}, judge_lemmas.Judging.span_short}
 use Rattle.lens_flows.proofs.counts.flows.last_end.Goals as goal
 
 pub rows-init : goal.rows-init

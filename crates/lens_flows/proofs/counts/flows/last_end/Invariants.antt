@@ -1,4 +1,4 @@
-use Rattle.lens_flows.{proofs.counts_lemmas.Ends.EndsBefore, specs.counts.Greatest.TellsGreatest}
+use Rattle.lens_flows.{proofs.counts_lemmas.Counts.EndsBefore, specs.counts.Greatest.TellsGreatest}
 use Rattle.lens_flows.proofs.counts.flows.last_end.Given as goal
 
 abbrev pub invariant-rows : goal.invariant-rows

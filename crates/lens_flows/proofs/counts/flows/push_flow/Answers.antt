@@ -1,4 +1,4 @@
-use Rattle.lens_flows.proofs.counts_lemmas.FlowParts.{flow_more, flow_none}
+use Rattle.lens_flows.proofs.counts_lemmas.Counts.{flow_more, flow_none}
 use Rattle.lens_flows.proofs.counts.flows.push_flow.Goals as goal
 
 pub returns-in_ok-push-in-Some : goal.returns-in_ok-push-in-Some

@@ -1,4 +1,4 @@
-use Rattle.lens_flows.proofs.counts_lemmas.FlowParts.{no_flow_of}
+use Rattle.lens_flows.proofs.counts_lemmas.Counts.{no_flow_of}
 use Rattle.lens_flows.proofs.counts.flows.push_flows.Goals as goal
 
 pub returns-in-None : goal.returns-in-None

@@ -1,4 +1,5 @@
-use Rattle.{lens_flows.proofs.counts_lemmas.FlowParts.next_vl, std.proofs.Common.{ap, arith, length}}
+use Rattle.std.proofs.Common.{ap, arith, length}
+use Rattle.lens_flows.proofs.counts_lemmas.Counts.{next_vl}
 use Rattle.lens_flows.proofs.counts.flows.push_receivers.Goals as goal
 
 pub devices-preserved : goal.devices-preserved

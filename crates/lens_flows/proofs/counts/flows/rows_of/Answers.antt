@@ -1,4 +1,5 @@
-use Rattle.{lens_flows.proofs.judge_lemmas.Spans.span_all, std.proofs.Common.{ap, arith, length}}
+use Rattle.std.proofs.Common.{ap, arith, length}
+use Rattle.lens_flows.proofs.judge_lemmas.Judging.{span_all}
 use Rattle.lens_flows.proofs.counts.flows.rows_of.Goals as goal
 
 pub rows-init : goal.rows-init

@@ -1,4 +1,5 @@
-use Rattle.lens_flows.{proofs.judge_lemmas.Spans.{row_of_other, span_first, span_later, span_other}, specs.judge.Flows.{IsRowOf, TellsSpan}}
+use Rattle.lens_flows.{proofs.judge_lemmas.Judging.{row_of_other, span_first, span_later, span_other}}
+use Rattle.lens_flows.{specs.judge.Flows.{IsRowOf, TellsSpan}}
 use Rattle.std.proofs.Common.{rules, subst}
 use Rattle.lens_flows.proofs.counts.flows.with_row.Goals as goal
 

@@ -1,4 +1,5 @@
-use Rattle.{lens_flows.proofs.counts_lemmas.Leasts.inside_least, std.proofs.Common.{pos, rules}}
+use Rattle.std.proofs.Common.{pos, rules}
+use Rattle.lens_flows.proofs.counts_lemmas.Telling.{inside_least}
 use Rattle.lens_flows.proofs.counts.nearest.inside.Goals as goal
 
 pub returns : goal.returns

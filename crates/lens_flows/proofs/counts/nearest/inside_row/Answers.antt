@@ -1,4 +1,5 @@
-use Rattle.lens_flows.{proofs.counts_lemmas.Leasts.least_same, specs.counts.Nearest.{IsInside, IsInsideRow, TellsLeast}}
+use Rattle.lens_flows.{proofs.counts_lemmas.Telling.least_same}
+use Rattle.lens_flows.{specs.counts.Nearest.{IsInside, IsInsideRow, TellsLeast}}
 use Rattle.{schedule_tables.specs.Windows.window_of, std.proofs.Common.{pos, rules, subst, sym}}
 use Rattle.lens_flows.proofs.counts.nearest.inside_row.Goals as goal
 

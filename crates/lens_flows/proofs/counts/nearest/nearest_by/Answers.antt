@@ -1,4 +1,6 @@
-use Rattle.{lens_flows.proofs.{counts_lemmas.Leasts.{inside_all, inside_more, inside_none}, judge_lemmas.Spans.span_short}, std.proofs.Common.{arith, pos}}
+use Rattle.std.proofs.Common.{arith, pos}
+use Rattle.lens_flows.proofs.{counts_lemmas.Telling.{inside_all, inside_more, inside_none}}
+use Rattle.lens_flows.proofs.{judge_lemmas.Judging.span_short}
 use Rattle.lens_flows.proofs.counts.nearest.nearest_by.Goals as goal
 
 pub rows-init : goal.rows-init

@@ -1,4 +1,5 @@
-use Rattle.{lens_flows.{proofs.counts_lemmas.Leasts.IsInsideBefore, specs.counts.Nearest.TellsLeast}, std.proofs.Common.pos}
+use Rattle.std.proofs.Common.{pos}
+use Rattle.lens_flows.{proofs.counts_lemmas.Telling.IsInsideBefore, specs.counts.Nearest.TellsLeast}
 use Rattle.lens_flows.proofs.counts.nearest.nearest_by.Given as goal
 
 abbrev pub invariant-rows : goal.invariant-rows

@@ -1,5 +1,6 @@
 use Rattle.std.proofs.{Common.{◌++◌, ◌∙◌, ◌∷◌, ◌≡◌, [], ap, arith, subst, sym, take, ℕ}, Math.Seq.take-length, lemmas.List.take_more}
-use Rattle.lens_flows.{proofs.counts_lemmas.Telling.{none_told, told_more}, specs.{declared.judge.flow.Flow.Flow, judge.Courses.scenario_of}}
+use Rattle.lens_flows.{proofs.counts_lemmas.Telling.{none_told, told_more}}
+use Rattle.lens_flows.{specs.{declared.judge.flow.Flow.Flow, judge.Courses.scenario_of}}
 use Rattle.lens_flows.specs.counts.Told.{AreToldOf}
 use Rattle.lens_flows.proofs.counts.told.tell_all.Goals as goal
 

@@ -1,4 +1,6 @@
-use Rattle.lens_latency.{proofs.Followings.followed_more, specs.{Following.{IsFollowed, arrival_by, departure_by}, declared.arrivals.FrameArrival.FrameArrival}}
+use Rattle.lens_latency.{proofs.Departures.followed_more}
+use Rattle.lens_latency.specs.{Following.{IsFollowed, arrival_by, departure_by}}
+use Rattle.lens_latency.specs.{declared.arrivals.FrameArrival.FrameArrival}
 use Rattle.std.{proofs.Common.{◌++◌, ◌∙◌, ◌∷◌, ◌≡◌, Option, [], ap, subst, sym, ℕ}, specs.List.cons_option}
 use Rattle.tte_units.specs.Amount.{amount}
 use Rattle.lens_latency.proofs.arrivals.FollowedRecordTaker.take.Goals as goal

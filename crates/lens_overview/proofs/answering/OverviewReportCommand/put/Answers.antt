@@ -1,4 +1,4 @@
-use Rattle.lens_overview.{proofs.NoneMissed.missed_none, specs.Answer.{picture_for, pieces_answer}}
+use Rattle.lens_overview.{proofs.LawAnswers.missed_none, specs.Answer.{picture_for, pieces_answer}}
 use Rattle.std.proofs.Common.{◌∙◌, [], inl, refl, subst}
 use Rattle.lens_svg.specs.Titles.{title_of}
 use Rattle.tte_forms.specs.{Answering.Gives, Putting.shown_by}

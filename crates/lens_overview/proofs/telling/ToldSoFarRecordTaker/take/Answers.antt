@@ -1,5 +1,7 @@
 use Rattle.{audit_law.specs.events.Readings.scenario_under, lens_overview.specs.{News.news_of, Telling.news_by, declared.news.News.News}}
-use Rattle.{run_law.specs.records.Happenings.happenings, tte_audit.specs.Report.events_of, tte_reports.proofs.Times.{end_soon, none_later}}
+use Rattle.run_law.specs.records.Happenings.{happenings}
+use Rattle.tte_audit.specs.Report.{events_of}
+use Rattle.tte_reports.proofs.Reports.{end_soon, none_later}
 use Rattle.std.proofs.{Common.{◌++◌, ◌∙◌, ◌∷◌, List, [], ap, arith, sym}, lemmas.List.Sums.fold-append}
 use Rattle.lens_overview.proofs.telling.ToldSoFarRecordTaker.take.Goals as goal
 

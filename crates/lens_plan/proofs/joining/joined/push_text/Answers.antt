@@ -1,4 +1,4 @@
-use Rattle.lens_plan.{proofs.Texts.text_more, specs.text.Lines.plan_line}
+use Rattle.lens_plan.{proofs.Plans.text_more, specs.text.Lines.plan_line}
 use Rattle.std.proofs.Common.{◌++◌, ◌∙◌, List, ap, ℕ}
 use Rattle.lens_plan.proofs.joining.joined.push_text.Goals as goal
 

@@ -1,4 +1,4 @@
-use Rattle.lens_plan.{proofs.FirstServed.served_next, specs.{joining.Served.IsServedBy, messages.Message.Message}}
+use Rattle.lens_plan.{proofs.PlannedRows.served_next, specs.{joining.Served.IsServedBy, messages.Message.Message}}
 use Rattle.std.proofs.{Common.{◌+◌, ◌∙◌, ◌≡◌, Some, ap, arith, length, refl, subst, sym, ℕ}, lemmas.Option.{slice_get-get_or, slice_get_within}}
 use Rattle.lens_plan.proofs.joining.served.are_served.Goals as goal
 

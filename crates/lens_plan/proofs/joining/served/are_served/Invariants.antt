@@ -1,4 +1,4 @@
-use Rattle.lens_plan.proofs.{FirstServed.FirstAreServed}
+use Rattle.lens_plan.proofs.PlannedRows.{FirstAreServed}
 use Rattle.lens_plan.proofs.joining.served.are_served.Given as goal
 
 abbrev pub invariant-messages : goal.invariant-messages

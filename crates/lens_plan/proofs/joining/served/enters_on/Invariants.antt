@@ -1,4 +1,4 @@
-use Rattle.lens_plan.{proofs.RowsBelow.HoldsBelow, specs.joining.Served.Comes}
+use Rattle.lens_plan.{proofs.PlannedRows.HoldsBelow, specs.joining.Served.Comes}
 use Rattle.lens_plan.proofs.joining.served.enters_on.Given as goal
 
 abbrev pub invariant-rows : goal.invariant-rows

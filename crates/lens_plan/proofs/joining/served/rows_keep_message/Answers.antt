@@ -1,4 +1,4 @@
-use Rattle.lens_plan.{proofs.RowsBelow.{below_all, below_next}, specs.joining.Served.KeepsMessage}
+use Rattle.lens_plan.{proofs.PlannedRows.{below_all, below_next}, specs.joining.Served.KeepsMessage}
 use Rattle.schedule_tables.specs.declared.entry.Entry.{Entry}
 use Rattle.std.proofs.Common.{◌≡◌, ap, arith, length, refl, rules}
 use Rattle.lens_plan.proofs.joining.served.rows_keep_message.Goals as goal

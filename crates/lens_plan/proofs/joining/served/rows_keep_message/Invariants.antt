@@ -1,4 +1,5 @@
-use Rattle.{lens_plan.{proofs.RowsBelow.HoldsBelow, specs.joining.Served.KeepsMessage}, std.specs.Prelude.◌≡◌}
+use Rattle.std.specs.Prelude.{◌≡◌}
+use Rattle.lens_plan.{proofs.PlannedRows.HoldsBelow, specs.joining.Served.KeepsMessage}
 use Rattle.lens_plan.proofs.joining.served.rows_keep_message.Given as goal
 
 abbrev pub invariant-rows : goal.invariant-rows

@@ -1,4 +1,4 @@
-use Rattle.lens_plan.proofs.{Early.early_rows, Filled.{asked_at, placed_next}, Orders.turn_below}
+use Rattle.lens_plan.proofs.{Attempts.early_rows, Orders.turn_below, PlanOne.{asked_at, placed_next}}
 use Rattle.lens_plan.specs.{places.Fitting.IsBestBehind}
 use Rattle.std.proofs.Common.{◌∙◌, arith, get_or, length, refl, subst}
 use Rattle.std.proofs.lemmas.{List.{get_or_default, length-set}, Option.slice_get-get_or}

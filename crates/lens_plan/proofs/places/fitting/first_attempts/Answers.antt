@@ -1,4 +1,4 @@
-use Rattle.lens_plan.{proofs.FirstAttempts.places_more, specs.messages.Message.Message}
+use Rattle.lens_plan.{proofs.Courses.places_more, specs.messages.Message.Message}
 use Rattle.std.{proofs.{Common.{◌∙◌, ◌≡◌, Some, ap, arith, sym}, lemmas.Option.slice_get-get_or}, specs.Prelude.slice_get}
 use Rattle.lens_plan.proofs.places.fitting.first_attempts.Goals as goal
 

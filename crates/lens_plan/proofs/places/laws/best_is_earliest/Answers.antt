@@ -1,4 +1,4 @@
-use Rattle.lens_plan.proofs.Spaced.{best_is_earliest}
+use Rattle.lens_plan.proofs.Attempts.{best_is_earliest}
 use Rattle.lens_plan.proofs.places.laws.best_is_earliest.Goals as goal
 
 pub returns : goal.returns

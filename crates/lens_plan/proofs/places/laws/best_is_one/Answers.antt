@@ -1,4 +1,4 @@
-use Rattle.lens_plan.proofs.SameAttempts.{behind_one}
+use Rattle.lens_plan.proofs.Attempts.{behind_one}
 use Rattle.lens_plan.proofs.places.laws.best_is_one.Goals as goal
 
 pub returns : goal.returns

@@ -1,4 +1,4 @@
-use Rattle.lens_plan.proofs.NoneOne.{plan_or_none}
+use Rattle.lens_plan.proofs.PlanOne.{plan_or_none}
 use Rattle.lens_plan.proofs.places.laws.plan_or_none.Goals as goal
 
 pub returns : goal.returns

@@ -1,4 +1,4 @@
-use Rattle.lens_plan.{proofs.Wanted.hops_next, specs.{messages.Message.Message, places.Limits.{AreWays, once}}}
+use Rattle.lens_plan.{proofs.Attempts.hops_next, specs.{messages.Message.Message, places.Limits.{AreWays, once}}}
 use Rattle.std.proofs.Common.{◌++◌, ◌∙◌, ap, subst}
 use Rattle.lens_plan.proofs.places.limits.hops_of.Goals as goal
 

@@ -1,4 +1,4 @@
-use Rattle.lens_plan.{proofs.Wanted.links_next, specs.{declared.places.ways.Hop.Hop, places.Limits.hop_by_link}}
+use Rattle.lens_plan.{proofs.Attempts.links_next, specs.{declared.places.ways.Hop.Hop, places.Limits.hop_by_link}}
 use Rattle.std.{proofs.Common.{◌++◌, ◌∙◌, Option, ap}, specs.Option.option_to_list}
 use Rattle.lens_plan.proofs.places.limits.push_once.Goals as goal
 

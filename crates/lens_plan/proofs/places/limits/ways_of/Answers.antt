@@ -1,4 +1,4 @@
-use Rattle.lens_plan.{proofs.Wanted.ways_next, specs.{messages.Message.Message, places.Ways.IsWay}}
+use Rattle.lens_plan.{proofs.Attempts.ways_next, specs.{messages.Message.Message, places.Ways.IsWay}}
 use Rattle.std.proofs.Common.{ap, get_or, subst}
 use Rattle.tte_units.specs.declared.frames.channel.Channel.TheVariants.{A, B}
 use Rattle.lens_plan.proofs.places.limits.ways_of.Goals as goal

@@ -1,4 +1,4 @@
-use Rattle.lens_plan.proofs.Moved.{order_next, place_at_turn, reached_more, turn_within, unfit_by}
+use Rattle.lens_plan.proofs.PlanOne.{order_next, place_at_turn, reached_more, turn_within, unfit_by}
 use Rattle.lens_plan.specs.places.Moving.{IsReached}
 use Rattle.std.proofs.Common.{◌∙◌, ◌≡◌, ap, arith, length, refl, subst}
 use Rattle.lens_plan.proofs.places.moving.place_all.Goals as goal

@@ -1,4 +1,4 @@
-use Rattle.lens_plan.proofs.PlacedWays.{placed_first, placed_next}
+use Rattle.lens_plan.proofs.Attempts.{placed_first, placed_next}
 use Rattle.{lens_plan.specs.places.Placing.IsOrdered, std.{proofs.lemmas.List.Elements.{All-append, All-cons, All-nil}, specs.List.All}}
 use Rattle.std.proofs.Common.{◌∷◌, [], arith, subst, sym}
 use Rattle.lens_plan.proofs.places.placing.place_way.Goals as goal

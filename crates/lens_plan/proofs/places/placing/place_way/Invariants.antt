@@ -1,4 +1,4 @@
-use Rattle.lens_plan.{proofs.PlacedWays.HasPlaced, specs.places.Placing.IsOrdered}
+use Rattle.lens_plan.{proofs.Attempts.HasPlaced, specs.places.Placing.IsOrdered}
 use Rattle.std.specs.List.{All}
 use Rattle.std.proofs.Common.{◌*◌, ◌+◌, ◌^◌, ◌≤◌, take}
 use Rattle.lens_plan.proofs.places.placing.place_way.Given as goal

@@ -1,4 +1,4 @@
-use Rattle.lens_plan.{proofs.Planned.place_of, specs.places.Planning.{IsNoPlan, IsPlaceOf}}
+use Rattle.lens_plan.{proofs.Plans.place_of, specs.places.Planning.{IsNoPlan, IsPlaceOf}}
 use Rattle.std.proofs.lemmas.Result.{IfErr-weaker}
 use Rattle.lens_plan.proofs.places.planning.plan_rows.Goals as goal
 

@@ -1,4 +1,4 @@
-use Rattle.lens_plan.{proofs.Planned.none_by_order, specs.places.There.AreThere}
+use Rattle.lens_plan.{proofs.Plans.none_by_order, specs.places.There.AreThere}
 use Rattle.std.proofs.Common.{subst, sym}
 use Rattle.lens_plan.proofs.places.planning.plan_within.Goals as goal
 

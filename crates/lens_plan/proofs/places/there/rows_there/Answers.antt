@@ -1,4 +1,4 @@
-use Rattle.lens_plan.{proofs.Rows.rows_more, specs.{places.Offsets.AreSmall}}
+use Rattle.lens_plan.{proofs.Courses.rows_more, specs.places.Offsets.AreSmall}
 use Rattle.std.{proofs.{Common.{◌∷◌, [], subst, sym}, lemmas.List.Elements.{All-append, All-cons, All-nil}}, specs.List.All}
 use Rattle.lens_plan.proofs.places.there.rows_there.Goals as goal
 

@@ -1,4 +1,4 @@
-use Rattle.lens_plan.proofs.Tried.{tried_next}
+use Rattle.lens_plan.proofs.Attempts.{tried_next}
 use Rattle.lens_plan.proofs.places.trying.rows_of.Goals as goal
 
 pub receivers-preserved : goal.receivers-preserved

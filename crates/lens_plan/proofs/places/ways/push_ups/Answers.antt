@@ -1,4 +1,4 @@
-use Rattle.lens_plan.proofs.Hops.{ups_next}
+use Rattle.lens_plan.proofs.Leading.{ups_next}
 use Rattle.std.proofs.Common.{arith}
 use Rattle.lens_plan.proofs.places.ways.push_ups.Goals as goal
 

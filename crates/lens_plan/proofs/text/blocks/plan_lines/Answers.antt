@@ -1,4 +1,4 @@
-use Rattle.lens_plan.{proofs.Texts.blocks_more, specs.declared.text.line.PlanLine.PlanLine}
+use Rattle.lens_plan.{proofs.Plans.blocks_more, specs.declared.text.line.PlanLine.PlanLine}
 use Rattle.lens_plan.specs.text.Blocks.{message_blocks}
 use Rattle.std.proofs.Common.{◌++◌, ◌∙◌, List, ap, arith, get_or, refl, sym}
 use Rattle.lens_plan.proofs.text.blocks.plan_lines.Goals as goal

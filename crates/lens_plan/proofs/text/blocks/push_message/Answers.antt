@@ -1,4 +1,4 @@
-use Rattle.lens_plan.{proofs.Texts.{IsLinked, rows_linked}, specs.declared.places.placing.Placed.Placed}
+use Rattle.lens_plan.{proofs.Plans.{IsLinked, rows_linked}, specs.declared.places.placing.Placed.Placed}
 use Rattle.std.{proofs.Common.{◌∙◌, List, subst, sym}, specs.List.All}
 use Rattle.lens_plan.proofs.text.blocks.push_message.Goals as goal
 

@@ -1,4 +1,4 @@
-use Rattle.lens_plan.{proofs.Texts.pieces_more, specs.text.Blocks.row_block}
+use Rattle.lens_plan.{proofs.Plans.pieces_more, specs.text.Blocks.row_block}
 use Rattle.lens_plan.proofs.text.blocks.push_rows.Goals as goal
 
 pub rows-preserved : goal.rows-preserved

@@ -1,5 +1,6 @@
 use Rattle.std.proofs.Common.{◌∷◌, [], inl, inr, refl}
-use Rattle.tte_forms.{proofs.{Puts.{PutsLines-fails, PutsLines-more, PutsLines-none}, frames.Frames.Gives-behind}, specs.{Answering.line_answer, Putting.shown_by}}
+use Rattle.tte_forms.{proofs.{Puts.{PutsLines-fails, PutsLines-more, PutsLines-none}, frames.Frames.Gives-behind}}
+use Rattle.tte_forms.{specs.{Answering.line_answer, Putting.shown_by}}
 use Rattle.lens_slack.proofs.least.answering.put_both.Goals as goal
 
 pub returns-in-Ok-clause-gives : goal.returns-in-Ok-clause-gives

@@ -1,5 +1,6 @@
-use Rattle.{lens_slack.proofs.least_lemmas.Leasts.are_least, std.proofs.Common.{◌*◌, ◌+◌, ◌-◌, ◌∙◌, ◌≡◌, ap, arith, max, refl, ℕ}}
-use Rattle.{lens_slack.specs.least.Parts.drift_over, schedule_checker.{proofs.Trees.tree_of, specs.Timing.errors_of}}
+use Rattle.std.proofs.Common.{◌*◌, ◌+◌, ◌-◌, ◌∙◌, ◌≡◌, ap, arith, max, refl, ℕ}
+use Rattle.lens_slack.{proofs.least_lemmas.Leasts.are_least, specs.least.Parts.drift_over}
+use Rattle.schedule_checker.{proofs.Shape.tree_of, specs.Timing.errors_of}
 use Rattle.lens_slack.proofs.least.computing.least_times.Goals as goal
 
 left_of_path : (dmax path steady drift : ℕ) → dmax ≡ steady + path + drift → dmax - path ≡ steady + drift

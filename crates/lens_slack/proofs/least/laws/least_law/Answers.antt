@@ -1,4 +1,4 @@
-use Rattle.lens_slack.proofs.least_lemmas.{Keeping.{has_room, none_less, rules_kept}, Ranged.times_in_range}
+use Rattle.lens_slack.proofs.least_lemmas.Leasts.{has_room, none_less, rules_kept, times_in_range}
 use Rattle.lens_slack.proofs.least.laws.least_law.Goals as goal
 
 pub returns-clause-keep : goal.returns-clause-keep

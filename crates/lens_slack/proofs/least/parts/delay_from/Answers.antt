@@ -1,4 +1,6 @@
-use Rattle.{net_plan.proofs.Greatest.greatest_from_path, schedule_tables.specs.Delays.delay_on, std.proofs.Common.rules}
+use Rattle.std.proofs.Common.{rules}
+use Rattle.net_plan.proofs.Trees.{greatest_from_path}
+use Rattle.schedule_tables.specs.Delays.{delay_on}
 use Rattle.lens_slack.proofs.least.parts.delay_from.Goals as goal
 
 pub returns-then-is_device_of-clause-greatest : goal.returns-then-is_device_of-clause-greatest

@@ -1,4 +1,5 @@
-use Rattle.{net_plan.{proofs.Greatest.greatest_of_channels, specs.Bounds.{IsGreatest, IsOfPath}}, schedule_tables.specs.Delays.delay_on}
+use Rattle.net_plan.{proofs.Trees.greatest_of_channels, specs.Bounds.{IsGreatest, IsOfPath}}
+use Rattle.schedule_tables.specs.Delays.{delay_on}
 use Rattle.std.proofs.Common.{subst, sym}
 use Rattle.lens_slack.proofs.least.parts.longest_delay.Goals as goal
 

@@ -1,4 +1,5 @@
-use Rattle.{net_plan.proofs.Greatest.{IsOfPathBelow, greatest_below_all, greatest_below_more}, std.proofs.Common.{◌+◌, ◌≡◌, ap, arith, length, subst, sym}}
+use Rattle.std.proofs.Common.{◌+◌, ◌≡◌, ap, arith, length, subst, sym}
+use Rattle.net_plan.proofs.Trees.{IsOfPathBelow, greatest_below_all, greatest_below_more}
 use Rattle.{net_plan.specs.{Bounds.IsGreatest, declared.tables.Device.Device}, schedule_tables.specs.Delays.delay_on}
 use Rattle.lens_slack.proofs.least.parts.longest_on.Goals as goal
 

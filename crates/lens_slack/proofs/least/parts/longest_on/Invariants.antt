@@ -1,4 +1,6 @@
-use Rattle.{net_plan.{proofs.Greatest.IsOfPathBelow, specs.Bounds.IsGreatest}, schedule_tables.specs.Delays.delay_on, std.proofs.Common.{◌*◌, ◌^◌, ◌≤◌}}
+use Rattle.std.proofs.Common.{◌*◌, ◌^◌, ◌≤◌}
+use Rattle.net_plan.{proofs.Trees.IsOfPathBelow, specs.Bounds.IsGreatest}
+use Rattle.schedule_tables.specs.Delays.{delay_on}
 use Rattle.lens_slack.proofs.least.parts.longest_on.Given as goal
 
 abbrev pub invariant-devices : goal.invariant-devices

@@ -1,5 +1,6 @@
 use Rattle.{lens_slack.proofs.least_lemmas.Greatests.{IsAmongFirst, all_first, none_first, one_more}, schedule_tables.specs.Delays.pcf_port_time}
-use Rattle.{net_plan.proofs.Greatest.greatest_of_one, std.proofs.{Common.{◌+◌, ◌∙◌, ◌≡◌, ap, arith, length, subst, sym, ℕ}, lemmas.Option.slice_get-get_or}}
+use Rattle.std.proofs.{Common.{◌+◌, ◌∙◌, ◌≡◌, ap, arith, length, subst, sym, ℕ}, lemmas.Option.slice_get-get_or}
+use Rattle.net_plan.proofs.Trees.{greatest_of_one}
 use Rattle.{net_plan.specs.{Bounds.IsGreatest, declared.tables.Link.Link}, std.specs.Prelude.{Some, slice_get}}
 use Rattle.lens_slack.proofs.least.parts.slowest_port.Goals as goal
 

@@ -1,4 +1,6 @@
-use Rattle.{lens_slack.proofs.SmallBeta.beta_small, net_plan.specs.Bounds.IsBeta, std.proofs.Common.{arith, subst}}
+use Rattle.std.proofs.Common.{arith, subst}
+use Rattle.lens_slack.proofs.Spots.{beta_small}
+use Rattle.net_plan.specs.Bounds.{IsBeta}
 use Rattle.lens_slack.proofs.least.parts.steady_beta.Goals as goal
 
 pub returns-clause-bound : goal.returns-clause-bound

@@ -1,4 +1,4 @@
-use Rattle.{net_plan.{proofs.Greatest.greatest_of_channels}}
+use Rattle.net_plan.proofs.Trees.{greatest_of_channels}
 use Rattle.{net_plan.specs.Bounds.{IsGreatest, IsOfPath, jitter_on}, std.proofs.Common.{◌∙◌, length, subst, sym}}
 use Rattle.net_plan.proofs.network.Network.beta.Goals as goal
 

@@ -1,4 +1,5 @@
-use Rattle.{net_plan.{proofs.Greatest.greatest_from_path, specs.{Bounds.jitter_on}}, std.proofs.Common.{length, rules}}
+use Rattle.std.proofs.Common.{length, rules}
+use Rattle.net_plan.{proofs.Trees.greatest_from_path, specs.Bounds.jitter_on}
 use Rattle.net_plan.proofs.network.Network.extent_from.Goals as goal
 
 pub returns-then-is_device_of-clause-jitter : goal.returns-then-is_device_of-clause-jitter

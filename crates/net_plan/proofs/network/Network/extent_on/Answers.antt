@@ -1,4 +1,5 @@
-use Rattle.{net_plan.proofs.Greatest.{IsOfPathBelow, greatest_below_all, greatest_below_more}, std.proofs.Common.{◌+◌, ◌≡◌, arith, length, subst, sym}}
+use Rattle.std.proofs.Common.{◌+◌, ◌≡◌, arith, length, subst, sym}
+use Rattle.net_plan.proofs.Trees.{IsOfPathBelow, greatest_below_all, greatest_below_more}
 use Rattle.net_plan.specs.{Bounds.{IsGreatest, jitter_on}}
 use Rattle.net_plan.proofs.network.Network.extent_on.Goals as goal
 

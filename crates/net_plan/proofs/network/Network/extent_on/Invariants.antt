@@ -1,5 +1,5 @@
 use Rattle.std.proofs.Common.{◌*◌, ◌^◌, ◌≤◌, length}
-use Rattle.net_plan.{proofs.Greatest.IsOfPathBelow, specs.{Bounds.{IsGreatest, jitter_on}}}
+use Rattle.net_plan.{proofs.Trees.IsOfPathBelow, specs.Bounds.{IsGreatest, jitter_on}}
 use Rattle.net_plan.proofs.network.Network.extent_on.Given as goal
 
 -- the extent of the paths of the devices so far

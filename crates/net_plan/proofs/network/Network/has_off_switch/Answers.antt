@@ -1,5 +1,5 @@
 use Rattle.std.{proofs.{Common.{◌≡◌, Some, rules, tests}, lemmas.Iterator.{YieldsList-from_slice, cases_from_any}}, specs.Prelude.IsNone}
-use Rattle.net_plan.{proofs.Found.some_device, specs.declared.tables.Device.Device}
+use Rattle.net_plan.{proofs.Trees.some_device, specs.declared.tables.Device.Device}
 use Rattle.net_plan.proofs.network.Network.has_off_switch.Goals as goal
 
 pub returns : goal.returns

@@ -1,4 +1,5 @@
-use Rattle.{net_plan.{proofs.Trees.{ended, followed}, specs.{Paths.{IsUplink}, Places.{IsSwitchOf, link_at}}}, std.proofs.lemmas.Grind.common_steps}
+use Rattle.std.proofs.lemmas.Grind.{common_steps}
+use Rattle.net_plan.{proofs.Trees.{ended, followed}, specs.{Paths.IsUplink, Places.{IsSwitchOf, link_at}}}
 use Rattle.{net_plan.specs.declared.{tables.Link.Link}, std.proofs.lemmas.Option.{slice_get-get_or, slice_get_within}}
 use Rattle.std.proofs.Common.{◌++◌, ◌∙◌, ◌∷◌, ◌≡◌, Some, [], append-nil, append_assoc, arith, get_or, subst, sym}
 use Rattle.tte_units.proofs.general_lemmas.Options.{opened}

@@ -1,5 +1,6 @@
 use Rattle.std.proofs.{Common.{◌≡◌, rules, subst, tests}, lemmas.Iterator.{IsFirst-from_position, YieldsList-from_slice}}
-use Rattle.net_plan.{proofs.Found.{IsFound, none_at, none_below, some_at}, specs.{Places.IsSwitchOf, declared.tables.Link.Link}}
+use Rattle.net_plan.{proofs.Trees.{IsFound, none_at, none_below, some_at}}
+use Rattle.net_plan.{specs.{Places.IsSwitchOf, declared.tables.Link.Link}}
 use Rattle.net_plan.proofs.network.Network.uplink.Goals as goal
 
 pub returns-in_err-place-clause-none : goal.returns-in_err-place-clause-none

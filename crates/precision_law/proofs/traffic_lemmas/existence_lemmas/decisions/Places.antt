@@ -1,10 +1,103 @@
--- A decision at a place is one on the bodies that are caused there.
-use Rattle.{precision_law.proofs.traffic_lemmas.existence_lemmas.{Sweep.HasDue, decisions.Values.decided_in}, run_law.specs.runs.DueRecords.{IsCaused, IsDue}}
-use Rattle.run_law.{proofs.scenario.Decisions.{IsDecided, decided_and, decided_by, decided_same}, specs.declared.note.{Note.Note, NoteBody.NoteBody}}
-use Rattle.run_law.specs.records.{Causes.IsOfThisTime, Happenings.{Happening, frame_by, happening, numbered, time_of}, Ranks.{key, members_in, place_of, rank}}
-use Rattle.{run_law.specs.scenario.Scenarios.Scenario, tte_units.{proofs.Amounts.units_are, specs.Amount.units_of}}
-use Rattle.{std.proofs.Common.{◌+◌, ◌∷◌, ◌≡◌, List, Some, [], ap, arith, inr, length, refl, subst, sym, ℕ}, tte_units.proofs.general_lemmas.Options.one}
-use Rattle.std.{proofs.lemmas.Int.ints, specs.Option.option_map_or}
+-- Decisions on values, on when a clock reaches one, and on the bodies that are caused at a place.
+use Rattle.std.{specs.Option.option_map_or}
+use Rattle.std.proofs.{lemmas.{Bool.cases_eq, Int.{by_lt_z, ints}}}
+use Rattle.std.proofs.Common
+use Common.{◌+◌, ◌-ℤ◌, ◌<ℤ◌, ◌<◌, ◌∙◌, ◌∷◌, ◌≡◌, ◌≤ℤ◌, List, None, Option, Some, [], ap, arith, inl, inr, length}
+use Common.{negsuc, pos, refl, subst, suc, sym, zero, ℕ, ℤ}
+use Rattle.drift_clock.specs.Reach.{IsReach}
+use Rattle.net_plan.specs.declared.ids.{DeviceId.DeviceId, LinkId.LinkId, VlId.VlId}
+use Rattle.precision_law.proofs.traffic_lemmas.existence_lemmas.Sweep.{HasDue}
+use Rattle.run_law.{proofs.scenario.Decisions.{IsDecided, decided_and, decided_by, decided_less_int, decided_same}}
+use Rattle.run_law.specs.{declared.note.{Note.Note, NoteBody.NoteBody}}
+use Rattle.run_law.specs.{device.{LocalClocks.{Reaches, changed_at, local_at_change}, States.adjustment_before}}
+use Rattle.run_law.specs.{runs.DueRecords.{IsCaused, IsDue}, scenario.Scenarios.Scenario}
+use Rattle.run_law.specs.records.{Causes.IsOfThisTime, Happenings.{Happening, frame_by, happening, numbered, time_of}}
+use Rattle.run_law.specs.records.{Ranks.{key, members_in, place_of, rank}}
+use Rattle.sync_state.specs.declared.state.State.{State, TheVariants.{Integrating, Joining, Off, Synchronised}}
+use Rattle.tte_units.{proofs.{Amounts.units_are, general_lemmas.Options.one}, specs.Amount.units_of}
+
+-- ---- decisions on values: equalities, and searches below a bound
+
+-- ---- equalities
+
+pub same_int : (a b : ℤ) → IsDecided (a ≡ b)
+same_int (pos m) (pos n) = elim (cases_eq m n) [ inl e ↦ inl (ap pos e) | inr ne ↦ inr (λ e. absurd (ne cc)) ]
+same_int (negsuc m) (negsuc n) = elim (cases_eq m n) [ inl e ↦ inl (ap negsuc e) | inr ne ↦ inr (λ e. absurd (ne cc)) ]
+same_int (pos m) (negsuc n) = inr (λ e. cc)
+same_int (negsuc m) (pos n) = inr (λ e. cc)
+
+parts : (x y : ℕ) (xs ys : List ℕ) → x ∷ xs ≡ y ∷ ys → (x ≡ y) × (xs ≡ ys)
+parts x y xs ys e = (cc, cc)
+
+pub same_list : (xs ys : List ℕ) → IsDecided (xs ≡ ys)
+same_list [] [] = inl refl
+same_list [] (y ∷ ys) = inr (λ e. cc)
+same_list (x ∷ xs) [] = inr (λ e. cc)
+same_list (x ∷ xs) (y ∷ ys) =
+    decided_by (λ h. rw h.0 (ap (λ l. y ∷ l) h.1)) (parts x y xs ys)
+    (decided_and (decided_same x y) (same_list xs ys))
+
+pub same_link : (a b : LinkId) → IsDecided (a ≡ b)
+same_link a b =
+    decided_by (λ e. rw e) (λ e. rw e) (decided_same a.0 b.0)
+
+pub same_vl : (a b : VlId) → IsDecided (a ≡ b)
+same_vl a b = decided_by (λ e. rw e) (λ e. rw e) (decided_same a.0 b.0)
+
+-- the option has a value that equals this one
+pub same_some_by : {X : Type 0} (o : Option X) (y : X) → ((x : X) → IsDecided (x ≡ y)) → IsDecided (o ≡ Some y)
+same_some_by None y each = inr (λ e. cc)
+same_some_by (Some x) y each = decided_by (λ e. ap Some e) (λ e. cc) (each x)
+
+-- ---- states
+
+pub is_joining : (st : State) → IsDecided (st ≡ Joining)
+is_joining Off = inr (λ e. cc)
+is_joining Integrating = inr (λ e. cc)
+is_joining Joining = inl refl
+is_joining Synchronised = inr (λ e. cc)
+
+pub is_synchronised : (st : State) → IsDecided (st ≡ Synchronised)
+is_synchronised Off = inr (λ e. cc)
+is_synchronised Integrating = inr (λ e. cc)
+is_synchronised Joining = inr (λ e. cc)
+is_synchronised Synchronised = inl refl
+
+-- ---- by the one value that is in question
+
+-- what implies a decided fact, and is decided where it holds
+pub decided_within : {P Q : Type 0} → IsDecided P → (P → IsDecided Q) → (Q → P) → IsDecided Q
+decided_within (inl p) each up = each p
+decided_within (inr none) each up = inr (λ q. none (up q))
+
+-- what speaks of the value of an option
+pub decided_in : {X Q : Type 0} (o : Option X) → ((x : X) → o ≡ Some x → IsDecided Q) → (Q → (x : X) × (o ≡ Some x)) → IsDecided Q
+decided_in {X} {Q} o each has = by o refl
+  where
+    by : (p : Option X) → o ≡ p → IsDecided Q
+    by None e = inr (λ q. let there = has q in absurd (none there.0 (sym e ∙ there.1)))
+      where
+        none : (x : X) → None ≡ Some x → ⊥
+        none x e = cc
+    by (Some x) e = each x e
+
+-- some number below the bound is so
+pub decided_below : (P : ℕ → Type 0) → ((n : ℕ) → IsDecided (P n)) → (bound : ℕ) → IsDecided ((n : ℕ) × (n < bound) × P n)
+decided_below P each zero = inr (λ h. let lt = h.1 in absurd (omega arith))
+decided_below P each (suc bound) =
+    elim (each bound) [
+      | inl p ↦ inl (bound, omega arith, p)
+      | inr fails ↦
+          elim (decided_below P each bound) [
+            | inl h ↦ (let lt = h.1 in inl (h.0, omega arith, h.2))
+            | inr none ↦ inr (λ h. let lt = h.1 in elim (cases_eq h.0 bound) [
+              | inl e ↦ fails (subst P e h.2)
+              | inr ne ↦ none (h.0, omega arith, h.2)
+            ])
+          ]
+    ]
+
+-- ---- a decision at a place is one on the bodies that are caused there
 
 -- the members of the frame that a record of this body has, as a number
 abbrev pub members_by : Scenario → List Happening → NoteBody → ℕ
@@ -147,3 +240,48 @@ cause_decided hs t cause Q each =
 
     back : (g : Happening) → numbered hs cause ≡ Some g → (h : Happening) × IsOfThisTime hs t cause h × Q h → (time_of g ≡ t) × Q g
     back g e h = rw (sym (one (numbered hs cause) h.0 g h.1.there e)) (h.1.same_time, h.2)
+
+-- ---- decisions: when a clock reaches a value
+
+at_most_int : (a b : ℤ) → IsDecided (a ≤ℤ b)
+at_most_int a b = by_lt_z b a (λ lt. inr (λ le. absurd (omega (arith, ints)))) (λ le. inl le)
+
+-- at no time below n, from `from` on, it has come to the value
+abbrev NotYet : (ℕ → ℕ) → ℤ → ℤ → ℕ → Type 0
+NotYet reading from v n = (x : ℕ) → x < n → from ≤ℤ pos x → pos (reading x) <ℤ v
+
+not_yet : (reading : ℕ → ℕ) (from v : ℤ) (n : ℕ) → IsDecided (NotYet reading from v n)
+not_yet reading from v zero = inl (λ x lt begun. absurd (omega arith))
+not_yet reading from v (suc n) =
+    elim (not_yet reading from v n) [
+      | inr fails ↦ inr (λ all. fails (λ x lt begun. all x (omega arith) begun))
+      | inl all ↦
+          elim (at_most_int from (pos n)) [
+            | inr later ↦ inl (λ x lt begun. by x lt begun all (λ e. absurd (later (rw e at begun))))
+            | inl begun ↦
+                elim (decided_less_int (pos (reading n)) v) [
+                  | inl less ↦ inl (λ x lt b. by x lt b all (λ e. rw e less))
+                  | inr fails ↦ inr (λ each. fails (each n (omega arith) begun))
+                ]
+          ]
+    ]
+  where
+    by : (x : ℕ) → x < suc n → from ≤ℤ pos x → NotYet reading from v n → (x ≡ n → pos (reading x) <ℤ v) → pos (reading x) <ℤ v
+    by x lt begun all here =
+        elim (cases_eq x n) [
+          | inl e ↦ here e
+          | inr ne ↦ all x (omega arith) begun
+        ]
+
+pub reach_decided : (reading : ℕ → ℕ) (from v : ℤ) (t : ℕ) → IsDecided (IsReach reading from v (pos t))
+reach_decided reading from v t =
+    decided_by
+    (λ h. record { from_on = h.0; reached = h.1.0; not_before = λ x begun lt. h.1.1 x (omega (arith, ints)) begun })
+    (λ r. (r.from_on, (r.reached, λ x lt begun. r.not_before x begun (omega (arith, ints)))))
+    (decided_and (at_most_int from (pos t)) (decided_and (at_most_int v (pos (reading t))) (not_yet reading from v t)))
+
+pub reaches_decided : (s : Scenario) (hs : List Happening) (device : DeviceId) (v : ℤ) (t : ℕ) → IsDecided (Reaches s hs device v t)
+reaches_decided s hs device v t =
+    decided_by (λ h. record { below = h.0; reach = h.1 }) (λ r. (r.below, r.reach))
+    (decided_and (decided_less_int (local_at_change s hs device t) v)
+    (reach_decided (s.reading device) (pos (changed_at hs device t)) (v -ℤ (adjustment_before s hs device t).0) t))

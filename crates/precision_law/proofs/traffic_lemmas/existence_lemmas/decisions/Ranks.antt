@@ -1,10 +1,16 @@
 -- It is decided whether a record is due at a place.
-use Rattle.precision_law.proofs.traffic_lemmas.existence_lemmas.{Sweep.HasDue, decisions.Arrivals.{accepted_decided, arrived_decided, delivered_decided}}
-use Rattle.precision_law.proofs.traffic_lemmas.existence_lemmas.decisions.{Dispatches.{sent_decided, tt_sent_decided}, Events.{clock_decided, event_decided}}
-use Rattle.precision_law.proofs.traffic_lemmas.existence_lemmas.decisions.{Corrections.corrected_decided, Losses.{drop_decided, lost_decided}}
-use Rattle.precision_law.proofs.traffic_lemmas.existence_lemmas.decisions.{Emissions.compressed_decided, Places.{HasCaused, due_decided}, States.state_decided}
-use Rattle.precision_law.proofs.traffic_lemmas.existence_lemmas.decisions.{Departures.left_decided, Permanence.permanent_decided}
-use Rattle.run_law.{proofs.scenario.Decisions.IsDecided, specs.{records.{Happenings.Happening, Ranks.{place_of, rank}}, scenario.Scenarios.Scenario}}
+use Rattle.precision_law.proofs.traffic_lemmas.existence_lemmas.{Sweep.HasDue}
+use Rattle.precision_law.proofs.traffic_lemmas.existence_lemmas.decisions.{Places.{HasCaused, due_decided}}
+use Rattle.precision_law.proofs.traffic_lemmas.existence_lemmas.decisions.{States.state_decided}
+use Rattle.precision_law.proofs.traffic_lemmas.existence_lemmas.decisions.Changes
+use Changes.{clock_decided, corrected_decided, event_decided}
+use Rattle.precision_law.proofs.traffic_lemmas.existence_lemmas.decisions.Dispatches.{drop_decided, left_decided}
+use Rattle.precision_law.proofs.traffic_lemmas.existence_lemmas.decisions.Dispatches.{lost_decided, sent_decided}
+use Rattle.precision_law.proofs.traffic_lemmas.existence_lemmas.decisions.Dispatches.{tt_sent_decided}
+use Rattle.precision_law.proofs.traffic_lemmas.existence_lemmas.decisions.Frames
+use Frames.{accepted_decided, arrived_decided, compressed_decided, delivered_decided, permanent_decided}
+use Rattle.run_law.{proofs.scenario.Decisions.IsDecided}
+use Rattle.run_law.{specs.{records.{Happenings.Happening, Ranks.{place_of, rank}}, scenario.Scenarios.Scenario}}
 use Rattle.{run_law.specs.{declared.note.NoteBody.NoteBody, runs.DueRecords.IsDue}, std.proofs.Common.{◌<◌, ◌∷◌, ◌≤◌, List, [], arith, inl, inr, subst, sym, ℕ}}
 use Rattle.{std.proofs.lemmas.Bool.cases_eq, tte_units.specs.Amount.amount}
 use Rattle.run_law.specs.declared.note.NoteBody.TheVariants as notes

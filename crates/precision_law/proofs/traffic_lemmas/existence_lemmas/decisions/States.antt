@@ -1,10 +1,14 @@
 -- Decisions: whether the record of a device's new state is due.
 use Rattle.{net_plan.specs.declared.event.What.TheVariants.On, run_law.specs.{control.Corrections.ComesToCorrection, scenario.Scenarios.{Scenario, is_broken}}}
 use Rattle.{net_plan.specs.declared.ids.DeviceId.DeviceId, run_law.specs.declared.note.NoteBody.NoteBody, sync_state.specs.declared.state.State.State}
-use Rattle.precision_law.proofs.traffic_lemmas.existence_lemmas.decisions.Places.{HasCaused, OfTwo, by_two, cause_decided, caused, members_by}
-use Rattle.precision_law.proofs.traffic_lemmas.existence_lemmas.decisions.{Corrections.{one_outcome, point_decided}, Values.{decided_within, is_joining}}
-use Rattle.{run_law.{proofs.scenario.Conditions.same_device, specs.device.StateChanges.ChangesState}, sync_state.specs.declared.answers.Verdict.Verdict}
-use Rattle.run_law.proofs.scenario.Decisions.{IsDecided, decided_and, decided_by, decided_false, decided_or, decided_same, decided_true}
+use Rattle.precision_law.proofs.traffic_lemmas.existence_lemmas.decisions.{Changes.{one_outcome, point_decided}}
+use Rattle.precision_law.proofs.traffic_lemmas.existence_lemmas.decisions.Places.{HasCaused, OfTwo, by_two}
+use Rattle.precision_law.proofs.traffic_lemmas.existence_lemmas.decisions.Places.{cause_decided, caused, decided_within}
+use Rattle.precision_law.proofs.traffic_lemmas.existence_lemmas.decisions.Places.{is_joining, members_by}
+use Rattle.run_law.{specs.device.StateChanges.ChangesState}
+use Rattle.run_law.proofs.scenario.Decisions.{IsDecided, decided_and, decided_by, decided_false, decided_or}
+use Rattle.run_law.proofs.scenario.Decisions.{decided_same, decided_true, same_device}
+use Rattle.sync_state.specs.declared.answers.Verdict.{Verdict}
 use Rattle.{run_law.specs.{declared.judgement.Why.Why, records.{Causes.IsOfThisTime, Happenings.Happening}}, tte_units.specs.declared.units.Units.Units}
 use Rattle.{run_law.specs.device.States.{is_joined_by, state_before}, std.proofs.Common.{◌≡◌, ◌⊎◌, List, arith, false, inl, inr, refl, true, ℕ}}
 use Rattle.{run_law.specs.{records.Ranks.{key, rank}, runs.DueRecords.IsCaused}, tte_units.specs.Amount.units_of}

@@ -1,9 +1,10 @@
 -- The worked network is accepted.
-use Rattle.precision_law.proofs.traffic_lemmas.existence_lemmas.worked_lemmas.Rows.{both_channels, comes_in_time, ends_send, enters_anew, few_rows, has_period}
-use Rattle.precision_law.proofs.traffic_lemmas.existence_lemmas.worked_lemmas.Rows.{has_source, links_once, rows_stand_apart, vl_ids_differ, vl_names_differ}
+use Rattle.precision_law.proofs.traffic_lemmas.existence_lemmas.worked_lemmas.{Shape.masters_kept}
+use Rattle.precision_law.proofs.traffic_lemmas.existence_lemmas.worked_lemmas.Schedule
+use Schedule.{both_channels, comes_in_time, correction_fits, delays_fit, ends_send, enters_anew, errors_settle}
+use Schedule.{few_rows, has_period, has_source, links_once, precision_fits, rows_stand_apart, schedule_fits}
+use Schedule.{vl_ids_differ, vl_names_differ, windows_end}
 use Rattle.precision_law.proofs.traffic_lemmas.existence_lemmas.worked_lemmas.Shape.{cms_kept, connected, devices_differ, joins_kept, limits_kept, links_differ}
-use Rattle.precision_law.proofs.traffic_lemmas.existence_lemmas.worked_lemmas.Times.{correction_fits, delays_fit, errors_settle, precision_fits, schedule_fits}
-use Rattle.precision_law.proofs.traffic_lemmas.existence_lemmas.worked_lemmas.{Rows.windows_end, Shape.masters_kept}
 use Rattle.{precision_law.specs.traffic.existence.worked.Worked.worked, schedule_tables.specs.{Rules.IsKept, declared.rule.Rule.{Rule, TheVariants.WindowEnds}}}
 use Rattle.schedule_tables.specs.declared.rule.Rule.TheVariants.{BothChannels, CompressionMasters, Connections, Correction, Delays, DevicesDiffer, Forwarding}
 use Rattle.schedule_tables.specs.declared.rule.Rule.TheVariants.{Joints, Limits, LinksDiffer, LinksOnce, Masters, Periods, Precision, RowsOfDevice}

@@ -3,7 +3,8 @@ use Rattle.{net_plan.{proofs.SameIds.link_is, specs.{Rules.{MastersSuffice}, dec
 use Rattle.net_plan.specs.{Paths.{IsFirstPath, IsFirstUplink, IsUplink, LeadsToCm}, Places.{IsCmOf, IsDeviceOf, IsEndSystem, IsRoleOf, is_end_system}}
 use Rattle.net_plan.specs.Rules.{DeviceIsNew, ExactlyOne, HasOffSwitch, HasOneCm, IsChildOf, IsConnected, IsWithinLimits, JoinsChildToSwitch, LinkIsNew}
 use Rattle.{net_plan.specs.declared.{ids.DeviceId.DeviceId, tables.Role.TheVariants.{Relay}}, std.specs.Prelude.{◌-◌, ◌≤ℤ◌, IsNone, codes, if◌then◌else◌}}
-use Rattle.precision_law.proofs.traffic_lemmas.existence_lemmas.worked_lemmas.Lists.{all_each, at_place, numbered_apart, place_in, some_place}
+use Rattle.precision_law.proofs.traffic_lemmas.existence_lemmas.worked_lemmas.Schedule
+use Schedule.{all_each, at_place, numbered_apart, place_in, some_place}
 use Rattle.{precision_law.specs.traffic.existence.worked.Worked.worked, tte_units.specs.declared.frames.channel.Channel.{Channel, TheVariants.{A, B}}}
 use Rattle.std.proofs.{Common.{◌+◌, ◌==◌, ◌∷◌, ◌≡◌, ◌⊎◌, List, Some, [], ap, arith, inl, inr, pos, refl, true, ℕ}, lemmas.Bool.leb-true}
 use Rattle.std.proofs.lemmas.Int.{ints}

@@ -1,5 +1,6 @@
 use Rattle.std.{proofs.{Common.{rules, tests, ℕ}, lemmas.Iterator.{YieldsList-from_slice, cases_from_any}}, specs.Prelude.{IsSomeAnd, slice_get}}
-use Rattle.schedule_checker.{proofs.{RouteLemmas.enters_on, Selection.any_decides, SomePlaces.some_there}, specs.Routes.IsEntering}
+use Rattle.schedule_checker.{proofs.{Elements.any_decides, EntryPlaces.enters_on, SomePlaces.some_there}}
+use Rattle.schedule_checker.{specs.Routes.IsEntering}
 use Rattle.schedule_checker.proofs.both_channels.Kin.enters.Goals as goal
 
 pub returns : goal.returns

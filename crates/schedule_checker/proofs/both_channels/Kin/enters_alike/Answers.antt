@@ -1,4 +1,5 @@
-use Rattle.{schedule_checker.proofs.RouteLemmas.{alike, alike_back}, std.proofs.lemmas.Bool.Decides.Decides-like}
+use Rattle.std.proofs.lemmas.Bool.Decides.{Decides-like}
+use Rattle.schedule_checker.proofs.EntryPlaces.{alike, alike_back}
 use Rattle.std.{proofs.Common.rules, specs.Cmp.booleans_Decides}
 use Rattle.schedule_checker.proofs.both_channels.Kin.enters_alike.Goals as goal
 

@@ -1,5 +1,6 @@
 use Rattle.std.{proofs.{Common.{rules, tests, ℕ}, lemmas.Iterator.{YieldsList-from_slice, cases_from_all}}, specs.Prelude.{IfSome, slice_get}}
-use Rattle.schedule_checker.{proofs.{RouteLemmas.enters_all_alike, Selection.all_decides, SomePlaces.each_there}, specs.Routes.TargetIsAlike}
+use Rattle.schedule_checker.{proofs.{Elements.all_decides, EntryPlaces.enters_all_alike, SomePlaces.each_there}}
+use Rattle.schedule_checker.{specs.Routes.TargetIsAlike}
 use Rattle.schedule_checker.proofs.both_channels.Kin.enters_all_alike.Goals as goal
 
 pub returns : goal.returns

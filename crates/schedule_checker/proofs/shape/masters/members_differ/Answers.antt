@@ -1,4 +1,5 @@
-use Rattle.{net_plan.specs.Places.is_master, schedule_checker.proofs.ShapePairs.{before_from_pairs, filter_pairs, pairs_from_filter, pairs_more}}
+use Rattle.net_plan.specs.Places.{is_master}
+use Rattle.schedule_checker.proofs.Elements.{before_from_pairs, filter_pairs, pairs_from_filter, pairs_more}
 use Rattle.{net_plan.specs.{Rules.MembersDiffer, declared.tables.Device.Device}, std.proofs.Common.{◌∙◌, ◌≢◌, Bool, length, refl, sym}}
 use Rattle.schedule_checker.proofs.shape.masters.members_differ.Goals.{else-is_master-via-else-is_master}
 use Rattle.schedule_checker.proofs.shape.masters.members_differ.Goals.{else-is_master-via-then-is_master+else-not-member_is_new}

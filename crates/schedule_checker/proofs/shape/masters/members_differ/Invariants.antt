@@ -1,4 +1,6 @@
-use Rattle.{net_plan.specs.Places.is_master, schedule_checker.proofs.ShapePairs.PairsBelow, std.proofs.Common.◌≢◌}
+use Rattle.std.proofs.Common.{◌≢◌}
+use Rattle.net_plan.specs.Places.{is_master}
+use Rattle.schedule_checker.proofs.Elements.{PairsBelow}
 use Rattle.schedule_checker.proofs.shape.masters.members_differ.Given as goal
 
 -- the masters so far have different members

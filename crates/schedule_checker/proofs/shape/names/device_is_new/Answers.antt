@@ -1,5 +1,6 @@
 use Rattle.{net_plan.specs.declared.tables.Device.Device, std.proofs.lemmas.Iterator.{YieldsList-from_slice, YieldsList-from_take, cases_from_all}}
-use Rattle.{schedule_checker.proofs.ShapeLists.{decides_all, decides_new}, std.proofs.Common.{◌∙◌, ◌≡◌, ◌≢◌, ap, get_or, rules, sym, take, tests}}
+use Rattle.std.proofs.Common.{◌∙◌, ◌≡◌, ◌≢◌, ap, get_or, rules, sym, take, tests}
+use Rattle.schedule_checker.proofs.Elements.{decides_all, decides_new}
 use Rattle.std.{proofs.lemmas.Option.slice_get-get_or}
 use Rattle.schedule_checker.proofs.shape.names.device_is_new.Goals as goal
 

@@ -1,5 +1,6 @@
 use Rattle.net_plan.specs.declared.tables.Link.{Link}
-use Rattle.{schedule_checker.proofs.ShapeLists.{decides_all, decides_new}, std.proofs.Common.{◌∙◌, ◌≡◌, ◌≢◌, ap, get_or, rules, sym, take, tests}}
+use Rattle.std.proofs.Common.{◌∙◌, ◌≡◌, ◌≢◌, ap, get_or, rules, sym, take, tests}
+use Rattle.schedule_checker.proofs.Elements.{decides_all, decides_new}
 use Rattle.std.{proofs.lemmas.{Iterator.{YieldsList-from_slice, YieldsList-from_take, cases_from_all}, Option.slice_get-get_or}}
 use Rattle.schedule_checker.proofs.shape.names.link_is_new.Goals as goal
 

@@ -1,4 +1,5 @@
-use Rattle.{schedule_checker.proofs.ShapePaths.{connected, connected_on}, tte_units.specs.declared.frames.channel.Channel.TheVariants.B}
+use Rattle.schedule_checker.proofs.Shape.{connected, connected_on}
+use Rattle.tte_units.specs.declared.frames.channel.Channel.TheVariants.{B}
 use Rattle.schedule_checker.proofs.shape.trees.is_connected.Goals as goal
 
 pub returns-then-is_connected_on : goal.returns-then-is_connected_on

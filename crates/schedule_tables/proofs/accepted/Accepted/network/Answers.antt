@@ -1,4 +1,4 @@
-use Rattle.{schedule_tables.proofs.Margins.shape_rules}
+use Rattle.schedule_tables.proofs.Margins.{shape_rules}
 use Rattle.schedule_tables.proofs.accepted.Accepted.network.Goals as goal
 
 pub returns-clause-tree : goal.returns-clause-tree

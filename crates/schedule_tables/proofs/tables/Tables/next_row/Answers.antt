@@ -1,4 +1,5 @@
-use Rattle.schedule_tables.{proofs.NextLemmas.{IsBoundOf, has_no_next_row, is_next_row, is_no_next_row, no_row, some_row}, specs.TablesOf.AreTimedRows}
+use Rattle.schedule_tables.{specs.TablesOf.AreTimedRows}
+use Rattle.schedule_tables.proofs.SlotLemmas.{IsBoundOf, has_no_next_row, is_next_row, is_no_next_row, no_row, some_row}
 use Rattle.schedule_tables.proofs.tables.Tables.next_row.Goals.{else-eq-via-else-eq, else-eq-via-then-eq+else-next-bound, in-None, in-Some+in_ok-get-in-Some}
 use Rattle.{schedule_tables.specs.Slots.AreSlotsOf, std.proofs.{Common.{arith, length, refl, sym}, lemmas.Bool.{eqb-false, eqb-true}}}
 use Rattle.schedule_tables.proofs.tables.Tables.next_row.Goals as goal

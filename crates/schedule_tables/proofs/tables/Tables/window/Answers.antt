@@ -1,4 +1,4 @@
-use Rattle.schedule_tables.proofs.RowLemmas.{window_at}
+use Rattle.schedule_tables.proofs.SlotLemmas.{window_at}
 use Rattle.schedule_tables.proofs.tables.Tables.window.Goals as goal
 
 pub returns : goal.returns

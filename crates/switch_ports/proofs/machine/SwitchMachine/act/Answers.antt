@@ -1,7 +1,9 @@
 use Rattle.{run_law.specs.records.Frames.integration_frame, std.proofs.lemmas.Option.none-some, sync_state.specs.Verdicts.HasVerdict}
-use Rattle.switch_ports.proofs.{CorrectedStands.corrects_stands, CorrectionPoints.{is_near, number_within, some_due, timed_next}, Hearings.{IsComing, is_point}}
-use Rattle.switch_ports.proofs.{DispatchStands.{dispatch_acts, next_inside}, Emissions.{first_emission, may_before, reached_by, sent_stands, with_sent}}
-use Rattle.switch_ports.proofs.{FirstActs.{EmitsNone, first_correction, its_next, value_reached}, HeardKinds.{heard_so, heard_stands}, Ranges.site_in_range}
+use Rattle.switch_ports.proofs.{Emissions.{first_emission, may_before, reached_by, sent_stands, with_sent}}
+use Rattle.switch_ports.proofs.{Pending.{EmitsNone, first_correction, its_next, value_reached}, Ranges.site_in_range}
+use Rattle.switch_ports.proofs.{SwitchStates.{IsComing, corrects_stands, is_point}}
+use Rattle.switch_ports.proofs.SwitchSteps
+use SwitchSteps.{dispatch_acts, heard_so, heard_stands, is_near, next_inside, number_within, some_due, timed_next}
 use Rattle.switch_ports.proofs.Words.{◌+ℤ◌, ◌<ℤ◌, ◌∙◌, ◌≡◌, ◌≤ℤ◌, A, B, Pcf, Some, StandsAs, acting, after_permanence, ap, called}
 use Rattle.switch_ports.proofs.Words.{correction_value, emitting, heard_as, next_point, observation_window, plan_of, refl, ripe_as, subst, sym}
 use Rattle.switch_ports.proofs.machine.SwitchMachine.act.Goals as goal

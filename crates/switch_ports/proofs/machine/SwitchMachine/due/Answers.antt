@@ -1,4 +1,5 @@
-use Rattle.{run_law.specs.machines.Tasks.IsDueReading, switch_ports.{proofs.{Pending.is_due, Words.{◌∙◌, ap, subst, sym}}, specs.Due.least_of}}
+use Rattle.run_law.specs.machines.Tasks.{IsDueReading}
+use Rattle.switch_ports.{proofs.{Pending.is_due, Words.{◌∙◌, ap, subst, sym}}, specs.Due.least_of}
 use Rattle.switch_ports.proofs.machine.SwitchMachine.due.Goals as goal
 
 pub returns : goal.returns

@@ -1,6 +1,7 @@
-use Rattle.{device_rules.proofs.Takings.is_whole, switch_ports.proofs.Standings.{alive, point_same}}
+use Rattle.device_rules.proofs.Takings.{is_whole}
+use Rattle.run_law.specs.timed.Arrivals.{timed_arrival}
+use Rattle.switch_ports.proofs.Standings.{alive, arrival_stands, point_same}
 use Rattle.run_law.specs.machines.{Answers.arrival_at, Nodes.{arriving, last_taken_by}}
-use Rattle.{run_law.specs.timed.Arrivals.timed_arrival, switch_ports.proofs.Takings.arrival_stands}
 use Rattle.switch_ports.proofs.Words.{◌∙◌, StandsAs, after_arrival, ap, called, subst, sym}
 use Rattle.switch_ports.proofs.machine.SwitchTellsKind.hear_heading.Goals as goal
 

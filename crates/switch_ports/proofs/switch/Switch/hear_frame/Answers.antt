@@ -1,4 +1,4 @@
-use Rattle.switch_ports.proofs.{Joinings.integrates_so, Words.{◌∙◌, sym}}
+use Rattle.switch_ports.proofs.{SwitchSteps.integrates_so, Words.{◌∙◌, sym}}
 use Rattle.switch_ports.proofs.switch.Switch.hear_frame.Goals as goal
 
 pub returns-in-Integrates-clause-hears : goal.returns-in-Integrates-clause-hears

@@ -1,4 +1,5 @@
-use Rattle.{device_rules.{proofs.Takings.{dropped_by, heard_by}, specs.{Headings.heading_fault, Intakes.IsTakenSo}}, run_law.specs.device.States.is_off}
+use Rattle.device_rules.{proofs.Takings.{dropped_by, heard_by}, specs.{Headings.heading_fault, Intakes.IsTakenSo}}
+use Rattle.run_law.specs.device.States.{is_off}
 use Rattle.std.proofs.Common.{Bool, not}
 use Rattle.switch_ports.proofs.Words.{◌+ℤ◌, ◌∙◌, ◌≡◌, SyncPlan, ap, clock_of, its_amount, refl, standpoint_of, subst, sym, ℤ}
 use Rattle.switch_ports.proofs.switch.Switch.hear_timed.Goals as goal

@@ -1,4 +1,5 @@
-use Rattle.{run_law.specs.scenario.Devices.start_of, switch_ports.proofs.{Beginning.begun_stands, Ranges.{calc_short, site_in_range}}}
+use Rattle.run_law.specs.scenario.Devices.{start_of}
+use Rattle.switch_ports.proofs.{Ranges.{calc_short, site_in_range}, SwitchStates.begun_stands}
 use Rattle.switch_ports.proofs.Words.{◌^◌, ◌∙◌, ◌≡◌, HasTaken, IfSome, IsBegun, IsSiteOf, IsWithin}
 use Rattle.{net_plan.specs.Ranges.IsInRange, switch_ports.proofs.Words.{Option, Units, [], ap, arith, ints, subst, sym}}
 use Rattle.sync_state.specs.Standing.{begun}

@@ -1,4 +1,4 @@
-use Rattle.sync_state.proofs.membership_lemmas.OneSummary.{one_summary}
+use Rattle.sync_state.proofs.membership_lemmas.SummaryLemmas.{one_summary}
 use Rattle.sync_state.proofs.membership.laws.summary_is_one.Goals as goal
 
 pub returns : goal.returns

@@ -1,5 +1,5 @@
 use Rattle.std.proofs.Common.{ap}
-use Rattle.sync_state.{proofs.{CallLemmas.one_more, VerdictLemmas.{small_after, some_there}}, specs.{Calls.reached_point}}
+use Rattle.sync_state.{proofs.{CallLemmas.one_more, VerdictLemmas.{small_after, some_there}}, specs.Calls.reached_point}
 use Rattle.sync_state.proofs.sync.Sync.at_correction.Goals as goal
 
 pub returns-clause-value : goal.returns-clause-value

@@ -1,4 +1,4 @@
-use Rattle.{sync_state.proofs.VerdictLemmas.corrected_small}
+use Rattle.sync_state.proofs.VerdictLemmas.{corrected_small}
 use Rattle.sync_state.proofs.sync.Sync.verdict.Goals as goal
 
 pub returns-in-Some-2-clause-small : goal.returns-in-Some-2-clause-small

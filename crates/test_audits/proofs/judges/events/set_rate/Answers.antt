@@ -1,4 +1,6 @@
-use Rattle.{audit_law.proofs.events_lemmas.OneRate.rate_within, net_plan.specs.declared.ids.DeviceId.DeviceId, std.proofs.Common.{[], refl}}
+use Rattle.std.proofs.Common.{[], refl}
+use Rattle.audit_law.proofs.events_lemmas.Keeping.{rate_within}
+use Rattle.net_plan.specs.declared.ids.DeviceId.{DeviceId}
 use Rattle.test_audits.proofs.judges.events.set_rate.Goals as goal
 
 pub add-requires-clause-within : goal.add-requires-clause-within

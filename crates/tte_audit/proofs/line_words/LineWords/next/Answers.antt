@@ -1,5 +1,6 @@
 use Rattle.{std.proofs.{Common.drop, lemmas.List.take_rest}, trace_text.specs.Steps.words}
-use Rattle.{trace_text.proofs.Splitting.{words_parted, words_whole}, tte_audit.proofs.Words.{◌+◌, ◌∙◌, ◌∷◌, ◌≡◌, ap, rules, sym, take}}
+use Rattle.trace_text.proofs.Splitting.{words_parted, words_whole}
+use Rattle.tte_audit.proofs.Words.{◌+◌, ◌∙◌, ◌∷◌, ◌≡◌, ap, rules, sym, take}
 use Rattle.tte_audit.proofs.line_words.LineWords.next.Goals as goal
 
 pub returns-in-Some : goal.returns-in-Some

@@ -1,4 +1,4 @@
-use Rattle.tte_audit.proofs.{Quiet.passed_on, Words.refl}
+use Rattle.tte_audit.proofs.{Telling.passed_on, Words.refl}
 use Rattle.tte_audit.proofs.passes.RecordsTold.pass.Goals as goal
 
 pub returns : goal.returns

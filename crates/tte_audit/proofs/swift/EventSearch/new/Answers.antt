@@ -1,4 +1,4 @@
-use Rattle.tte_audit.proofs.Seeking.{none_sought}
+use Rattle.tte_audit.proofs.Sweeping.{none_sought}
 use Rattle.tte_audit.proofs.swift.EventSearch.new.Goals as goal
 
 pub returns-in-Ok : goal.returns-in-Ok

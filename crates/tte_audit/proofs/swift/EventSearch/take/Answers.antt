@@ -1,4 +1,5 @@
-use Rattle.tte_audit.proofs.{Befalling.match_true, Seeking.one_sought, Words.{BeginsWithRecord, Note, events_of, subst, sym}}
+use Rattle.tte_audit.proofs.{RightEvents.match_true, Sweeping.one_sought}
+use Rattle.tte_audit.proofs.{Words.{BeginsWithRecord, Note, events_of, subst, sym}}
 use Rattle.run_law.specs.declared.note.NoteBody.TheVariants.{Event}
 use Rattle.tte_audit.proofs.swift.EventSearch.take.Goals as goal
 

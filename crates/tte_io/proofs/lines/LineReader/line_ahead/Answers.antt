@@ -1,6 +1,9 @@
 use Rattle.std.proofs.Common.{◌∙◌, ◌≡◌, ap, refl, sym}
-use Rattle.tte_io.proofs.Making.{MadeOf, Making, found_ended, found_too_long, long_unended, made_next, made_on, making_next, making_on, still_too_long}
-use Rattle.tte_io.{proofs.{Making.taken_at_lf, lines.LineReader.line_ahead.Goals.{in-Taken, in-Unfinished}}, specs.{Progress.reader_state}}
+use Rattle.tte_io.{specs.Progress.reader_state}
+use Rattle.tte_io.proofs.{lines.LineReader.line_ahead.Goals.{in-Taken, in-Unfinished}}
+use Rattle.tte_io.proofs.LineReading
+use LineReading.{MadeOf, Making, found_ended, found_too_long, long_unended, made_next, made_on, making_next, making_on}
+use LineReading.{still_too_long, taken_at_lf}
 use Rattle.tte_io.specs.{ReaderState.{KeepsEnd, KeepsLongLine, pending}}
 use Rattle.tte_io.specs.declared.lines.{Progress.TheVariants.TooLong}
 use Rattle.tte_io.proofs.lines.LineReader.line_ahead.Goals as goal

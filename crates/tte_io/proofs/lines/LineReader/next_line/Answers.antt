@@ -1,7 +1,8 @@
 use Rattle.{std.proofs.Common.{◌∙◌, ◌≡◌, ap, refl, sym}, tte_io.specs.declared.lines.{Progress.TheVariants.TooLong}}
 use Rattle.{std.proofs.lemmas.Result.err_from_is_err_and}
-use Rattle.tte_io.proofs.Coming.{outcome_told}
-use Rattle.tte_io.{proofs.Making.{MadeOf, found_ended, long_unended, made_next, made_on, still_too_long, taken_of_made}, specs.Progress.reader_state}
+use Rattle.tte_io.{specs.Progress.reader_state}
+use Rattle.tte_io.proofs.LineReading
+use LineReading.{MadeOf, found_ended, long_unended, made_next, made_on, outcome_told, still_too_long, taken_of_made}
 use Rattle.tte_io.{proofs.lines.LineReader.next_line.Goals.{in-Taken, in-Unfinished}, specs.ReaderState.{KeepsEnd, KeepsLongLine}}
 use Rattle.tte_io.proofs.lines.LineReader.next_line.Goals as goal
 

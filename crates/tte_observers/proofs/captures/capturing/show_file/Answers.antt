@@ -1,4 +1,5 @@
-use Rattle.{std.proofs.Common.{◌∙◌, sym}, tte_observers.proofs.captures_lemmas.Files.head_whole}
+use Rattle.std.proofs.Common.{◌∙◌, sym}
+use Rattle.tte_observers.proofs.captures_lemmas.Packets.{head_whole}
 use Rattle.tte_observers.proofs.captures.capturing.show_file.Goals as goal
 
 pub show_packets-requires-clause-whole : goal.show_packets-requires-clause-whole

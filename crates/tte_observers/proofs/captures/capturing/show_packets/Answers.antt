@@ -2,7 +2,8 @@ use Rattle.std.{proofs.Common.{◌+◌, ◌∙◌, ◌≡◌, ◌≤◌, Err, Li
 use Rattle.{std.specs.Io.KnownBytes.Appends, tte_forms.specs.Putting.shown_by, tte_io.specs.Told.AppendsFront}
 use Rattle.{tte_forms.specs.Answering.{Gives, line_answer}, tte_observers.specs.captures.pcap.{Layout.{IsPacket, stamp_length}, Reading.packet_at}}
 use Rattle.{tte_forms.specs.declared.status.Status.TheVariants.CaptureRefused, tte_observers.specs.declared.captures.pcap.capture.Packet.Packet}
-use Rattle.tte_observers.proofs.captures_lemmas.Packets.{IsShown-all, IsShown-fails, IsShown-more, IsShown-none, IsShown-refused}
+use Rattle.tte_observers.proofs.captures_lemmas.Packets.{IsShown-all, IsShown-fails, IsShown-more, IsShown-none}
+use Rattle.tte_observers.proofs.captures_lemmas.Packets.{IsShown-refused}
 use Rattle.tte_observers.specs.{captures.CaptureLine.{packet_line, packet_refusal_line}, declared.captures.pcap.refusal.CaptureRefusal.CaptureRefusal}
 use Rattle.tte_observers.proofs.captures.capturing.show_packets.Goals as goal
 

@@ -1,4 +1,6 @@
-use Rattle.{std.proofs.Common.{◌-◌, ◌≡◌, ◌≤◌, length}, tte_forms.specs.Putting.shown_by, tte_observers.proofs.captures_lemmas.Packets.IsShown}
+use Rattle.std.proofs.Common.{◌-◌, ◌≡◌, ◌≤◌, length}
+use Rattle.tte_forms.specs.Putting.{shown_by}
+use Rattle.tte_observers.proofs.captures_lemmas.Packets.{IsShown}
 use Rattle.tte_observers.proofs.captures.capturing.show_packets.Given as goal
 
 abbrev pub invariant-packets : goal.invariant-packets

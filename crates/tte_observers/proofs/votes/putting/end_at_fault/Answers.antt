@@ -1,4 +1,5 @@
-use Rattle.{tte_forms.{proofs.{Puts.PutFails-more, frames.Frames.Gives-behind}, specs.Faults.IsWanted}, tte_traces.specs.Refusing.fault_answer}
+use Rattle.tte_forms.{proofs.{Puts.PutFails-more, frames.Frames.Gives-behind}, specs.Faults.IsWanted}
+use Rattle.tte_traces.specs.Refusing.{fault_answer}
 use Rattle.{tte_io.specs.Faults.Rose, tte_observers.proofs.votes_lemmas.Words.{fault_lines, fault_status, inl, inr, refl, shown_by, subst}}
 use Rattle.tte_observers.proofs.votes.putting.end_at_fault.Goals as goal
 

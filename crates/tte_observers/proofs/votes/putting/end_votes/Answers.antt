@@ -1,4 +1,5 @@
-use Rattle.{tte_forms.proofs.Puts.Ends-gives, tte_observers.proofs.votes_lemmas.Words.{Done, inl, inr, refl, shown_by, subst}}
+use Rattle.tte_forms.proofs.Puts.{Ends-gives}
+use Rattle.tte_observers.proofs.votes_lemmas.Words.{Done, inl, inr, refl, shown_by, subst}
 use Rattle.{tte_forms.specs.Faults.IsWanted, tte_io.specs.Faults.Rose}
 use Rattle.tte_observers.proofs.votes.putting.end_votes.Goals as goal
 

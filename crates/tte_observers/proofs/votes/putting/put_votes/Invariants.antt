@@ -1,4 +1,5 @@
-use Rattle.tte_observers.proofs.votes_lemmas.{Places.lines_to, Words.{◌^◌, ◌≡◌, ◌≤◌, HoldsVotes, List, PutsLines, happenings, shown_by, ℕ}}
+use Rattle.tte_observers.proofs.votes_lemmas.{VoteLines.lines_to}
+use Rattle.tte_observers.proofs.votes_lemmas.Words.{◌^◌, ◌≡◌, ◌≤◌, HoldsVotes, List, PutsLines, happenings, shown_by, ℕ}
 use Rattle.tte_observers.specs.{declared.votes.law.voters.Voters.{Voters as VotersValue}, votes.ballots.Keeping.{HoldsFrom, kept_count}}
 use Rattle.run_law.specs.declared.note.Note.{Note as NoteValue}
 use Rattle.tte_observers.proofs.votes.putting.put_votes.Given as goal

@@ -1,7 +1,9 @@
 use Rattle.{tte_forms.specs.Faults.PutFailed, tte_traces.specs.{Taking.GaveEvents, declared.fault.TraceFault.TraceFault}, world_drive.specs.Observing.FailsBy}
-use Rattle.tte_observers.proofs.votes_lemmas.{Along.{IsOwn, vote_sees, vote_stops, votes_along}, Ended.{ends_all, ends_fault}}
+use Rattle.tte_observers.proofs.votes_lemmas.Along.{IsOwn, ends_all, ends_fault, vote_sees, vote_stops, votes_along}
+use Rattle.tte_traces.proofs.{Taken.gave_none}
+use Rattle.tte_traces.proofs.Ends.{IsStatusOf, ends_for, ends_memory, ends_read, ends_unpassed, ends_write}
+use Rattle.tte_traces.proofs.Ends.{memory_cause}
 use Rattle.tte_observers.proofs.votes_lemmas.Words.{◌++◌, ◌+◌, Gives, [], arith, fault_lines, fault_status, no_lines, shown_by, subst, sym, vote_lines}
-use Rattle.tte_traces.proofs.{Ends.{IsStatusOf, ends_for, ends_memory, ends_read, ends_unpassed, ends_write, memory_cause}, Taken.gave_none}
 use Rattle.tte_observers.proofs.votes.voting.follow_votes.Goals as goal
 
 pub drive-requires-clause-source : goal.drive-requires-clause-source

@@ -1,5 +1,5 @@
 use Rattle.tte_observers.proofs.votes_lemmas.Words.{HoldsVotes, VotesEnd, [], no_lines, refl, shown_by, subst, sym, vote_lines}
-use Rattle.tte_traces.{proofs.Sources.no_memory, specs.Answer.IsTraceAnswer}
+use Rattle.tte_traces.{proofs.Ends.no_memory, specs.Answer.IsTraceAnswer}
 use Rattle.tte_observers.proofs.votes.voting.vote_run.Goals as goal
 
 pub vote_world-requires : goal.vote_world-requires

@@ -1,4 +1,5 @@
-use Rattle.{tte_observers.proofs.votes_lemmas.{Along.IsOwn, Words.{no_lines, refl}}, tte_traces.proofs.Sources.no_memory}
+use Rattle.tte_observers.proofs.votes_lemmas.{Along.IsOwn, Words.{no_lines, refl}}
+use Rattle.tte_traces.proofs.Ends.{no_memory}
 use Rattle.tte_observers.proofs.votes.voting.vote_world.Goals as goal
 
 pub returns-in-Err-clause-ends : goal.returns-in-Err-clause-ends

@@ -1,4 +1,5 @@
-use Rattle.{std.proofs.Common.◌∙◌, tte_reports.proofs.RecordLines.begun_lines}
+use Rattle.std.proofs.Common.{◌∙◌}
+use Rattle.tte_reports.proofs.Reports.{begun_lines}
 use Rattle.tte_reports.proofs.reading.AuditedReport.records.Goals as goal
 
 pub returns : goal.returns

@@ -1,5 +1,6 @@
-use Rattle.{std.proofs.Common.{◌+◌, ◌∙◌, ◌≡◌, None, Some, subst, sym}, tte_reports.proofs.RecordLines.{first_then, no_text_left, none_left}}
-use Rattle.{std.{proofs.lemmas.List.take_rest, specs.Prelude.position}, tte_audit.{proofs.Parts.record_at, specs.Report.is_line_end}}
+use Rattle.std.{proofs.{Common.{◌+◌, ◌∙◌, ◌≡◌, None, Some, subst, sym}, lemmas.List.take_rest}, specs.Prelude.position}
+use Rattle.tte_audit.{proofs.ReportText.record_at, specs.Report.is_line_end}
+use Rattle.tte_reports.proofs.Reports.{first_then, no_text_left, none_left}
 use Rattle.tte_reports.specs.Reports.{AreLines}
 use Rattle.tte_reports.proofs.records.Records.next_in.Goals as goal
 

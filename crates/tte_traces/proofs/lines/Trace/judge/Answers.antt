@@ -1,4 +1,4 @@
-use Rattle.tte_traces.{proofs.{Following.long_some, Words.subst}, specs.Following.IsFound}
+use Rattle.tte_traces.{proofs.{Admitted.long_some, Words.subst}, specs.Following.IsFound}
 use Rattle.tte_traces.proofs.lines.Trace.judge.Goals as goal
 
 pub returns-in-Whole-clause-judged : goal.returns-in-Whole-clause-judged

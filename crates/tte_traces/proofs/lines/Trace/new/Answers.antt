@@ -1,4 +1,5 @@
-use Rattle.tte_traces.proofs.{Admitted.admitted_none, Following.none_followed, Words.{◌++◌, ◌≡◌, LineReaderState, ap, false, pending, sym}}
+use Rattle.tte_traces.proofs.{Admitted.{admitted_none, none_followed}}
+use Rattle.tte_traces.proofs.{Words.{◌++◌, ◌≡◌, LineReaderState, ap, false, pending, sym}}
 use Rattle.tte_traces.proofs.lines.Trace.new.Goals as goal
 
 pub returns-clause-follows : goal.returns-clause-follows

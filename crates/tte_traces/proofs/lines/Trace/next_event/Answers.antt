@@ -1,5 +1,7 @@
 use Rattle.std.specs.Prelude.{IfOk}
-use Rattle.tte_traces.proofs.{Following.{followed_with, goes_so, reads_any, reads_same, reads_so, some_found, stays_any, takes_few}, Taken.refused_given}
+use Rattle.tte_traces.proofs.{Taken.refused_given}
+use Rattle.tte_traces.proofs.Admitted
+use Admitted.{followed_with, goes_so, reads_any, reads_same, reads_so, some_found, stays_any, takes_few}
 use Rattle.{tte_traces.proofs.Words.{Err, Event, IfSome, IsOfNetwork, Network, Ok, [], length, pending, refl, subst}, world_drive.specs.Sources.given_in}
 use Rattle.tte_traces.proofs.lines.Trace.next_event.Goals as goal
 

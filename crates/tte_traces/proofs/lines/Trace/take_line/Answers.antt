@@ -1,4 +1,6 @@
-use Rattle.{fault_hypothesis.specs.{Watching.Watches, declared.watch.Watch.Watch}, std.proofs.Common.◌↔◌, tte_traces.proofs.Following.{event_as, more_followed}}
+use Rattle.std.proofs.Common.{◌↔◌}
+use Rattle.fault_hypothesis.specs.{Watching.Watches, declared.watch.Watch.Watch}
+use Rattle.tte_traces.proofs.Admitted.{event_as, more_followed}
 use Rattle.tte_traces.proofs.{Words.{◌∙◌, ◌≡◌, End, Err, IsOfNetwork, Network, Ok, refl, subst, sym, true}, lines.Trace.take_line.Goals.{in-End, in_default}}
 use Rattle.tte_traces.specs.Lines.{HasEvent}
 use Rattle.tte_traces.proofs.lines.Trace.take_line.Goals as goal

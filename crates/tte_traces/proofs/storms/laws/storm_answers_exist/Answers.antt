@@ -1,4 +1,4 @@
-use Rattle.tte_traces.proofs.storms_lemmas.Existing.{storm_answers_exist}
+use Rattle.tte_traces.proofs.storms_lemmas.Drawn.{storm_answers_exist}
 use Rattle.tte_traces.proofs.storms.laws.storm_answers_exist.Goals as goal
 
 pub returns : goal.returns

@@ -1,5 +1,6 @@
 use Rattle.{std.proofs.Common.inl, tte_forms.specs.Putting.shown_by, tte_traces.specs.storms.summary.Lines.lines_of}
-use Rattle.tte_forms.{proofs.{Puts.{PutsLines-none, PutsLines-still}, frames.Frames.Gives-behind}, specs.declared.status.Status.TheVariants.Done}
+use Rattle.tte_forms.{proofs.{Puts.{PutsLines-none, PutsLines-still}, frames.Frames.Gives-behind}}
+use Rattle.tte_forms.{specs.declared.status.Status.TheVariants.Done}
 use Rattle.tte_traces.proofs.storms.storming.run_storm.Goals as goal
 
 pub returns-in-Ok-clause-ends : goal.returns-in-Ok-clause-ends

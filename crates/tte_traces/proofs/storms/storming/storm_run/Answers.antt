@@ -1,5 +1,6 @@
 use Rattle.tte_forms.{proofs.networks.Answers.answered_none, specs.Putting.shown_by}
-use Rattle.tte_traces.{proofs.storms_lemmas.{Safely.{none_safely, storm_safely}, Summed.storm_accepted}, specs.storms.Answer.IsStormAnswer}
+use Rattle.tte_traces.{proofs.storms_lemmas.Summed.{none_safely, storm_accepted, storm_safely}}
+use Rattle.tte_traces.{specs.storms.Answer.IsStormAnswer}
 use Rattle.tte_traces.proofs.storms.storming.storm_run.Goals as goal
 
 pub returns-in-Ok-clause-general : goal.returns-in-Ok-clause-general

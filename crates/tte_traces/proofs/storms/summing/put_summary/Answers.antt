@@ -1,5 +1,6 @@
 use Rattle.std.proofs.Common.{◌∙◌, Some, ap, arith, sym}
-use Rattle.{tte_forms.specs.Putting.shown_by, tte_traces.proofs.storms_lemmas.Summed.{lines_all, lines_fail, lines_more}}
+use Rattle.tte_forms.specs.Putting.{shown_by}
+use Rattle.tte_traces.proofs.storms_lemmas.Summed.{lines_all, lines_fail, lines_more}
 use Rattle.tte_traces.proofs.storms.summing.put_summary.Goals as goal
 
 pub returns-in-Err-clause-gives : goal.returns-in-Err-clause-gives

@@ -1,4 +1,6 @@
-use Rattle.{std.proofs.Common.◌≡◌, tte_forms.specs.Putting.shown_by, tte_traces.{proofs.storms_lemmas.Summed.HasPutLines, specs.storms.summary.Lines.lines_of}}
+use Rattle.std.proofs.Common.{◌≡◌}
+use Rattle.tte_forms.specs.Putting.{shown_by}
+use Rattle.tte_traces.{proofs.storms_lemmas.Summed.HasPutLines, specs.storms.summary.Lines.lines_of}
 use Rattle.tte_traces.proofs.storms.summing.put_summary.Given as goal
 
 abbrev pub invariant-lines : goal.invariant-lines

@@ -1,5 +1,6 @@
 use Rattle.{net_plan.specs.declared.network.Network.Network, std.proofs.{Common.{ap, refl, rules}, lemmas.Int.to_z-of_z}}
-use Rattle.{std.specs.Int.w64, tte_traces.proofs.storms_lemmas.Summed.{is_fine, sums_up}}
+use Rattle.std.specs.Int.{w64}
+use Rattle.tte_traces.proofs.storms_lemmas.Summed.{is_fine, sums_up}
 use Rattle.tte_traces.proofs.storms.summing.told.Goals as goal
 
 pub returns : goal.returns

@@ -1,6 +1,6 @@
-use Rattle.{std.proofs.lemmas.Option.slice_get_read, world_state.proofs.Queues.set_queued}
+use Rattle.std.proofs.lemmas.Option.{slice_get_read}
+use Rattle.world_state.proofs.Queues.{emptied, from_zero, keeps_it, kept_beyond, set_queued}
 use Rattle.{std.proofs.Common.{◌+◌, ◌∙◌, ◌≡◌, ap, arith, filter, inr, length, refl, sym}, world_state.specs.Frames.{frames_in}}
-use Rattle.world_state.proofs.Emptied.{emptied, from_zero, keeps_it, kept_beyond}
 use Rattle.world_state.proofs.frames.Frames.drop_all.Goals as goal
 
 pub invariant_of-self : goal.invariant_of-self

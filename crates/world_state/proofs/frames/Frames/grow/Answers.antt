@@ -1,4 +1,5 @@
-use Rattle.{std.proofs.Common.◌∙◌, world_state.proofs.Queues.grown}
+use Rattle.std.proofs.Common.{◌∙◌}
+use Rattle.world_state.proofs.Queues.{grown}
 use Rattle.world_state.proofs.frames.Frames.grow.Goals as goal
 
 pub invariant_of-self-then-is_err : goal.invariant_of-self-then-is_err

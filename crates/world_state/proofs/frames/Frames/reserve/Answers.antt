@@ -1,6 +1,8 @@
 use Rattle.{world_state.specs.{Frames.Waiting}}
 use Rattle.{std.proofs.Common.{◌∙◌, ap, length, refl, sym}}
-use Rattle.{std.proofs.lemmas.Option.slice_get_read, tte_units.proofs.general_lemmas.Lists.set_same, world_state.proofs.Queues.{same_in, set_queued}}
+use Rattle.std.proofs.lemmas.Option.{slice_get_read}
+use Rattle.tte_units.proofs.general_lemmas.Lists.{set_same}
+use Rattle.world_state.proofs.Queues.{same_in, set_queued}
 use Rattle.world_state.proofs.frames.Frames.reserve.Goals as goal
 
 pub invariant_of-self : goal.invariant_of-self

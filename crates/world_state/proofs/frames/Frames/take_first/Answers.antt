@@ -1,8 +1,8 @@
 use Rattle.std.proofs.Common.{◌∙◌, ◌∷◌, ap, inr, length, refl, slice_get, sym}
 use Rattle.std.{proofs.lemmas.{List.Sorted.{IsPermutation-map, IsPermutation-sym}, Option.slice_get_read}}
 use Rattle.std.specs.Option.{option_and_then, option_map}
-use Rattle.world_state.{proofs.Queues.{content_of, has_first, one_fewer_in, set_queued}, specs.Frames.{first_frame}}
-use Rattle.world_state.{proofs.queue_lemmas.Bags.in_permuted}
+use Rattle.world_state.{specs.Frames.first_frame}
+use Rattle.world_state.proofs.{Queues.{content_of, has_first, one_fewer_in, set_queued}, queue_lemmas.Slots.in_permuted}
 use Rattle.world_state.proofs.frames.Frames.take_first.Goals as goal
 
 pub invariant_of-self : goal.invariant_of-self

@@ -1,4 +1,5 @@
-use Rattle.{std.proofs.Common.{◌∙◌}, world_state.{proofs.Acts.still_sound}}
+use Rattle.std.proofs.Common.{◌∙◌}
+use Rattle.world_state.proofs.WorldSteps.{still_sound}
 use Rattle.world_state.proofs.kept.Kept.act.Goals as goal
 
 pub returns-in-Sound-clause-acted : goal.returns-in-Sound-clause-acted

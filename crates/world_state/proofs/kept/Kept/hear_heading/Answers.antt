@@ -1,4 +1,5 @@
-use Rattle.{std.proofs.Common.{◌∙◌}, world_state.{proofs.Hearings.heard_sound}}
+use Rattle.std.proofs.Common.{◌∙◌}
+use Rattle.world_state.proofs.WorldSteps.{heard_sound}
 use Rattle.world_state.proofs.kept.Kept.hear_heading.Goals as goal
 
 pub returns-in-Sound : goal.returns-in-Sound

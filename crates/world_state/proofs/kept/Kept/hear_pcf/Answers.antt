@@ -1,5 +1,5 @@
 use Rattle.{std.proofs.Common.{◌∙◌}}
-use Rattle.world_state.{proofs.Hearings.heard_sound}
+use Rattle.world_state.proofs.WorldSteps.{heard_sound}
 use Rattle.world_state.proofs.kept.Kept.hear_pcf.Goals as goal
 
 pub returns-in-Sound-clause-hears : goal.returns-in-Sound-clause-hears

@@ -1,5 +1,5 @@
 use Rattle.std.{proofs.Common.subst, specs.Prelude.IfSome}
-use Rattle.world_state.proofs.queue_lemmas.Finding.{found_in, holds_none}
+use Rattle.world_state.proofs.queue_lemmas.Slots.{found_in, holds_none}
 use Rattle.world_state.specs.queue.Finding.{HoldsAt, HoldsNoneAt}
 use Rattle.world_state.proofs.queue.UnderWay.find.Goals as goal
 

@@ -1,4 +1,5 @@
-use Rattle.{std.proofs.Common.{arith, refl, sym}, world_state.{proofs.queue_lemmas.{Bags.in_contained, Slots.top_is_first}}}
+use Rattle.std.proofs.Common.{arith, refl, sym}
+use Rattle.world_state.proofs.queue_lemmas.Slots.{in_contained, top_is_first}
 use Rattle.world_state.proofs.queue.UnderWay.first.Goals as goal
 
 pub returns-in-Some-clause-first : goal.returns-in-Some-clause-first

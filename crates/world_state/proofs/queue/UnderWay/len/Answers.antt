@@ -1,4 +1,5 @@
-use Rattle.{std.proofs.Common.{◌∙◌, ap, length, sym}, world_state.proofs.queue_lemmas.Slots.length_entries}
+use Rattle.std.proofs.Common.{◌∙◌, ap, length, sym}
+use Rattle.world_state.proofs.queue_lemmas.Slots.{length_entries}
 use Rattle.world_state.proofs.queue.UnderWay.len.Goals as goal
 
 pub returns : goal.returns

@@ -1,5 +1,5 @@
 use Rattle.std.proofs.Common.{arith, refl, sym}
-use Rattle.world_state.{proofs.queue_lemmas.{Bags.in_contained, Heads.{head_first, head_is}, Slots.top_is_first}}
+use Rattle.world_state.proofs.queue_lemmas.Slots.{head_first, head_is, in_contained, top_is_first}
 use Rattle.world_state.proofs.queue.UnderWay.peek.Goals as goal
 
 pub returns-in-Some-clause-first : goal.returns-in-Some-clause-first

@@ -1,5 +1,6 @@
 use Rattle.std.{proofs.Common.{◌∷◌, subst}, specs.List.Sorted.IsPermutation}
-use Rattle.world_state.{proofs.queue_lemmas.Slots.{put_entries, put_is_sound}, specs.queue.Queues.{entries_in, entry_at}}
+use Rattle.world_state.{proofs.queue_lemmas.Slots.{put_entries, put_is_sound}}
+use Rattle.world_state.{specs.queue.Queues.{entries_in, entry_at}}
 use Rattle.world_state.proofs.queue.UnderWay.put.Goals as goal
 
 pub invariant_of-self : goal.invariant_of-self

@@ -1,5 +1,5 @@
 use Rattle.std.{proofs.{Common.{◌∷◌, inl, refl, subst}, lemmas.List.Sorted.IsPermutation-sym}, specs.List.Sorted.IsPermutation}
-use Rattle.world_state.proofs.queue_lemmas.{Bags.in_permuted, Slots.{taken_entries, taken_is_sound, top_is_first}}
+use Rattle.world_state.proofs.queue_lemmas.Slots.{in_permuted, taken_entries, taken_is_sound, top_is_first}
 use Rattle.world_state.specs.queue.{Places.IsFirst, Queues.{entries_in, entry_at}}
 use Rattle.world_state.proofs.queue.UnderWay.take_first.Goals as goal
 

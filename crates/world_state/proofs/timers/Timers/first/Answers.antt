@@ -1,5 +1,5 @@
 use Rattle.std.proofs.Common.{◌%◌, ◌/◌, ◌^◌, ◌∙◌, ap, arith, sym}
-use Rattle.world_state.{proofs.SlotOrder.{first_slot, least_time}}
+use Rattle.world_state.proofs.WorldSteps.{first_slot, least_time}
 use Rattle.world_state.proofs.timers.Timers.first.Goals as goal
 
 pub returns-then-time-clause-none : goal.returns-then-time-clause-none

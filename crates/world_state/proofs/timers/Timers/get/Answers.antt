@@ -1,6 +1,6 @@
 use Rattle.std.proofs.Common.{◌/◌, ◌<◌, ◌^◌, ◌∙◌, ◌≡◌, Some, ap, arith, length, sym}
 use Rattle.std.proofs.{lemmas.List.length-map}
-use Rattle.world_state.{proofs.SlotOrder.timer_at, specs.{timers.SlotKeys.timer_of}}
+use Rattle.world_state.{proofs.WorldSteps.timer_at, specs.timers.SlotKeys.timer_of}
 use Rattle.world_state.proofs.timers.Timers.get.Goals as goal
 
 pub returns : goal.returns

@@ -1,4 +1,4 @@
-use Rattle.{world_state.{proofs.SlotOrder.timers_made}}
+use Rattle.world_state.proofs.WorldSteps.{timers_made}
 use Rattle.world_state.proofs.timers.Timers.new.Goals as goal
 
 pub returns : goal.returns

@@ -1,5 +1,5 @@
 use Rattle.std.proofs.Common.{◌++◌, ◌∙◌, ◌∷◌, ◌≡◌, List, [], ap, arith, length, length-append, slice_get, sym}
-use Rattle.audit_devices.{proofs.stretches_lemmas.Keeping.each_more, specs.stretches.Keeping.{Keeps, Stretches}}
+use Rattle.audit_devices.{proofs.stretches_lemmas.Stretches.each_more, specs.stretches.Keeping.{Keeps, Stretches}}
 use Rattle.audit_devices.proofs.stretches.history.StretchHistory.new.Goals as goal
 
 pub loop-preserved : goal.loop-preserved

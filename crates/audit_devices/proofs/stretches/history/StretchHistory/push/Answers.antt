@@ -1,7 +1,8 @@
-use Rattle.{audit_devices.{proofs.KeptAll.also_on_ok, specs.Effects.carried_by}, run_law.specs.{records.Ranks.place_at, scenario.Devices.is_cm}}
+use Rattle.audit_devices.{proofs.{KeptAll.also_on_ok, stretches_lemmas.Stretches.{all_on, all_still, may_bring}}}
+use Rattle.audit_devices.{specs.{Effects.carried_by, stretches.Changes.{change_by, collector_in}}}
+use Rattle.run_law.specs.{records.Ranks.place_at, scenario.Devices.is_cm}
 use Rattle.audit_devices.proofs.stretches.history.StretchHistory.push.Goals.{then-index-len-via-else-index-len+then-not-is_cm}
 use Rattle.audit_devices.{proofs.stretches.history.StretchHistory.push.Goals.then-index-len-via-then-index-len, specs.stretches.Keeping.{Keeps, KeepsAll}}
-use Rattle.audit_devices.{proofs.stretches_lemmas.Keeping.{all_on, all_still, may_bring}, specs.stretches.Changes.{change_by, collector_in}}
 use Rattle.{audit_devices.specs.declared.effect.Carried.Carried, net_plan.specs.declared.ids.DeviceId.DeviceId, tte_units.proofs.general_lemmas.Lists.got_at}
 use Rattle.{run_law.specs.records.Happenings.time_of, std.proofs.Common.{◌++◌, ◌<◌, ◌∙◌, ◌∷◌, ◌≡◌, Some, [], ap, arith, false, length, rules, sym, true}}
 use Rattle.std.specs.Prelude.{slice_set}

@@ -1,6 +1,10 @@
-use Rattle.audit_devices.{proofs.Partitions.kept_front, specs.{declared.stretches.kept.Entry.Entry, stretches.Keeping.{StandsFor, Stretches, entry_before}}}
+use Rattle.std.proofs.lemmas.Fn.{always_returns_same}
+use Rattle.audit_devices.{proofs.Kept.kept_front}
+use Rattle.audit_devices.specs.{declared.stretches.kept.Entry.Entry}
+use Rattle.audit_devices.specs.{stretches.Keeping.{StandsFor, Stretches, entry_before}}
+use Rattle.compression.proofs.Middles.{slice_get-last}
+use Rattle.run_law.specs.control.Collections.{points_of}
 use Rattle.{audit_devices.specs.Keeping.records_before, audit_law.specs.collections.Gathered.Gathers, std.specs.List.Sorted.{IsPartitionPoint, IsPartitionedBy}}
-use Rattle.{compression.proofs.Ascents.slice_get-last, run_law.specs.control.Collections.points_of, std.proofs.lemmas.Fn.always_returns_same}
 use Rattle.{run_law.specs.records.Order.is_before, std.specs.List.last_or}
 use Rattle.std.proofs.Common.{◌∙◌, ◌≡◌, ◌≤◌, Bool, List, None, Some, [], ap, false, length, of_calls, rules, subst, sym, take, true}
 use Rattle.audit_devices.proofs.stretches.kept.Kept.before.Goals as goal

@@ -1,4 +1,5 @@
-use Rattle.audit_devices.{proofs.stretches_lemmas.Keeping.{GoesOn, kept_on, points_then}, specs.declared.stretches.kept.Entry.Entry}
+use Rattle.audit_devices.{proofs.stretches_lemmas.Stretches.{GoesOn, kept_on, points_then}}
+use Rattle.audit_devices.{specs.declared.stretches.kept.Entry.Entry}
 use Rattle.{audit_devices.specs.stretches.{Keeping.Stretches, Points.points_with}, std.proofs.Common.{◌++◌, ◌∙◌, ◌∷◌, ◌≡◌, List, [], ap, refl, subst, sym, ℕ}}
 use Rattle.{audit_law.specs.collections.{Gathered.Gathers, Kept.History}, run_law.specs.control.Collections.points_of}
 use Rattle.audit_devices.proofs.stretches.kept.Kept.take.Goals as goal

@@ -1,4 +1,5 @@
-use Rattle.{audit_devices.proofs.stretches_lemmas.Clustering.emissions_same, audit_law.specs.declared.collections.emitted.Emitted.Emitted}
+use Rattle.audit_devices.proofs.stretches_lemmas.Stretches.{emissions_same}
+use Rattle.audit_law.specs.declared.collections.emitted.Emitted.{Emitted}
 use Rattle.std.{proofs.Common.{◌∙◌, List, ap}, specs.Prelude.slice_get}
 use Rattle.audit_devices.proofs.stretches.stretch.Stretch.emission.Goals as goal
 

@@ -1,4 +1,5 @@
-use Rattle.{audit_devices.proofs.stretches_lemmas.Clustering.{emissions_same, equal_emitted, same_emitted}, std.proofs.lemmas.Int.to_z-of_z}
+use Rattle.std.proofs.lemmas.Int.{to_z-of_z}
+use Rattle.audit_devices.proofs.stretches_lemmas.Stretches.{emissions_same, equal_emitted, same_emitted}
 use Rattle.{audit_law.specs.{collections.Kept.emissions_in, declared.collections.emitted.Emitted.Emitted}, std.specs.Prelude.{All, Contains}}
 use Rattle.std.proofs.{Common.{◌∙◌, ◌≡◌, FitsSigned, IsTrue, List, None, Some, false, refl, rules, subst, sym, w64, ℤ}, lemmas.List.Elements.All-contains}
 use Rattle.audit_devices.proofs.stretches.stretch.Stretch.emits.Goals as goal

@@ -1,4 +1,5 @@
-use Rattle.{audit_law.specs.collections.Kept.clusters_in, compression.{proofs.Standing.AreClusters-unique, specs.Clusters.{AreClusters, Cluster}}}
+use Rattle.audit_law.specs.collections.Kept.{clusters_in}
+use Rattle.compression.{proofs.Collectors.AreClusters-unique, specs.Clusters.{AreClusters, Cluster}}
 use Rattle.{compression.specs.Emission.compressed, run_law.specs.control.Collections.observation_window, std.proofs.Common.{◌∙◌, ◌≡◌, List, ap, subst, sym}}
 use Rattle.std.specs.List.{Contains}
 use Rattle.audit_devices.proofs.stretches.stretch.Stretch.sends.Goals as goal

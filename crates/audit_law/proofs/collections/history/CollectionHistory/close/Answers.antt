@@ -1,5 +1,5 @@
 use Rattle.std.proofs.{Common.{◌++◌, ◌∙◌, ◌∷◌, [], ap, sym}, lemmas.List.append-nil}
-use Rattle.audit_law.{proofs.collections_lemmas.Joining.grows-none}
+use Rattle.audit_law.proofs.collections_lemmas.Clusters.{grows-none}
 use Rattle.audit_law.proofs.collections.history.CollectionHistory.close.Goals as goal
 
 pub returns-in_default-clause-grown : goal.returns-in_default-clause-grown

@@ -1,4 +1,5 @@
-use Rattle.{audit_law.proofs.collections_lemmas.Kepts.emission-at, std.{proofs.Common.{◌∙◌, Some, ap, sym}}}
+use Rattle.std.proofs.Common.{◌∙◌, Some, ap, sym}
+use Rattle.audit_law.proofs.collections_lemmas.Clusters.{emission-at}
 use Rattle.audit_law.specs.collections.Kept.{kept_in}
 use Rattle.audit_law.proofs.collections.history.CollectionHistory.emission.Goals as goal
 

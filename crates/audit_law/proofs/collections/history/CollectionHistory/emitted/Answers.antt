@@ -1,5 +1,6 @@
 use Rattle.std.{proofs.{Common.{◌∙◌, ◌≡◌, ap, arith}, lemmas.Int.{ints, to_z-of_z}}, specs.Int.w128}
-use Rattle.audit_law.{proofs.collections_lemmas.{Kepts.emitted-is, Wide.{fits_small, fits_wide}}, specs.collections.Kept.cluster_kept}
+use Rattle.audit_law.{proofs.collections_lemmas.{Clusters.emitted-is, Wide.{fits_small, fits_wide}}}
+use Rattle.audit_law.{specs.collections.Kept.cluster_kept}
 use Rattle.audit_law.proofs.collections.history.CollectionHistory.emitted.Goals as goal
 
 pub overflow_add-result-2 : goal.overflow_add-result-2

@@ -1,4 +1,5 @@
-use Rattle.audit_law.{proofs.collections_lemmas.Joining.{grows-none, joined-by, kept_with, shift}, specs.declared.collections.gathering.Gathering.Gathering}
+use Rattle.audit_law.{proofs.collections_lemmas.Clusters.{grows-none, joined-by, kept_with, shift}}
+use Rattle.audit_law.{specs.declared.collections.gathering.Gathering.Gathering}
 use Rattle.{audit_law.specs.collections.Gathered.EndsWith, std.proofs.{Common.{sym, take, to_z, w64}, lemmas.List.{append-nil, length-append}}}
 use Rattle.audit_law.specs.{collections.{Kept.{History, cluster_kept}, Steps.Joins}, declared.collections.{gathering.Row.Row}}
 use Rattle.{compression.specs.Collection.joined_end, std.{proofs.lemmas.Int.to_z-of_z, specs.{Int.w128, Prelude.{bit_or}}}}

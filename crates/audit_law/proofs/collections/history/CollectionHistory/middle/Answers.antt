@@ -1,4 +1,5 @@
-use Rattle.{audit_law.proofs.collections_lemmas.{Kepts.length-last, Wide.{fits_small, mean_wide}}, compression.proofs.Middles.{middle_of-ends, middle_of-inner}}
+use Rattle.audit_law.proofs.collections_lemmas.{Clusters.length-last, Wide.{fits_small, mean_wide}}
+use Rattle.compression.proofs.Middles.{middle_of-ends, middle_of-inner}
 use Rattle.{audit_law.specs.collections.Kept.points_kept, compression.specs.Middle.{middle_of, relative}, std.{proofs.Common.{◌-◌, ◌∙◌, ◌≡◌}, specs.Int.w128}}
 use Rattle.{std.proofs.lemmas.Int.to_z-of_z, tte_units.specs.Mean.mean_of}
 use Rattle.audit_law.proofs.collections.history.CollectionHistory.middle.Goals as goal

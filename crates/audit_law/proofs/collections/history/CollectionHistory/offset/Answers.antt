@@ -1,5 +1,5 @@
 use Rattle.std.proofs.{Common.{◌+◌, ◌<◌, ◌∙◌, ◌≡◌, List, ap, arith, get_or, length, pos, ℕ}, lemmas.{Int.ints, List.get_or_default}}
-use Rattle.audit_law.proofs.collections_lemmas.Kepts.{offset-points}
+use Rattle.audit_law.proofs.collections_lemmas.Clusters.{offset-points}
 use Rattle.audit_law.proofs.collections.history.CollectionHistory.offset.Goals as goal
 
 pub returns-clause-value : goal.returns-clause-value

@@ -1,4 +1,4 @@
-use Rattle.audit_law.{proofs.collections_lemmas.Joining.{opened-by, push-same, shift}}
+use Rattle.audit_law.proofs.collections_lemmas.Clusters.{opened-by, push-same, shift}
 use Rattle.{std.proofs.lemmas.{Int.{ints, to_z-of_z}, List.length-append}}
 use Rattle.std.proofs.Common.{◌++◌, ◌+◌, ◌∙◌, ◌∷◌, ◌≡◌, FitsSigned, [], ap, arith, length, refl, rules, sym, w64}
 use Rattle.audit_law.proofs.collections.history.CollectionHistory.open.Goals as goal

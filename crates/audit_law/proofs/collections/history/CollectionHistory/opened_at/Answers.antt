@@ -1,7 +1,8 @@
 use Rattle.std.proofs.Common.{◌∙◌, ◌≡◌, ◌≤ℤ◌, ◌≤◌, FitsSigned, None, Some, ap, arith, length, map, of_z, pos, rules, sym, w64}
 use Rattle.std.{proofs.lemmas.Int.{ints, to_z-of_z}}
-use Rattle.audit_law.{proofs.collections_lemmas.Kepts.{contains-at, emission-at}, specs.collections.Kept.{cluster_kept, emitted, kept_in}}
-use Rattle.audit_law.proofs.collections_lemmas.Places.{gathered-rising, length-kept, none-behind, none-beside, none-opened, only-there}
+use Rattle.audit_law.{specs.collections.Kept.{cluster_kept, emitted, kept_in}}
+use Rattle.audit_law.proofs.collections_lemmas.Clusters
+use Clusters.{contains-at, emission-at, gathered-rising, length-kept, none-behind, none-beside, none-opened, only-there}
 use Rattle.audit_law.specs.{collections.{Gathered.HasRow, Rising.IsPlaceFor}}
 use Rattle.audit_law.proofs.collections.history.CollectionHistory.opened_at.Goals as goal
 

@@ -1,7 +1,7 @@
 use Rattle.std.proofs.{Common.{◌∙◌, ◌≡◌, ◌≤ℤ◌, ◌⊎◌, FitsSigned, ap, inl, inr, pos, rules, sym, w64}, lemmas.Int.to_z-of_z}
 use Rattle.std.specs.Prelude.{All}
 use Rattle.compression.specs.{Clusters.{point_at}, Role.role, declared.taken.Taken.TheVariants.{Joined, Opened, OtherCycle, Repeat}}
-use Rattle.audit_law.proofs.collections_lemmas.{Growing.gathers-grown, Stepping.{gathers-ignored, gathers-joins, gathers-opened}}
+use Rattle.audit_law.proofs.collections_lemmas.Clusters.{gathers-grown, gathers-ignored, gathers-joins, gathers-opened}
 use Rattle.audit_law.specs.{collections.{Kept.{History, IsCounted, clusters_in}}}
 use Rattle.audit_law.proofs.collections.history.CollectionHistory.point.Goals as goal
 

@@ -1,4 +1,5 @@
-use Rattle.{audit_law.proofs.collections_lemmas.Kepts.{role-beyond, role-within}, std.proofs.Common.{◌<ℤ◌, ◌∙◌, ◌≤ℤ◌, arith, drop, sym, take}}
+use Rattle.std.proofs.Common.{◌<ℤ◌, ◌∙◌, ◌≤ℤ◌, arith, drop, sym, take}
+use Rattle.audit_law.proofs.collections_lemmas.Clusters.{role-beyond, role-within}
 use Rattle.{compression.specs.Clusters.{point_at}}
 use Rattle.{std.proofs.lemmas.Int.ints}
 use Rattle.audit_law.proofs.collections.history.CollectionHistory.role.Goals as goal

@@ -1,5 +1,5 @@
 use Rattle.std.proofs.{Common.{◌+◌, ◌-◌, ◌/◌, ◌<ℤ◌, ◌≤ℤ◌, FitsSigned, Some, arith, rules, w64}, lemmas.Int.{ints, to_z-of_z}}
-use Rattle.audit_law.{proofs.collections_lemmas.Places.{before-step, others-step}, specs.collections.Kept.kept_in}
+use Rattle.audit_law.{proofs.collections_lemmas.Clusters.{before-step, others-step}, specs.collections.Kept.kept_in}
 use Rattle.audit_law.proofs.collections.history.CollectionHistory.search.Goals as goal
 
 pub halves-preserved-then-kept_at-opened : goal.halves-preserved-then-kept_at-opened

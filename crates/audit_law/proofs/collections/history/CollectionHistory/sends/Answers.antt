@@ -1,5 +1,6 @@
 use Rattle.std.{proofs.{Common.{◌∙◌, ◌≡◌, FitsSigned, IsTrue, Some, false, rules, sym, w64}, lemmas.Int.to_z-of_z}, specs.Prelude.All}
-use Rattle.audit_law.{proofs.collections_lemmas.Sending.{none_is, sends-found, sends-from, some_is}, specs.collections.Kept.{as_emitted, emissions_in}}
+use Rattle.audit_law.{proofs.collections_lemmas.Clusters.{none_is, sends-found, sends-from, some_is}}
+use Rattle.audit_law.{specs.collections.Kept.{as_emitted, emissions_in}}
 use Rattle.audit_law.proofs.collections.history.CollectionHistory.sends.Goals as goal
 
 pub returns-in-Some : goal.returns-in-Some

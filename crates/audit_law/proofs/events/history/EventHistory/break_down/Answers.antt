@@ -1,4 +1,5 @@
-use Rattle.{audit_law.proofs.events_lemmas.{Adding.{break_set, no_ways}, Keeping.remembers_more}, tte_units.proofs.general_lemmas.Lists.set_length}
+use Rattle.audit_law.proofs.events_lemmas.{Histories.{break_set, no_ways}, Keeping.remembers_more}
+use Rattle.tte_units.proofs.general_lemmas.Lists.{set_length}
 use Rattle.std.{proofs.{Common.{length, refl}, lemmas.Option.slice_get_read}}
 use Rattle.net_plan.specs.declared.event.What.TheVariants as events
 use Rattle.audit_law.proofs.events.history.EventHistory.break_down.Goals as goal

@@ -1,4 +1,5 @@
-use Rattle.{audit_law.proofs.events_lemmas.Looking.looked_up, std.proofs.{Common.{◌≡◌, Some, length, refl}, lemmas.Option.slice_get_read}}
+use Rattle.std.proofs.{Common.{◌≡◌, Some, length, refl}, lemmas.Option.slice_get_read}
+use Rattle.audit_law.proofs.events_lemmas.Histories.{looked_up}
 use Rattle.std.specs.Prelude.{slice_get}
 use Rattle.audit_law.proofs.events.history.EventHistory.hold.Goals as goal
 

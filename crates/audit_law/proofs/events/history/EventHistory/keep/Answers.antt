@@ -1,4 +1,5 @@
-use Rattle.{audit_law.proofs.events_lemmas.{Adding.nothing_set, Befalling.soon, Looking.devices_ready}, std.proofs.Common.{arith, refl, sym}}
+use Rattle.std.proofs.Common.{arith, refl, sym}
+use Rattle.audit_law.proofs.events_lemmas.{Histories.{devices_ready, nothing_set}, Keeping.soon}
 use Rattle.{run_law.proofs.scenario.Rated.slow_what}
 use Rattle.net_plan.specs.declared.event.What.TheVariants as events
 use Rattle.audit_law.proofs.events.history.EventHistory.keep.Goals as goal

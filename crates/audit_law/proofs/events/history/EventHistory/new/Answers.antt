@@ -1,4 +1,4 @@
-use Rattle.audit_law.proofs.events_lemmas.Beginning.{remembers_none}
+use Rattle.audit_law.proofs.events_lemmas.Histories.{remembers_none}
 use Rattle.audit_law.proofs.events.history.EventHistory.new.Goals as goal
 
 pub returns : goal.returns

@@ -1,5 +1,6 @@
-use Rattle.{audit_law.proofs.events_lemmas.Looking.{told_clocks, told_reads}, std.proofs.Common.{◌≡◌, Some, arith, length, refl, rules}}
-use Rattle.audit_law.{proofs.events_lemmas.Reaching.reach_of_value, specs.events.{Clocks.clocks_reading, Readings.clock_reading}}
+use Rattle.std.proofs.Common.{◌≡◌, Some, arith, length, refl, rules}
+use Rattle.audit_law.{proofs.events_lemmas.{Clocks.reach_of_value, Histories.{told_clocks, told_reads}}}
+use Rattle.audit_law.{specs.events.{Clocks.clocks_reading, Readings.clock_reading}}
 use Rattle.std.{proofs.lemmas.{Int.{ints, to_z-of_z}, Option.slice_get_read}, specs.{Int.w128, Prelude.slice_get}}
 use Rattle.audit_law.proofs.events.history.EventHistory.reach.Goals as goal
 

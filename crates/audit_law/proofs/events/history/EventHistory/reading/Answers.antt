@@ -1,5 +1,5 @@
 use Rattle.std.{proofs.{Common.{◌∙◌, ◌≡◌, Some, length, refl}, lemmas.Option.slice_get_read}, specs.Prelude.slice_get}
-use Rattle.audit_law.proofs.events_lemmas.Looking.{told_clocks, told_reads}
+use Rattle.audit_law.proofs.events_lemmas.Histories.{told_clocks, told_reads}
 use Rattle.audit_law.proofs.events.history.EventHistory.reading.Goals as goal
 
 pub reading-requires-clause-clocks : goal.reading-requires-clause-clocks

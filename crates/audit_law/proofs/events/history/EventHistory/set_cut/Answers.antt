@@ -1,5 +1,7 @@
-use Rattle.audit_law.proofs.events_lemmas.Adding.{cut_event, cut_no_break, cut_no_step, cut_no_turn, cut_set_to, no_devices, same_way}
-use Rattle.audit_law.{proofs.events_lemmas.{Keeping.{match_map, remembers_more, remembers_same}, Looking.{cut_has, has_place}}, specs.events.Settings.change_to}
+use Rattle.audit_law.{specs.events.Settings.change_to}
+use Rattle.audit_law.proofs.events_lemmas.{Keeping.{match_map, remembers_more, remembers_same}}
+use Rattle.audit_law.proofs.events_lemmas.Histories
+use Histories.{cut_event, cut_has, cut_no_break, cut_no_step, cut_no_turn, cut_set_to, has_place, no_devices, same_way}
 use Rattle.{net_plan.specs.Belonging.IsOfNetwork, std.{proofs.lemmas.Option.slice_get_read}, tte_units.specs.Amount.amount}
 use Rattle.{std.proofs.Common.{◌++◌, ◌∙◌, ◌∷◌, [], ap, arith, length, refl, subst, sym}, tte_units.proofs.general_lemmas.Lists.set_length}
 use Rattle.audit_law.proofs.events.history.EventHistory.set_cut.Goals as goal

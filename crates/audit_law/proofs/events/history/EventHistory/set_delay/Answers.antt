@@ -1,4 +1,5 @@
-use Rattle.audit_law.proofs.events_lemmas.{Adding.{delay_set, no_devices, same_way}, Keeping.{match_map, remembers_more, remembers_same}}
+use Rattle.audit_law.proofs.events_lemmas.{Histories.{delay_set, no_devices, same_way}}
+use Rattle.audit_law.proofs.events_lemmas.{Keeping.{match_map, remembers_more, remembers_same}}
 use Rattle.{audit_law.specs.events.Settings.change_to, std.{proofs.lemmas.Option.slice_get_read}}
 use Rattle.{std.proofs.Common.{◌++◌, ◌∙◌, ◌∷◌, [], ap, length, refl, sym}, tte_units.{proofs.general_lemmas.Lists.set_length, specs.Amount.amount}}
 use Rattle.net_plan.specs.declared.event.What.TheVariants as events

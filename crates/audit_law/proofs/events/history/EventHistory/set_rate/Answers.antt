@@ -1,5 +1,7 @@
-use Rattle.audit_law.proofs.events_lemmas.{Adding.{no_ways, rate_set, same_device}, Clocking.value_ready, Keeping.{match_map, remembers_more, remembers_same}}
-use Rattle.{audit_law.proofs.events_lemmas.Looking.ready_at, std.{proofs.lemmas.Int.ints}, tte_units.proofs.general_lemmas.Lists.set_length}
+use Rattle.std.proofs.lemmas.Int.{ints}
+use Rattle.audit_law.proofs.events_lemmas.{Clocks.value_ready, Histories.{no_ways, rate_set, ready_at, same_device}}
+use Rattle.audit_law.proofs.events_lemmas.{Keeping.{match_map, remembers_more, remembers_same}}
+use Rattle.tte_units.proofs.general_lemmas.Lists.{set_length}
 use Rattle.{audit_law.specs.events.Settings.{change_to, value_at}, drift_clock.specs.Segment.{Segment, stepped_segment}}
 use Rattle.std.proofs.{Common.{◌++◌, ◌∙◌, ◌∷◌, ◌≤◌, [], ap, arith, length, refl, sym, unsigned_abs, ℕ}, lemmas.Option.slice_get_read}
 use Rattle.net_plan.specs.declared.event.What.TheVariants as events

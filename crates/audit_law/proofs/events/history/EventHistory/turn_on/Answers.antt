@@ -1,4 +1,5 @@
-use Rattle.{audit_law.proofs.events_lemmas.{Adding.{no_ways, turn_set}, Keeping.remembers_more}, tte_units.proofs.general_lemmas.Lists.set_length}
+use Rattle.audit_law.proofs.events_lemmas.{Histories.{no_ways, turn_set}, Keeping.remembers_more}
+use Rattle.tte_units.proofs.general_lemmas.Lists.{set_length}
 use Rattle.std.{proofs.{Common.{length, refl}, lemmas.Option.slice_get_read}}
 use Rattle.net_plan.specs.declared.event.What.TheVariants as events
 use Rattle.audit_law.proofs.events.history.EventHistory.turn_on.Goals as goal

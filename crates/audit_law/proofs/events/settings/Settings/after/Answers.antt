@@ -1,4 +1,5 @@
-use Rattle.{audit_law.proofs.events_lemmas.Valuing.later_found, std.{proofs.Common.{◌∙◌, ap}, specs.Prelude.drop}}
+use Rattle.std.{proofs.Common.{◌∙◌, ap}, specs.Prelude.drop}
+use Rattle.audit_law.proofs.events_lemmas.Clocks.{later_found}
 use Rattle.audit_law.proofs.events.settings.Settings.after.Goals as goal
 
 pub returns : goal.returns

@@ -1,5 +1,5 @@
 use Rattle.std.{proofs.Common.{◌-◌, arith, length, sym}}
-use Rattle.audit_law.proofs.events_lemmas.Valuing.{below, next_of, value_before, value_found}
+use Rattle.audit_law.proofs.events_lemmas.Clocks.{below, next_of, value_before, value_found}
 use Rattle.audit_law.proofs.events.settings.Settings.at.Goals as goal
 
 pub returns-then-count-eq0 : goal.returns-then-count-eq0

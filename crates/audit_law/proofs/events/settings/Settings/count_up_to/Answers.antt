@@ -1,4 +1,5 @@
-use Rattle.{audit_law.proofs.events_lemmas.Valuing.{part_at, parted}, std.proofs.lemmas.Fn.always_returns_same}
+use Rattle.std.proofs.lemmas.Fn.{always_returns_same}
+use Rattle.audit_law.proofs.events_lemmas.Clocks.{part_at, parted}
 use Rattle.std.{proofs.Common.{nat_le, of_calls, rules}}
 use Rattle.audit_law.proofs.events.settings.Settings.count_up_to.Goals as goal
 

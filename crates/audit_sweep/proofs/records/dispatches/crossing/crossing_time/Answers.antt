@@ -1,5 +1,6 @@
 use Rattle.{audit_law.specs.events.Readings.clock_reading, std.proofs.Common.{pos, subst, sym}}
-use Rattle.audit_sweep.{proofs.records_lemmas.dispatches_lemmas.OneValue.crossed_alone, specs.records.dispatches.Crossing.{IsCrossingOrNone, first_time}}
+use Rattle.audit_sweep.{proofs.records_lemmas.dispatches_lemmas.Dispatches.crossed_alone}
+use Rattle.audit_sweep.{specs.records.dispatches.Crossing.{IsCrossingOrNone, first_time}}
 use Rattle.audit_sweep.proofs.records.dispatches.crossing.crossing_time.Goals as goal
 
 pub returns : goal.returns

@@ -1,4 +1,5 @@
-use Rattle.{audit_sweep.proofs.records_lemmas.dispatches_lemmas.Rows.{by_some, have_periods}, std.proofs.{Common.{◌∙◌, sym}, lemmas.Bool.false≢true}}
+use Rattle.std.proofs.{Common.{◌∙◌, sym}, lemmas.Bool.false≢true}
+use Rattle.audit_sweep.proofs.records_lemmas.dispatches_lemmas.Dispatches.{by_some, have_periods}
 use Rattle.audit_sweep.proofs.records.dispatches.dispatching.dispatches.Goals as goal
 
 pub is_some_dispatched-requires-clause-periods : goal.is_some_dispatched-requires-clause-periods

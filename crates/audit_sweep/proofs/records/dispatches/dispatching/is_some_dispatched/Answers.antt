@@ -1,5 +1,7 @@
-use Rattle.{audit_devices.proofs.Partitions.in_index, std.proofs.Common.{arith, refl}}
-use Rattle.audit_sweep.{proofs.records_lemmas.dispatches_lemmas.Rows.{no_row, none_in_all, none_more}, specs.records.dispatches.Dispatched.IsRowDispatched}
+use Rattle.std.proofs.Common.{arith, refl}
+use Rattle.audit_devices.proofs.Kept.{in_index}
+use Rattle.audit_sweep.{proofs.records_lemmas.dispatches_lemmas.Dispatches.{no_row, none_in_all, none_more}}
+use Rattle.audit_sweep.{specs.records.dispatches.Dispatched.IsRowDispatched}
 use Rattle.audit_sweep.proofs.records.dispatches.dispatching.is_some_dispatched.Goals as goal
 
 pub loop-row-init : goal.loop-row-init

@@ -1,5 +1,6 @@
 use Rattle.{audit_devices.specs.clocks.Moments.StandsAt, run_law.specs.{records.Happenings.Happening, scenario.Scenarios.Scenario}, std.proofs.Common.{List, ℕ}}
-use Rattle.audit_sweep.{proofs.records_lemmas.dispatches_lemmas.Rows.{NoneOf, no_row}, specs.records.dispatches.Dispatched.{IsAcceptedLast, IsRowDispatched}}
+use Rattle.audit_sweep.{proofs.records_lemmas.dispatches_lemmas.Dispatches.{NoneOf, no_row}}
+use Rattle.audit_sweep.{specs.records.dispatches.Dispatched.{IsAcceptedLast, IsRowDispatched}}
 use Rattle.audit_sweep.proofs.records.dispatches.dispatching.is_some_dispatched.Given as goal
 
 abbrev pub invariant-loop-row : goal.invariant-loop-row

@@ -1,4 +1,5 @@
-use Rattle.audit_sweep.{proofs.records_lemmas.dispatches_lemmas.AtHand.{held_so, so_held}, specs.records.dispatches.Dispatched.holds}
+use Rattle.audit_sweep.{proofs.records_lemmas.dispatches_lemmas.Dispatches.{held_so, so_held}}
+use Rattle.audit_sweep.{specs.records.dispatches.Dispatched.holds}
 use Rattle.{run_law.specs.scenario.Devices.is_end, std.{proofs.Common.{◌∙◌, ap, sym}, specs.Prelude.◌==◌}}
 use Rattle.audit_sweep.proofs.records.dispatches.holding.is_at_hand.Goals as goal
 

@@ -1,4 +1,5 @@
-use Rattle.{audit_law.specs.events.Readings.scenario_under, audit_sweep.proofs.records_lemmas.dispatches_lemmas.Passing.{passed_none, passed_some}}
+use Rattle.audit_law.specs.events.Readings.{scenario_under}
+use Rattle.audit_sweep.proofs.records_lemmas.dispatches_lemmas.Dispatches.{passed_none, passed_some}
 use Rattle.std.proofs.Common.{◌∙◌, sym}
 use Rattle.audit_sweep.proofs.records.dispatches.judging.leaves_some.Goals as goal
 

@@ -1,6 +1,7 @@
 use Rattle.{audit_devices.specs.clocks.Finding.IsNextOrNone, std.proofs.Common.{◌↔◌, Bool, IsTrue, subst, sym}}
 use Rattle.audit_law.specs.events.Readings.{clock_reading}
-use Rattle.audit_sweep.{proofs.records_lemmas.dispatches_lemmas.Senders.crossed_at, specs.records.dispatches.Sent.CrossesSome}
+use Rattle.audit_sweep.{proofs.records_lemmas.dispatches_lemmas.Dispatches.crossed_at}
+use Rattle.audit_sweep.{specs.records.dispatches.Sent.CrossesSome}
 use Rattle.audit_sweep.proofs.records.dispatches.sending.crosses_some.Goals as goal
 
 pub returns : goal.returns

@@ -1,5 +1,6 @@
 use Rattle.audit_devices.specs.Showing.{IsSteady}
-use Rattle.{audit_law.specs.events.Readings.scenario_under, audit_sweep.proofs.records_lemmas.dispatches_lemmas.Senders.reached_some}
+use Rattle.audit_law.specs.events.Readings.{scenario_under}
+use Rattle.audit_sweep.proofs.records_lemmas.dispatches_lemmas.Dispatches.{reached_some}
 use Rattle.audit_sweep.proofs.records.dispatches.sending.reaches_some.Goals as goal
 
 pub returns-in-Some : goal.returns-in-Some

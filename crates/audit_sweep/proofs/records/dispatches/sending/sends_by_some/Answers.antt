@@ -1,5 +1,8 @@
-use Rattle.{audit_devices.proofs.Partitions.in_index, audit_law.specs.events.Readings.scenario_under, std.proofs.Common.{arith, refl}}
-use Rattle.audit_sweep.{proofs.records_lemmas.dispatches_lemmas.Rows.{no_row, none_in_all, none_more}, specs.records.dispatches.Sent.SendsBy}
+use Rattle.std.proofs.Common.{arith, refl}
+use Rattle.audit_devices.proofs.Kept.{in_index}
+use Rattle.audit_law.specs.events.Readings.{scenario_under}
+use Rattle.audit_sweep.{proofs.records_lemmas.dispatches_lemmas.Dispatches.{no_row, none_in_all, none_more}}
+use Rattle.audit_sweep.{specs.records.dispatches.Sent.SendsBy}
 use Rattle.audit_sweep.proofs.records.dispatches.sending.sends_by_some.Goals as goal
 
 pub loop-row-init : goal.loop-row-init

@@ -1,6 +1,7 @@
 use Rattle.{audit_devices.specs.Showing.Shows, net_plan.specs.{Belonging.HasDevice, declared.event.Event.Event}}
 use Rattle.{audit_law.specs.events.{Readings.scenario_under, Remembering.Remembers}, audit_sweep.specs.records.dispatches.Sent.SendsBy, std.proofs.Common.List}
-use Rattle.{audit_sweep.proofs.records_lemmas.dispatches_lemmas.Rows.{NoneOf, no_row}, run_law.specs.records.Happenings.{Happening, earlier}}
+use Rattle.audit_sweep.proofs.records_lemmas.dispatches_lemmas.Dispatches.{NoneOf, no_row}
+use Rattle.run_law.specs.records.Happenings.{Happening, earlier}
 use Rattle.audit_sweep.proofs.records.dispatches.sending.sends_by_some.Given as goal
 
 abbrev pub invariant-loop-row : goal.invariant-loop-row

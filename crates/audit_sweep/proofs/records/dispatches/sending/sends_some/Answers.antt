@@ -1,5 +1,6 @@
 use Rattle.{audit_devices.specs.clocks.Moments.StandsAt, std.proofs.{Common.{◌∙◌, refl, sym}, lemmas.Bool.false≢true}}
-use Rattle.{audit_law.specs.events.Readings.scenario_under, audit_sweep.proofs.records_lemmas.dispatches_lemmas.Senders.{fit_rows, some_sent}}
+use Rattle.audit_law.specs.events.Readings.{scenario_under}
+use Rattle.audit_sweep.proofs.records_lemmas.dispatches_lemmas.Dispatches.{fit_rows, some_sent}
 use Rattle.audit_sweep.proofs.records.dispatches.sending.sends_some.Goals as goal
 
 pub sends_by_some-requires-clause-rows : goal.sends_by_some-requires-clause-rows

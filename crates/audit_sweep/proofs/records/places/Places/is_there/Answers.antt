@@ -1,5 +1,6 @@
 use Rattle.{audit_sweep.proofs.records_lemmas.AscendingPlaces.{found_at, in_map, of_map}, std.proofs.lemmas.Bool.{ltb-false, ltb-true}}
-use Rattle.{run_law.{proofs.law.FirstPlaces.in_at, specs.records.{Order.IsIn, Ranks.place_of}}, std.specs.Prelude.slice_get}
+use Rattle.std.specs.Prelude.{slice_get}
+use Rattle.run_law.{proofs.law.FirstDeliveries.in_at, specs.records.{Order.IsIn, Ranks.place_of}}
 use Rattle.{std.proofs.Common.{◌∙◌, ◌≡◌, ◌≤◌, List, Some, ap, arith, length, subst, sym, ℕ}, tte_units.proofs.general_lemmas.Lists.{got_at, got_within}}
 use Rattle.audit_sweep.proofs.records.places.Places.is_there.Goals as goal
 

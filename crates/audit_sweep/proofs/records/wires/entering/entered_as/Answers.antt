@@ -1,4 +1,5 @@
-use Rattle.{audit_sweep.proofs.records_lemmas.wires_lemmas.Enters.{by_none, by_row}, std.proofs.Common.{◌∙◌, sym}}
+use Rattle.std.proofs.Common.{◌∙◌, sym}
+use Rattle.audit_sweep.proofs.records_lemmas.wires_lemmas.Wires.{by_none, by_row}
 use Rattle.audit_sweep.proofs.records.wires.entering.entered_as.Goals as goal
 
 pub returns-in-Ok-clause-is : goal.returns-in-Ok-clause-is

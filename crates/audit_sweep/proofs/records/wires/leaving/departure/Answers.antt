@@ -1,5 +1,6 @@
 use Rattle.{audit_law.specs.events.Readings.scenario_under, device_rules.specs.Answers.departure_as}
-use Rattle.audit_sweep.proofs.records_lemmas.wires_lemmas.{Givers.given_within, LeavingTimes.{departs, giver_is, not_given_departs, other_time_departs}}
+use Rattle.audit_sweep.proofs.records_lemmas.wires_lemmas.Wires
+use Wires.{departs, given_within, giver_is, not_given_departs, other_time_departs}
 use Rattle.{run_law.specs.scenario.Ways.is_cut, std.proofs.Common.{◌∙◌, ap, refl, sym}}
 use Rattle.audit_sweep.proofs.records.wires.leaving.departure.Goals as goal
 

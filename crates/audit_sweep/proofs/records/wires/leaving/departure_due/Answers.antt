@@ -1,6 +1,6 @@
 use Rattle.{audit_law.specs.events.Readings.scenario_under, std.proofs.Common.{◌<◌, ◌∙◌, ◌≤◌, ap, not, subst, sym}}
 use Rattle.tte_units.proofs.general_lemmas.Options.{some_of}
-use Rattle.audit_sweep.proofs.records_lemmas.wires_lemmas.{Givers.given_within, LeavingTimes.{broken, giver_is, later, leaving}}
+use Rattle.audit_sweep.proofs.records_lemmas.wires_lemmas.Wires.{broken, given_within, giver_is, later, leaving}
 use Rattle.audit_sweep.proofs.records.wires.leaving.departure_due.Goals as goal
 
 pub returns-then-from-time-clause-leaves : goal.returns-then-from-time-clause-leaves

@@ -1,4 +1,5 @@
-use Rattle.{audit_law.specs.events.Readings.scenario_under, audit_sweep.proofs.records_lemmas.wires_lemmas.SendLosses.{lost_elsewhere, lost_here, owed_at}}
+use Rattle.audit_law.specs.events.Readings.{scenario_under}
+use Rattle.audit_sweep.proofs.records_lemmas.wires_lemmas.Wires.{lost_elsewhere, lost_here, owed_at}
 use Rattle.audit_sweep.proofs.records.wires.losing.is_send_lost.Goals as goal
 
 pub returns-in-Some : goal.returns-in-Some

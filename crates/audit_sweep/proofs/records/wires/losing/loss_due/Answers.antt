@@ -1,5 +1,7 @@
-use Rattle.{audit_law.specs.events.Readings.scenario_under, audit_sweep.proofs.records_lemmas.wires_lemmas.SendLosses.{send_lost, sent_on, whole_way}}
-use Rattle.{device_rules.proofs.Places.read_at, std.proofs.Common.{◌<◌, ◌∙◌, ap, length, refl, subst, sym}}
+use Rattle.std.proofs.Common.{◌<◌, ◌∙◌, ap, length, refl, subst, sym}
+use Rattle.audit_law.specs.events.Readings.{scenario_under}
+use Rattle.audit_sweep.proofs.records_lemmas.wires_lemmas.Wires.{send_lost, sent_on, whole_way}
+use Rattle.device_rules.proofs.Takings.{read_at}
 use Rattle.audit_sweep.proofs.records.wires.losing.loss_due.Goals as goal
 
 pub returns-then-not-is_cut : goal.returns-then-not-is_cut

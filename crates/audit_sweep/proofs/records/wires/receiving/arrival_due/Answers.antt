@@ -1,4 +1,5 @@
-use Rattle.{audit_law.specs.events.Readings.scenario_under, audit_sweep.proofs.records_lemmas.wires_lemmas.ArrivalDebts.owed_arrival}
+use Rattle.audit_law.specs.events.Readings.{scenario_under}
+use Rattle.audit_sweep.proofs.records_lemmas.wires_lemmas.Wires.{owed_arrival}
 use Rattle.audit_sweep.proofs.records.wires.receiving.arrival_due.Goals as goal
 
 pub returns-clause-owed : goal.returns-clause-owed

@@ -1,5 +1,8 @@
-use Rattle.{audit_law.specs.events.Readings.scenario_under, audit_sweep.proofs.records_lemmas.wires_lemmas.Wires.{no_wire, received, stopped, too_late}}
-use Rattle.{device_rules.proofs.Places.read_at, schedule_tables.specs.Entries.target_by, std.proofs.lemmas.Option.slice_get_past}
+use Rattle.std.proofs.lemmas.Option.{slice_get_past}
+use Rattle.audit_law.specs.events.Readings.{scenario_under}
+use Rattle.audit_sweep.proofs.records_lemmas.wires_lemmas.Wires.{no_wire, received, stopped, too_late}
+use Rattle.device_rules.proofs.Takings.{read_at}
+use Rattle.schedule_tables.specs.Entries.{target_by}
 use Rattle.{net_plan.specs.declared.tables.Link.Link, std.proofs.Common.{◌<◌, ◌∙◌, ◌≡◌, ◌≤◌, List, None, length, refl, slice_get, subst, sym}}
 use Rattle.audit_sweep.proofs.records.wires.receiving.received_by.Goals as goal
 

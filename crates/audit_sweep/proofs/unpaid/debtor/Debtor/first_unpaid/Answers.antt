@@ -1,4 +1,4 @@
-use Rattle.audit_law.proofs.law_lemmas.Earliest.{IsOfFirst, first_of_next, first_of_none}
+use Rattle.audit_law.proofs.law_lemmas.FirstUnpaid.{IsOfFirst, first_of_next, first_of_none}
 use Rattle.audit_sweep.proofs.unpaid_lemmas.Brought.{first_of_records}
 use Rattle.audit_sweep.proofs.unpaid_lemmas.Words.{◌+◌, IsRecordDebtOf, Option, TellsFirst, arith, scenario_of, subst, sym, ℕ}
 use Rattle.audit_sweep.proofs.unpaid.debtor.Debtor.first_unpaid.Goals as goal

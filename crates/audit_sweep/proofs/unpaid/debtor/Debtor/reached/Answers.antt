@@ -1,5 +1,6 @@
 use Rattle.{audit_sweep.proofs.unpaid_lemmas.Words.{◌∙◌, ◌≡◌, ap, arith, both_ways, is_broken, scenario_of, subst, sym}, drift_clock.specs.Reach.IsReach}
-use Rattle.{drift_clock.{proofs.Reaches.one_reach, specs.transparent.Points.point_of}, std.proofs.{Common.{◌≤ℤ◌, pos, rules, ℤ}, lemmas.Int.{ints, to_z-of_z}}}
+use Rattle.std.proofs.{Common.{◌≤ℤ◌, pos, rules, ℤ}, lemmas.Int.{ints, to_z-of_z}}
+use Rattle.drift_clock.{proofs.Drifts.one_reach, specs.transparent.Points.point_of}
 use Rattle.std.specs.Int.{w128}
 use Rattle.audit_sweep.proofs.unpaid.debtor.Debtor.reached.Goals as goal
 

@@ -1,5 +1,6 @@
 use Rattle.{audit_devices.specs.Keeping.records_before, audit_law.specs.events.Readings.scenario_under, run_law.specs.control.Collections.points_of}
-use Rattle.{audit_devices.specs.stretches.Points.HasPoints, audit_sweep.proofs.unpaid_lemmas.emissions_lemmas.Owing.{are_in, emits_by, owed_by}}
+use Rattle.audit_devices.specs.stretches.Points.{HasPoints}
+use Rattle.audit_sweep.proofs.unpaid_lemmas.emissions_lemmas.Owing.{are_in, emits_by, owed_by}
 use Rattle.std.proofs.{Common.{◌∙◌, subst, sym}, lemmas.Bool.false≢true}
 use Rattle.audit_sweep.proofs.unpaid.emissions.emitting.is_owed.Goals as goal
 

@@ -1,4 +1,5 @@
-use Rattle.audit_sweep.{proofs.unpaid_lemmas.emissions_lemmas.Paying.{there_told, told_there}, specs.records.places.Placing.HasRecordAt}
+use Rattle.audit_sweep.{proofs.unpaid_lemmas.emissions_lemmas.Owing.{there_told, told_there}}
+use Rattle.audit_sweep.{specs.records.places.Placing.HasRecordAt}
 use Rattle.{audit_sweep.specs.unpaid.emissions.Emissions.sent_of, std.proofs.Common.{subst, sym}}
 use Rattle.audit_sweep.proofs.unpaid.emissions.emitting.is_told.Goals as goal
 

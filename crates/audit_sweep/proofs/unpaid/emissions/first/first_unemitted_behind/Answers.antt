@@ -1,8 +1,9 @@
 use Rattle.{audit_law.specs.collections.Kept.emissions_in, std.proofs.Common.{◌+◌, ◌-◌, ◌∙◌, ◌≡◌, FitsSigned, arith, rules, subst, sym, w64}}
 use Rattle.{audit_law.specs.{declared.collections.emitted.Emitted.Emitted, events.Reaches.IsFirstReach}, audit_sweep.specs.unpaid.emissions.Firsts.TellsFirstOf}
 use Rattle.{audit_law.specs.events.Readings.{clock_reading, scenario_under}, audit_sweep.specs.unpaid.emissions.Emissions.{IsTold, OwesBehind}}
-use Rattle.audit_sweep.proofs.unpaid_lemmas.emissions_lemmas.Entries.{emission_there, entry_points, least_short, length_there, not_negative, short_there}
-use Rattle.audit_sweep.proofs.unpaid_lemmas.emissions_lemmas.{Entries.some_points, Walking.{walk_begun, walk_none, walk_paid, walk_unpaid, walk_unreached}}
+use Rattle.audit_sweep.proofs.unpaid_lemmas.emissions_lemmas.FirstUnpaid
+use FirstUnpaid.{emission_there, entry_points, least_short, length_there, not_negative, short_there, some_points}
+use FirstUnpaid.{walk_begun, walk_none, walk_paid, walk_unpaid, walk_unreached}
 use Rattle.{std.{proofs.lemmas.Int.to_z-of_z, specs.Int.w128}, tte_units.proofs.general_lemmas.Lists.some_at}
 use Rattle.audit_sweep.proofs.unpaid.emissions.first.first_unemitted_behind.Goals as goal
 

@@ -1,6 +1,7 @@
 use Rattle.{audit_devices.specs.stretches.Keeping.Stretches, audit_sweep.specs.unpaid.emissions.Firsts.TellsFirstOf}
 use Rattle.{audit_law.specs.events.Readings.scenario_under, tte_units.proofs.general_lemmas.Lists.some_at}
-use Rattle.audit_sweep.proofs.unpaid_lemmas.emissions_lemmas.Entries.{entries_all, entries_more, entries_none, none_of_others}
+use Rattle.audit_sweep.proofs.unpaid_lemmas.emissions_lemmas.FirstUnpaid
+use FirstUnpaid.{entries_all, entries_more, entries_none, none_of_others}
 use Rattle.{audit_sweep.specs.unpaid.emissions.Emissions.{IsTold, OwesWithin}, std.proofs.Common.{◌+◌, ◌∙◌, arith, subst, sym}}
 use Rattle.audit_sweep.proofs.unpaid.emissions.first.first_unemitted_by.Goals as goal
 

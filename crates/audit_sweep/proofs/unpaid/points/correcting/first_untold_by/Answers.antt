@@ -1,5 +1,6 @@
 use Rattle.audit_sweep.proofs.unpaid_lemmas.points_lemmas.Words.{◌+◌, ◌∙◌, IsTold, OwesAt, arith, scenario_under, sym}
-use Rattle.audit_sweep.proofs.unpaid_lemmas.points_lemmas.Joining.{none_is, none_tells, paid_both, paid_less, tells_behind}
+use Rattle.audit_sweep.proofs.unpaid_lemmas.points_lemmas.FirstUnpaid
+use FirstUnpaid.{none_is, none_tells, paid_both, paid_less, tells_behind}
 use Rattle.audit_sweep.proofs.unpaid.points.correcting.first_untold_by.Goals as goal
 
 pub returns-then-is_some : goal.returns-then-is_some

@@ -1,5 +1,5 @@
 use Rattle.audit_sweep.proofs.unpaid_lemmas.points_lemmas.Words.{◌+◌, IsFirstUnpaid, IsTold, OwesAt, arith, scenario_under}
-use Rattle.audit_sweep.proofs.unpaid_lemmas.points_lemmas.{Joining.{first_behind, paid_both}, PointTimes.{told_on, told_without}}
+use Rattle.audit_sweep.proofs.unpaid_lemmas.points_lemmas.FirstUnpaid.{first_behind, paid_both, told_on, told_without}
 use Rattle.audit_sweep.proofs.unpaid.points.correcting.first_untold_within.Goals as goal
 
 pub is_untold-requires-clause-limit : goal.is_untold-requires-clause-limit

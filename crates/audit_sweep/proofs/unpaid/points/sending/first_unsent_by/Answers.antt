@@ -1,5 +1,5 @@
 use Rattle.audit_sweep.proofs.unpaid_lemmas.points_lemmas.Words.{◌+◌, ◌∙◌, IsSent, Sends, arith, scenario_under, sym}
-use Rattle.audit_sweep.proofs.unpaid_lemmas.points_lemmas.Joining.{none_is, none_tells, paid_both, tells_behind}
+use Rattle.audit_sweep.proofs.unpaid_lemmas.points_lemmas.FirstUnpaid.{none_is, none_tells, paid_both, tells_behind}
 use Rattle.audit_sweep.proofs.unpaid.points.sending.first_unsent_by.Goals as goal
 
 pub returns-then-is_some : goal.returns-then-is_some

@@ -1,5 +1,6 @@
-use Rattle.{audit_sweep.proofs.unpaid_lemmas.points_lemmas.Joining.{first_behind, paid_both}, std.specs.Prelude.◌≤ℤ◌}
-use Rattle.{audit_sweep.proofs.unpaid_lemmas.points_lemmas.Sendings.{few_crossed, first_at, paid_on, paid_silent, paid_without}, std.proofs.Common.rules}
+use Rattle.std.{proofs.Common.rules, specs.Prelude.◌≤ℤ◌}
+use Rattle.audit_sweep.proofs.unpaid_lemmas.points_lemmas.FirstUnpaid
+use FirstUnpaid.{few_crossed, first_at, first_behind, paid_both, paid_on, paid_silent, paid_without}
 use Rattle.audit_sweep.proofs.unpaid_lemmas.points_lemmas.Words.{◌+◌, ◌≤◌, IsSent, Sends, arith, ints, pos, scenario_under, subst, sym, true, value_in, ℤ}
 use Rattle.audit_sweep.proofs.unpaid.points.sending.first_unsent_within.Goals as goal
 

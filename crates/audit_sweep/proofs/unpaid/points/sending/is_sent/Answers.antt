@@ -1,4 +1,4 @@
-use Rattle.audit_sweep.proofs.unpaid_lemmas.points_lemmas.Paying.{sent_there, there_sent}
+use Rattle.audit_sweep.proofs.unpaid_lemmas.points_lemmas.Telling.{sent_there, there_sent}
 use Rattle.audit_sweep.proofs.unpaid.points.sending.is_sent.Goals as goal
 
 pub returns : goal.returns

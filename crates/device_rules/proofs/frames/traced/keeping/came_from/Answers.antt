@@ -1,5 +1,6 @@
 use Rattle.std.{proofs.Common.{◌∙◌, [], ap, sym}, specs.Option.option_map_or}
-use Rattle.device_rules.{proofs.frames_lemmas.traced_lemmas.Numbered.{held_at, octets_at}, specs.frames.traced.Keeping.{came, kept_octets}}
+use Rattle.device_rules.{proofs.frames_lemmas.traced_lemmas.Keeping.{held_at, octets_at}}
+use Rattle.device_rules.{specs.frames.traced.Keeping.{came, kept_octets}}
 use Rattle.device_rules.proofs.frames.traced.keeping.came_from.Goals as goal
 
 pub returns-in-Some-clause-held : goal.returns-in-Some-clause-held

@@ -1,5 +1,5 @@
 use Rattle.std.{proofs.Common.{◌∙◌, ap}, specs.Prelude.option_and_then}
-use Rattle.device_rules.{proofs.frames_lemmas.traced_lemmas.Numbered.frame_at, specs.frames.traced.Keeping.kept_frame}
+use Rattle.device_rules.{proofs.frames_lemmas.traced_lemmas.Keeping.frame_at, specs.frames.traced.Keeping.kept_frame}
 use Rattle.device_rules.proofs.frames.traced.keeping.frame_from.Goals as goal
 
 pub returns-in-Some : goal.returns-in-Some

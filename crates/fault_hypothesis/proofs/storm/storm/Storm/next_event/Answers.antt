@@ -1,4 +1,5 @@
-use Rattle.fault_hypothesis.proofs.{storm.storm.Storm.next_event.Goals.{else-self-steps-2, then-self-steps-2}, storm_lemmas.Within.{end_within, step_within}}
+use Rattle.fault_hypothesis.proofs.{storm.storm.Storm.next_event.Goals.{else-self-steps-2, then-self-steps-2}}
+use Rattle.fault_hypothesis.proofs.{storm_lemmas.Storms.{end_within, step_within}}
 use Rattle.{fault_hypothesis.specs.{storm.Events.{AreNoLater, time_of}}, run_law.specs.scenario.Hypothesis.IsWithinHypothesis}
 use Rattle.fault_hypothesis.specs.{declared.storm.draw.StormDraw.StormDraw, storm.{Events.IsEventOf, Progress.Progress, Words.{draw_at, draw_from}}}
 use Rattle.net_plan.specs.declared.{event.{Event.Event, What.TheVariants.End}, network.Network.Network}

@@ -1,4 +1,6 @@
-use Rattle.{lens.proofs.draw_lemmas.Marking.drafted_more, lens_svg.specs.{Clocks.clocks_with, Sketching.took_glance}, std.proofs.Common.{◌∙◌, ap}}
+use Rattle.std.proofs.Common.{◌∙◌, ap}
+use Rattle.lens.proofs.draw_lemmas.Marking.{drafted_more}
+use Rattle.lens_svg.specs.{Clocks.clocks_with, Sketching.took_glance}
 use Rattle.lens.proofs.draw.drawing.DraftRecordTaker.take.Goals as goal
 
 pub returns : goal.returns

@@ -1,7 +1,7 @@
 use Rattle.lens.specs.draw.{Answer.IsViewAnswer, Keeping.AreLanes, Naming.{IsKeptAnswer, view_of}}
 use Rattle.lens_svg.specs.Views.{Choice, View}
 use Rattle.std.proofs.Common.{◌∙◌, List, Some, ap, subst, ℕ}
-use Rattle.tte_forms.{proofs.OneAnswers.answer_widened, specs.{Answering.Answer, Putting.shown_by}}
+use Rattle.tte_forms.{proofs.Puts.answer_widened, specs.{Answering.Answer, Putting.shown_by}}
 use Rattle.lens.proofs.draw.named.DrawKeptReportCommand.put.Goals as goal
 
 pub put_draft-requires-clause-draft : goal.put_draft-requires-clause-draft

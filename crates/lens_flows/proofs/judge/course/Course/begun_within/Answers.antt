@@ -1,5 +1,6 @@
 use Rattle.{audit_devices.specs.clocks.Finding.value_in, std.proofs.{Common.{◌+◌, ◌≤ℤ◌, arith, pos, refl, rules, subst, sym, ℤ}, lemmas.Int.ints}}
-use Rattle.{audit_sweep.proofs.unpaid_lemmas.points_lemmas.Sendings.few_crossed, lens_flows.proofs.judge_lemmas.BegunCycles.{first_begun, none_begun}}
+use Rattle.audit_sweep.proofs.unpaid_lemmas.points_lemmas.FirstUnpaid.{few_crossed}
+use Rattle.lens_flows.proofs.judge_lemmas.Judging.{first_begun, none_begun}
 use Rattle.lens_flows.specs.judge.Courses.{scenario_of}
 use Rattle.lens_flows.proofs.judge.course.Course.begun_within.Goals as goal
 

@@ -1,5 +1,6 @@
 use Rattle.std.proofs.{Common.{◌+◌, ◌∙◌, arith, sym}, lemmas.Bool.false≢true}
-use Rattle.lens_flows.proofs.judge_lemmas.{Fating.{IsEndOf, end_there, made_owed, no_end, ready_stays, ready_to_end, stays_ready}, Rows.receiver_there}
+use Rattle.lens_flows.proofs.judge_lemmas.Judging
+use Judging.{IsEndOf, end_there, made_owed, no_end, ready_stays, ready_to_end, receiver_there, stays_ready}
 use Rattle.lens_flows.specs.judge.{Courses.scenario_of, Times.{IsFirstTime, NoneWithin}}
 use Rattle.lens_flows.proofs.judge.course.Course.fate.Goals as goal
 

@@ -1,4 +1,5 @@
-use Rattle.{audit_sweep.proofs.unpaid_lemmas.points_lemmas.Joining.none_is, lens_flows.proofs.judge_lemmas.Firsts.{none_both, none_tells, tells_behind}}
+use Rattle.audit_sweep.proofs.unpaid_lemmas.points_lemmas.FirstUnpaid.{none_is}
+use Rattle.lens_flows.proofs.judge_lemmas.Firsts.{none_both, none_tells, tells_behind}
 use Rattle.{lens_flows.specs.judge.Courses.scenario_of, run_law.specs.law.Safety.ReachesPlace, std.proofs.Common.{◌+◌, ◌∙◌, arith, sym}}
 use Rattle.lens_flows.proofs.judge.course.Course.first_reached.Goals as goal
 

@@ -1,4 +1,5 @@
-use Rattle.{audit_devices.specs.clocks.Finding.IsNextOrNone, lens_flows.proofs.judge_lemmas.Crossings.{first_reached, never_reached, passed}}
+use Rattle.audit_devices.specs.clocks.Finding.{IsNextOrNone}
+use Rattle.lens_flows.proofs.judge_lemmas.Judging.{first_reached, never_reached, passed}
 use Rattle.std.proofs.Common.{◌*◌, ◌+◌, arith, pos, rules, subst}
 use Rattle.{lens_flows.specs.judge.Courses.scenario_of, std.specs.Prelude.{None, Some}, tte_units.specs.Amount.amount}
 use Rattle.lens_flows.proofs.judge.course.Course.first_within.Goals as goal

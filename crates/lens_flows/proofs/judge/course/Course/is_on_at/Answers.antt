@@ -1,4 +1,5 @@
-use Rattle.{lens_flows.{proofs.judge_lemmas.Steps.shown_state, specs.judge.Courses.scenario_of}, std.proofs.lemmas.Bool.false≢true}
+use Rattle.std.proofs.lemmas.Bool.{false≢true}
+use Rattle.lens_flows.{proofs.judge_lemmas.Judging.shown_state, specs.judge.Courses.scenario_of}
 use Rattle.run_law.specs.device.States.{is_off}
 use Rattle.std.proofs.Common.{◌∙◌, ◌≡◌, ap, arith, false, refl, rules, sym}
 use Rattle.sync_state.specs.declared.state.State.{State, TheVariants.Off}

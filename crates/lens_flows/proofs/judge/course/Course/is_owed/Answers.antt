@@ -1,5 +1,6 @@
 use Rattle.std.proofs.{Common.{◌+◌, ◌∙◌, arith, refl, sym}, lemmas.Bool.false≢true}
-use Rattle.lens_flows.proofs.judge_lemmas.{Fating.{IsEndOf, end_there, made_owed, no_end_left, none_on, none_yet, not_in_step}, Rows.receiver_there}
+use Rattle.lens_flows.proofs.judge_lemmas.Judging
+use Judging.{IsEndOf, end_there, made_owed, no_end_left, none_on, none_yet, not_in_step, receiver_there}
 use Rattle.lens_flows.specs.judge.{Courses.scenario_of, Times.{IsFirstTime, NoneWithin}}
 use Rattle.lens_flows.proofs.judge.course.Course.is_owed.Goals as goal
 

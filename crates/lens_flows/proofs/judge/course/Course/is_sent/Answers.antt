@@ -1,5 +1,6 @@
 use Rattle.std.proofs.{Common.{◌∙◌, arith, inl, refl, sym}, lemmas.Bool.false≢true}
-use Rattle.lens_flows.{proofs.judge_lemmas.{Rows.{all_rows, one_more, row_off, sender_there}, Spans.span_short}, specs.judge.{Courses.scenario_of, Fates.IsRowSent}}
+use Rattle.lens_flows.{proofs.judge_lemmas.Judging.{all_rows, one_more, row_off, sender_there, span_short}}
+use Rattle.lens_flows.{specs.judge.{Courses.scenario_of, Fates.IsRowSent}}
 use Rattle.lens_flows.proofs.judge.course.Course.is_sent.Goals as goal
 
 pub returns-then-is_broken : goal.returns-then-is_broken

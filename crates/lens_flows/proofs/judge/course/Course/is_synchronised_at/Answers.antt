@@ -1,4 +1,5 @@
-use Rattle.{lens_flows.{proofs.judge_lemmas.Steps.shown_state, specs.judge.Courses.scenario_of}, std.proofs.lemmas.Bool.false≢true}
+use Rattle.std.proofs.lemmas.Bool.{false≢true}
+use Rattle.lens_flows.{proofs.judge_lemmas.Judging.shown_state, specs.judge.Courses.scenario_of}
 use Rattle.{std.proofs.Common.{◌∙◌, ◌≡◌, arith, refl, rules, sym}, sync_state.specs.declared.state.State.TheVariants.Synchronised}
 use Rattle.lens_flows.proofs.judge.course.Course.is_synchronised_at.Goals as goal
 

@@ -1,4 +1,5 @@
-use Rattle.lens_flows.{proofs.judge_lemmas.{BegunCycles.{begun_behind, no_begun, none_next}, Firsts.none_both}, specs.judge.{Beginnings.BeginsOne, Courses.scenario_of}}
+use Rattle.lens_flows.{proofs.judge_lemmas.{Firsts.none_both, Judging.{begun_behind, no_begun, none_next}}}
+use Rattle.lens_flows.{specs.judge.{Beginnings.BeginsOne, Courses.scenario_of}}
 use Rattle.std.proofs.Common.{◌+◌, ◌∙◌, arith, sym}
 use Rattle.lens_flows.proofs.judge.course.Course.next_begun.Goals as goal
 

@@ -1,5 +1,5 @@
 use Rattle.std.proofs.{Common.{◌+◌, ◌∙◌, ◌≡◌, arith, refl, rules, sym}, lemmas.Bool.false≢true}
-use Rattle.lens_flows.{proofs.judge_lemmas.Steps.{in_step, shown_state, stays_on}, specs.judge.Courses.scenario_of}
+use Rattle.lens_flows.{proofs.judge_lemmas.Judging.{in_step, shown_state, stays_on}, specs.judge.Courses.scenario_of}
 use Rattle.sync_state.specs.declared.state.State.TheVariants.{Synchronised}
 use Rattle.lens_flows.proofs.judge.course.Course.stays_in_step.Goals as goal
 

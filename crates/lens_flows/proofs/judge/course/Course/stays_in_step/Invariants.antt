@@ -1,4 +1,4 @@
-use Rattle.lens_flows.{proofs.judge_lemmas.Steps.StaysSynchronised, specs.judge.Courses.{IsCourse, scenario_of}}
+use Rattle.lens_flows.{proofs.judge_lemmas.Judging.StaysSynchronised, specs.judge.Courses.{IsCourse, scenario_of}}
 use Rattle.{net_plan.specs.declared.event.Event.Event, run_law.specs.records.Happenings.Happening, std.proofs.Common.{◌+◌, ◌-◌, ◌≤◌, List}}
 use Rattle.lens_flows.proofs.judge.course.Course.stays_in_step.Given as goal
 

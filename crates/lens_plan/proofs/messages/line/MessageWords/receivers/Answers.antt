@@ -1,5 +1,6 @@
 use Rattle.{net_plan.specs.Places.IsEndSystem, std.{proofs.lemmas.List.Elements.{All-append, All-cons, All-nil}, specs.List.All}}
-use Rattle.lens_plan.{proofs.Receivers.{receivers_first, receivers_next, receivers_stop}, specs.messages.Reading.{receiver, receivers}}
+use Rattle.lens_plan.{proofs.Askable.{receivers_first, receivers_next, receivers_stop}}
+use Rattle.lens_plan.{specs.messages.Reading.{receiver, receivers}}
 use Rattle.std.proofs.{Common.{◌∙◌, ◌∷◌, ◌≡◌, Err, Ok, [], ap, subst, sym}, lemmas.Bool.false≢true}
 use Rattle.lens_plan.proofs.messages.line.MessageWords.receivers.Goals as goal
 

@@ -1,4 +1,5 @@
-use Rattle.{drift_clock.proofs.Readings.{IsLawful, begins_at_zero, keeps_clock_laws}, precision_law.proofs.traffic_lemmas.safety_lemmas.Clocked.own}
+use Rattle.drift_clock.proofs.Readings.{IsLawful, begins_at_zero, keeps_clock_laws}
+use Rattle.precision_law.proofs.traffic_lemmas.safety_lemmas.Lawful.{own}
 use Rattle.precision_law.proofs.traffic.safety.laws.own_runs_are_safe.Goals as goal
 
 pub returns : goal.returns

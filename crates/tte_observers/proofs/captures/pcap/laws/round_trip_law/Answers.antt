@@ -1,4 +1,4 @@
-use Rattle.tte_observers.proofs.captures_lemmas.pcap_lemmas.Trips.{reads_back}
+use Rattle.tte_observers.proofs.captures_lemmas.pcap_lemmas.Packets.{reads_back}
 use Rattle.tte_observers.proofs.captures.pcap.laws.round_trip_law.Goals as goal
 
 pub returns : goal.returns

@@ -1,4 +1,4 @@
-use Rattle.tte_observers.proofs.captures_lemmas.pcap_lemmas.Stamps.{writes}
+use Rattle.tte_observers.proofs.captures_lemmas.pcap_lemmas.Packets.{writes}
 use Rattle.tte_observers.proofs.captures.pcap.writing.make_stamp.Goals as goal
 
 pub returns : goal.returns

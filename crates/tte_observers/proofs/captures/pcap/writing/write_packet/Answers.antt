@@ -1,6 +1,7 @@
 use Rattle.std.proofs.Common.{◌++◌, ◌+◌, ◌-◌, ◌∙◌, ◌≡◌, drop, length}
 use borrow.Rule.Slice.PartMut.{post_of}
-use Rattle.tte_observers.{proofs.captures_lemmas.pcap_lemmas.Stamps.{length-stamp_octets, written_front}, specs.captures.pcap.Writing.stamp_octets}
+use Rattle.tte_observers.{proofs.captures_lemmas.pcap_lemmas.Packets.{length-stamp_octets, written_front}}
+use Rattle.tte_observers.{specs.captures.pcap.Writing.stamp_octets}
 use Rattle.tte_observers.proofs.captures.pcap.writing.write_packet.Goals as goal
 
 pub returns-clause-front : goal.returns-clause-front

@@ -1,6 +1,8 @@
-use Rattle.{tte_observers.proofs.captures_lemmas.wires_lemmas.Along.{IsOwn, lines, way_along, way_sees, way_stops}, world_drive.specs.Observing.FailsBy}
-use Rattle.tte_observers.proofs.captures_lemmas.wires_lemmas.{Ended.{ends_all, ends_fault}, Words.{◌∙◌, [], ap, fault_status, subst, sym}}
+use Rattle.tte_observers.proofs.captures_lemmas.wires_lemmas.{Words.{◌∙◌, [], ap, fault_status, subst, sym}}
+use Rattle.tte_observers.proofs.captures_lemmas.wires_lemmas.Along.{IsOwn, ends_all, ends_fault, lines, way_along}
+use Rattle.tte_observers.proofs.captures_lemmas.wires_lemmas.Along.{way_sees, way_stops}
 use Rattle.tte_traces.proofs.Ends.{ends_for, ends_memory, ends_read, ends_unpassed, ends_write, memory_cause}
+use Rattle.world_drive.specs.Observing.{FailsBy}
 use Rattle.tte_traces.{proofs.Taken.gave_none, specs.Taking.GaveEvents}
 use Rattle.tte_observers.proofs.captures.wires.running.follow_way.Goals as goal
 

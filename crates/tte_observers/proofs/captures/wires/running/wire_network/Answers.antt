@@ -1,5 +1,6 @@
-use Rattle.{net_plan.specs.Bearers.{HasNoBearer, link_names}, tte_forms.{proofs.Puts.Ends-gives, specs.declared.status.Status.TheVariants.NameRefused}}
-use Rattle.tte_observers.proofs.captures_lemmas.wires_lemmas.Networks.{named_given, nameless_given}
+use Rattle.net_plan.specs.Bearers.{HasNoBearer, link_names}
+use Rattle.tte_forms.{proofs.Puts.Ends-gives, specs.declared.status.Status.TheVariants.NameRefused}
+use Rattle.tte_observers.proofs.captures_lemmas.wires_lemmas.Along.{named_given, nameless_given}
 use Rattle.tte_observers.proofs.captures_lemmas.wires_lemmas.Words.{IsNamed, Network, PutsLines-none, [], inl, inr, shown_by, subst}
 use Rattle.tte_observers.proofs.captures.wires.running.wire_network.Goals as goal
 

@@ -1,4 +1,5 @@
-use Rattle.{tte_observers.proofs.captures_lemmas.wires_lemmas.{Seen.seen_first, Words.told_by}, tte_traces.proofs.Sources.no_memory}
+use Rattle.tte_observers.proofs.captures_lemmas.wires_lemmas.{Seen.seen_first, Words.told_by}
+use Rattle.tte_traces.proofs.Ends.{no_memory}
 use Rattle.tte_observers.proofs.captures_lemmas.wires_lemmas.Words.{HasLink, IsCapture, LinkId, RunEnds, Way, refl, settled_lines, shown_by, subst, sym}
 use Rattle.tte_observers.proofs.captures.wires.running.wire_way.Goals as goal
 

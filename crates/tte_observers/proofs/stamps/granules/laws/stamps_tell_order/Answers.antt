@@ -1,4 +1,4 @@
-use Rattle.tte_observers.proofs.stamps_lemmas.granules_lemmas.Order.{tell_order}
+use Rattle.tte_observers.proofs.stamps_lemmas.granules_lemmas.Stamped.{tell_order}
 use Rattle.tte_observers.proofs.stamps.granules.laws.stamps_tell_order.Goals as goal
 
 pub returns : goal.returns

@@ -1,6 +1,6 @@
 use Rattle.tte_observers.proofs.stamps_lemmas.Words.{◌++◌, ◌∙◌, ◌∷◌, ◌≡◌, Network, [], ap, device_name, length, stamp_line, stamp_of, subst, sym}
 use Rattle.std.{proofs.{Common.{◌<◌, of_z, rules, to_z}, lemmas.Int.to_z-of_z}, specs.Int.{w128, w64}}
-use Rattle.tte_observers.proofs.stamps_lemmas.OneStamp.{none_put, one_fails, one_put}
+use Rattle.tte_observers.proofs.stamps_lemmas.LineStamps.{none_put, one_fails, one_put}
 use Rattle.tte_observers.proofs.stamps.stamper.Stamper.put_stamp.Goals as goal
 
 pub local_before-requires-clause-there : goal.local_before-requires-clause-there

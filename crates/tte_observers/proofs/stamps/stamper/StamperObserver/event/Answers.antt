@@ -1,5 +1,6 @@
 use Rattle.tte_observers.proofs.stamps_lemmas.Words.{◌++◌, ◌∙◌, ◌∷◌, Note, [], ap, line_at, line_stamps, subst, sym}
-use Rattle.tte_observers.{proofs.stamps_lemmas.{EventLines.{at_line, may_stamp}, Stamped.{seen_go, stamps_go}}, specs.stamps.Stamping.PutsAll}
+use Rattle.tte_observers.{proofs.stamps_lemmas.{EventLines.{at_line, may_stamp}, Stamped.{seen_go, stamps_go}}}
+use Rattle.tte_observers.{specs.stamps.Stamping.PutsAll}
 use Rattle.tte_observers.proofs.stamps.stamper.StamperObserver.event.Goals as goal
 
 pub put_stamps-requires-clause-may : goal.put_stamps-requires-clause-may

@@ -1,4 +1,6 @@
-use Rattle.{std.proofs.Common.{◌∙◌, ap, sym}, tte_observers.{proofs.votes_lemmas.ballots_lemmas.Ballots.ballots_none, specs.votes.ballots.Keeping.delivery_in}}
+use Rattle.std.proofs.Common.{◌∙◌, ap, sym}
+use Rattle.tte_observers.{proofs.votes_lemmas.ballots_lemmas.Ballots.ballots_none}
+use Rattle.tte_observers.{specs.votes.ballots.Keeping.delivery_in}
 use Rattle.tte_observers.proofs.votes.ballots.keeping.take_record.Goals as goal
 
 pub returns-in-Some : goal.returns-in-Some

@@ -1,4 +1,5 @@
-use Rattle.tte_observers.proofs.votes_lemmas.{Loops.number_given, Words.{◌++◌, ◌+◌, ◌∷◌, ◌≡◌, HoldsVotes, Note, [], length, subst, sym}}
+use Rattle.tte_observers.proofs.votes_lemmas.{VoteLines.number_given}
+use Rattle.tte_observers.proofs.votes_lemmas.{Words.{◌++◌, ◌+◌, ◌∷◌, ◌≡◌, HoldsVotes, Note, [], length, subst, sym}}
 use Rattle.tte_observers.proofs.votes.voter.VoterObserver.record.Goals as goal
 
 pub returns-in-Ok-clause-goes : goal.returns-in-Ok-clause-goes

@@ -1,4 +1,5 @@
-use Rattle.{run_law.specs.declared.note.Note.Note, tte_traces.{proofs.storms_lemmas.Seen.{room_for, seen_event}, specs.storms.summary.Counting.counted_as}}
+use Rattle.run_law.specs.declared.note.Note.{Note}
+use Rattle.tte_traces.{proofs.storms_lemmas.Summed.{room_for, seen_event}, specs.storms.summary.Counting.counted_as}
 use Rattle.{std.proofs.Common.{◌++◌, ◌∷◌, [], ap, refl, sym}, world_drive.specs.Observing.told_by}
 use Rattle.tte_traces.proofs.storms.counting.SeenObserver.event.Goals as goal
 

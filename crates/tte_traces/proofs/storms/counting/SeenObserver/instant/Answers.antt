@@ -1,6 +1,8 @@
 use Rattle.{std.specs.Int.w64, tte_units.specs.Amount.amount}
 use Rattle.{std.proofs.Common.{◌≡◌, inl, inr, of_z, refl, rules, subst, sym, to_z}, tte_traces.proofs.storms_lemmas.Locals.{less_kept, most_kept, same_kept}}
-use Rattle.{std.proofs.lemmas.Int.to_z-of_z, tte_traces.proofs.storms_lemmas.Seen.seen_settled, world_drive.specs.Observing.{IsCompleteExact, told_by}}
+use Rattle.std.proofs.lemmas.Int.{to_z-of_z}
+use Rattle.tte_traces.proofs.storms_lemmas.Summed.{seen_settled}
+use Rattle.world_drive.specs.Observing.{IsCompleteExact, told_by}
 use Rattle.tte_traces.proofs.storms.counting.SeenObserver.instant.Goals as goal
 
 pub spread_at-spread-requires-clause-same : goal.spread_at-spread-requires-clause-same

@@ -1,5 +1,6 @@
 use Rattle.std.proofs.Common.{◌∙◌, ap, refl}
-use Rattle.tte_traces.{proofs.storms_lemmas.Seen.{behind_events, room_for, seen_record}, specs.storms.{Counts.corrects, summary.Counting.counted_as}}
+use Rattle.tte_traces.{proofs.storms_lemmas.Summed.{behind_events, room_for, seen_record}}
+use Rattle.tte_traces.{specs.storms.{Counts.corrects, summary.Counting.counted_as}}
 use Rattle.tte_traces.proofs.storms.counting.SeenObserver.record.Goals as goal
 
 pub add-requires : goal.add-requires

@@ -1,4 +1,5 @@
-use Rattle.{std.proofs.Common.refl, tte_traces.proofs.storms_lemmas.Drawn.storm_first}
+use Rattle.std.proofs.Common.{refl}
+use Rattle.tte_traces.proofs.storms_lemmas.Drawn.{storm_first}
 use Rattle.tte_traces.proofs.storms.events.StormEvents.new.Goals as goal
 
 pub returns : goal.returns

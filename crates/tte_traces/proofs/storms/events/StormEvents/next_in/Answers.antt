@@ -1,5 +1,6 @@
 use Rattle.{fault_hypothesis.specs.Watching.Watches, std.proofs.Common.{◌*◌, ◌++◌, ◌+◌, ◌∷◌, ◌≡◌}}
-use Rattle.tte_traces.{proofs.storms_lemmas.Drawn.{IsDrawnFor, all_ended, fewer_left, gives_one, may_give, within_now}, specs.{declared.storms.events.StormEvents.StormEvents, storms.Storms.IsStormTo}}
+use Rattle.tte_traces.{proofs.storms_lemmas.Drawn.{IsDrawnFor, all_ended, fewer_left, gives_one, may_give, within_now}}
+use Rattle.tte_traces.{specs.{declared.storms.events.StormEvents.StormEvents, storms.Storms.IsStormTo}}
 use Rattle.{fault_hypothesis.specs.storm.Progress.Progress, std.proofs.Common.{[], arith, length, refl, subst, sym}}
 use Rattle.tte_traces.proofs.storms.events.StormEvents.next_in.Goals as goal
 

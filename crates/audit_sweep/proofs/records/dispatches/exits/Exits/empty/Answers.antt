@@ -1,5 +1,5 @@
 use Rattle.std.proofs.Common.{◌++◌, ◌∙◌, ◌∷◌, ◌≡◌, [], ap, arith, length, length-append}
-use Rattle.audit_sweep.proofs.records_lemmas.dispatches_lemmas.RowsOn.{items_at, none_at, one_list}
+use Rattle.audit_sweep.proofs.records_lemmas.dispatches_lemmas.Dispatches.{items_at, none_at, one_list}
 use Rattle.audit_sweep.proofs.records.dispatches.exits.Exits.empty.Goals as goal
 
 pub loop-init : goal.loop-init

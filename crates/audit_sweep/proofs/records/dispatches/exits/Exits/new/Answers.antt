@@ -1,4 +1,5 @@
-use Rattle.{audit_sweep.proofs.records_lemmas.dispatches_lemmas.RowsOn.{all_exits, first_none, more_exits}, std.proofs.Common.{ap, arith, length}}
+use Rattle.std.proofs.Common.{ap, arith, length}
+use Rattle.audit_sweep.proofs.records_lemmas.dispatches_lemmas.Dispatches.{all_exits, first_none, more_exits}
 use Rattle.audit_sweep.proofs.records.dispatches.exits.Exits.new.Goals as goal
 
 pub loop-place-init : goal.loop-place-init

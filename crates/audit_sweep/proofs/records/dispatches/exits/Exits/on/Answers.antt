@@ -1,5 +1,5 @@
 use Rattle.std.proofs.Common.{◌≤◌, length, subst}
-use Rattle.audit_sweep.{proofs.records_lemmas.dispatches_lemmas.RowsOn.past_all}
+use Rattle.audit_sweep.proofs.records_lemmas.dispatches_lemmas.Dispatches.{past_all}
 use Rattle.audit_sweep.proofs.records.dispatches.exits.Exits.on.Goals as goal
 
 pub returns-in-None : goal.returns-in-None

@@ -1,4 +1,4 @@
-use Rattle.audit_sweep.proofs.records_lemmas.dispatches_lemmas.Occurring.{are_leavings}
+use Rattle.audit_sweep.proofs.records_lemmas.dispatches_lemmas.Dispatches.{are_leavings}
 use Rattle.audit_sweep.proofs.records.dispatches.leaving.LeavingRow.leavings.Goals as goal
 
 pub returns-clause-is : goal.returns-clause-is

@@ -1,4 +1,5 @@
-use Rattle.audit_sweep.{proofs.records_lemmas.wires_lemmas.Enters.row_becomes, specs.records.wires.Entrances.{IsEnteredAs, IsLastTaken}}
+use Rattle.audit_sweep.{proofs.records_lemmas.wires_lemmas.Wires.row_becomes}
+use Rattle.audit_sweep.{specs.records.wires.Entrances.{IsEnteredAs, IsLastTaken}}
 use Rattle.{audit_sweep.specs.declared.records.wires.entering.Entered.Entered, device_rules.specs.Answers.arrival_as, std.proofs.Common.subst}
 use Rattle.audit_sweep.proofs.records.wires.entering.Entered.becomes.Goals as goal
 

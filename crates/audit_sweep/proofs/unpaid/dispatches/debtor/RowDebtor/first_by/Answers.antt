@@ -1,4 +1,5 @@
-use Rattle.audit_sweep.{proofs.unpaid_lemmas.dispatches_lemmas.{RowDebts.first_row, RowFacts.row_fit}, specs.unpaid.dispatches.Debtors.scenario_of}
+use Rattle.audit_sweep.{proofs.unpaid_lemmas.dispatches_lemmas.RowDebts.{first_row, row_fit}}
+use Rattle.audit_sweep.{specs.unpaid.dispatches.Debtors.scenario_of}
 use Rattle.audit_sweep.proofs.unpaid.dispatches.debtor.RowDebtor.first_by.Goals as goal
 
 pub leavings-requires-clause-row : goal.leavings-requires-clause-row

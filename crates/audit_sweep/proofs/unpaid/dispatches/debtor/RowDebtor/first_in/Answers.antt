@@ -1,5 +1,6 @@
-use Rattle.audit_sweep.{proofs.unpaid_lemmas.dispatches_lemmas.RowFacts.device_there, specs.unpaid.dispatches.{Debtors.scenario_of, Frames.{IsTold, OwesFrame}}}
-use Rattle.audit_sweep.proofs.unpaid_lemmas.points_lemmas.Joining.{none_is, none_tells, paid_both, tells_behind}
+use Rattle.audit_sweep.{specs.unpaid.dispatches.{Debtors.scenario_of, Frames.{IsTold, OwesFrame}}}
+use Rattle.audit_sweep.proofs.unpaid_lemmas.{dispatches_lemmas.RowDebts.device_there}
+use Rattle.audit_sweep.proofs.unpaid_lemmas.{points_lemmas.FirstUnpaid.{none_is, none_tells, paid_both, tells_behind}}
 use Rattle.std.proofs.Common.{◌+◌, ◌∙◌, arith, sym}
 use Rattle.audit_sweep.proofs.unpaid.dispatches.debtor.RowDebtor.first_in.Goals as goal
 

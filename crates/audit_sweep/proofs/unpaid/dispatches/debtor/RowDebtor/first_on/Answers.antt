@@ -1,6 +1,8 @@
-use Rattle.{audit_devices.proofs.Partitions.in_index, audit_law.specs.law.FirstDebts.TellsFirst}
-use Rattle.audit_law.proofs.law_lemmas.Earliest.{IsOfFirst, first_of_more, first_of_next, first_of_none}
-use Rattle.audit_sweep.proofs.{records_lemmas.dispatches_lemmas.Rows.no_row, unpaid_lemmas.dispatches_lemmas.RowDebts.{IsByRow, all_rows}}
+use Rattle.audit_devices.proofs.Kept.{in_index}
+use Rattle.audit_law.{proofs.law_lemmas.FirstUnpaid.{IsOfFirst, first_of_more, first_of_next, first_of_none}}
+use Rattle.audit_law.{specs.law.FirstDebts.TellsFirst}
+use Rattle.audit_sweep.proofs.{records_lemmas.dispatches_lemmas.Dispatches.no_row}
+use Rattle.audit_sweep.proofs.{unpaid_lemmas.dispatches_lemmas.RowDebts.{IsByRow, all_rows}}
 use Rattle.audit_sweep.specs.unpaid.dispatches.{Debtors.scenario_of, Frames.IsBy}
 use Rattle.std.proofs.Common.{◌+◌, Option, slice_index_or, subst, sym, ℕ}
 use Rattle.audit_sweep.proofs.unpaid.dispatches.debtor.RowDebtor.first_on.Goals as goal

@@ -1,6 +1,7 @@
-use Rattle.audit_sweep.proofs.unpaid_lemmas.dispatches_lemmas.RowFacts.{device_there, few_left, row_fit, wide_step}
-use Rattle.audit_sweep.proofs.unpaid_lemmas.dispatches_lemmas.RowFrames.{first_at, told_on, told_silent, told_without}
-use Rattle.audit_sweep.{proofs.unpaid_lemmas.points_lemmas.Joining.{first_behind, paid_both}, specs.unpaid.dispatches.Frames.{IsTold, OwesFrame}}
+use Rattle.audit_sweep.{specs.unpaid.dispatches.Frames.{IsTold, OwesFrame}}
+use Rattle.audit_sweep.proofs.unpaid_lemmas.{points_lemmas.FirstUnpaid.{first_behind, paid_both}}
+use Rattle.audit_sweep.proofs.unpaid_lemmas.dispatches_lemmas.RowDebts
+use RowDebts.{device_there, few_left, first_at, row_fit, told_on, told_silent, told_without, wide_step}
 use Rattle.{audit_sweep.specs.unpaid.dispatches.Debtors.scenario_of, std.proofs.Common.{◌+◌, arith, rules}}
 use Rattle.audit_sweep.proofs.unpaid.dispatches.debtor.RowDebtor.first_within.Goals as goal
 

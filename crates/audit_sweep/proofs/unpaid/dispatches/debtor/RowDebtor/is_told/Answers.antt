@@ -1,5 +1,6 @@
 use Rattle.std.proofs.Common.{◌∙◌, false, sym, true}
-use Rattle.audit_sweep.{proofs.unpaid_lemmas.dispatches_lemmas.Places.told_there, specs.unpaid.dispatches.{Debtors.scenario_of, Frames.dispatch_of}}
+use Rattle.audit_sweep.{proofs.unpaid_lemmas.dispatches_lemmas.RowDebts.told_there}
+use Rattle.audit_sweep.{specs.unpaid.dispatches.{Debtors.scenario_of, Frames.dispatch_of}}
 use Rattle.audit_sweep.proofs.unpaid.dispatches.debtor.RowDebtor.is_told.Goals as goal
 
 pub returns-then-is_cut : goal.returns-then-is_cut

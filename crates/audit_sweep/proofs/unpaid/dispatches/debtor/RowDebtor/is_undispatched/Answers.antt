@@ -1,5 +1,5 @@
 use Rattle.{audit_devices.specs.clocks.Moments.StandsAt, audit_sweep.specs.unpaid.dispatches.{Debtors.scenario_of, Frames.{AreTold, LacksOne}}}
-use Rattle.audit_sweep.proofs.unpaid_lemmas.dispatches_lemmas.{Hands.{when_false, when_true}, RowFacts.{device_there, row_fit}}
+use Rattle.audit_sweep.proofs.unpaid_lemmas.dispatches_lemmas.RowDebts.{device_there, row_fit, when_false, when_true}
 use Rattle.std.proofs.{Common.{◌∙◌, refl, subst, sym}, lemmas.Bool.false≢true}
 use Rattle.audit_sweep.proofs.unpaid.dispatches.debtor.RowDebtor.is_undispatched.Goals as goal
 

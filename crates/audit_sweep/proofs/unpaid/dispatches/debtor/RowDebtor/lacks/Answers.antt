@@ -1,4 +1,5 @@
-use Rattle.audit_sweep.{proofs.unpaid_lemmas.dispatches_lemmas.Hands.lacks_by, specs.records.dispatches.Dispatched.IsAtHand}
+use Rattle.audit_sweep.{proofs.unpaid_lemmas.dispatches_lemmas.RowDebts.lacks_by}
+use Rattle.audit_sweep.{specs.records.dispatches.Dispatched.IsAtHand}
 use Rattle.{audit_sweep.specs.unpaid.dispatches.{Debtors.scenario_of, Frames.IsTold}, std.proofs.{Common.{◌∙◌, sym}, lemmas.Bool.false≢true}}
 use Rattle.audit_sweep.proofs.unpaid.dispatches.debtor.RowDebtor.lacks.Goals as goal
 

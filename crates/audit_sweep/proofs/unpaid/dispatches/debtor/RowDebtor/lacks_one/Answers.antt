@@ -1,5 +1,6 @@
 use Rattle.std.proofs.Common.{arith, subst}
-use Rattle.audit_sweep.proofs.unpaid_lemmas.dispatches_lemmas.{Hands.{none_taken, one_taken, when_false, when_true}, RowFacts.{device_there, link_there}}
+use Rattle.audit_sweep.proofs.unpaid_lemmas.dispatches_lemmas.RowDebts
+use RowDebts.{device_there, link_there, none_taken, one_taken, when_false, when_true}
 use Rattle.audit_sweep.specs.{records.dispatches.Dispatched.IsAcceptedLast, unpaid.dispatches.Debtors.scenario_of}
 use Rattle.audit_sweep.proofs.unpaid.dispatches.debtor.RowDebtor.lacks_one.Goals as goal
 

@@ -1,5 +1,6 @@
-use Rattle.device_rules.proofs.{frames.traced.trace.FrameTrace.note.Goals.{in-Err-push, in-Ok-push}, frames_lemmas.traced_lemmas.Growing.all_grow}
-use Rattle.device_rules.proofs.frames_lemmas.traced_lemmas.Further.{after_push, not_pushed, one_more_held, trace_grows, trace_more}
+use Rattle.device_rules.proofs.{frames.traced.trace.FrameTrace.note.Goals.{in-Err-push, in-Ok-push}}
+use Rattle.device_rules.proofs.frames_lemmas.traced_lemmas.Keeping.{after_push, all_grow, not_pushed, one_more_held}
+use Rattle.device_rules.proofs.frames_lemmas.traced_lemmas.Keeping.{trace_grows, trace_more}
 use Rattle.device_rules.specs.frames.traced.Keeping.{IsHeld, traced, traced_by, view_of, views_of}
 use Rattle.std.proofs.{Common.{◌∷◌, ◌≡◌, List, [], refl}, lemmas.Slice.pushed}
 use Rattle.{run_law.specs.records.Happenings.Happening, std.specs.{List.All, Prelude.map}}

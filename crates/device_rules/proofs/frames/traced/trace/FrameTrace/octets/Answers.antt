@@ -1,4 +1,5 @@
-use Rattle.device_rules.{proofs.frames_lemmas.traced_lemmas.Further.trace_shows, specs.frames.traced.Keeping.{at_number, kept_shown}}
+use Rattle.device_rules.{proofs.frames_lemmas.traced_lemmas.Keeping.trace_shows}
+use Rattle.device_rules.{specs.frames.traced.Keeping.{at_number, kept_shown}}
 use Rattle.std.proofs.Common.{◌∙◌, ◌≡◌, None, Some, ap}
 use Rattle.std.specs.Prelude.{option_and_then}
 use Rattle.device_rules.proofs.frames.traced.trace.FrameTrace.octets.Goals as goal

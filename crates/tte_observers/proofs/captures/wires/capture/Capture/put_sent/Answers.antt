@@ -1,6 +1,6 @@
 use Rattle.{drift_world.specs.Wires.IsOfNow, world_state.specs.Views.signal_as}
-use Rattle.tte_observers.proofs.captures_lemmas.wires_lemmas.Sent.{of_now, on_own_link, packet_is, sent_rank}
-use Rattle.tte_observers.proofs.captures_lemmas.wires_lemmas.{Puts.puts_none, Words.{packet_at, refl, scenario_under, subst, sym, ℕ}}
+use Rattle.tte_observers.proofs.captures_lemmas.wires_lemmas.{Words.{packet_at, refl, scenario_under, subst, sym, ℕ}}
+use Rattle.tte_observers.proofs.captures_lemmas.wires_lemmas.Puts.{of_now, on_own_link, packet_is, puts_none, sent_rank}
 use Rattle.tte_observers.proofs.captures_lemmas.wires_lemmas.Words.{◌++◌, ◌∙◌, ◌∷◌, ◌≡◌, IsSpelt, List, Note, [], amount, ap, happenings, last_happening}
 use Rattle.tte_observers.proofs.captures.wires.capture.Capture.put_sent.Goals as goal
 

@@ -1,5 +1,5 @@
 use Rattle.{std.specs.Prelude.MatchResult, world_drive.specs.Observing.Befell}
-use Rattle.tte_observers.proofs.captures_lemmas.wires_lemmas.{Befallen.{event_fails, event_goes}, Passing.{passes_failed, passes_then}}
+use Rattle.tte_observers.proofs.captures_lemmas.wires_lemmas.Puts.{event_fails, event_goes, passes_failed, passes_then}
 use Rattle.tte_observers.proofs.captures_lemmas.wires_lemmas.Words.{◌++◌, ◌∷◌, Err, Note, Ok, PassesTo, SeesWay, StopsWay, [], refl, subst, sym, told_by}
 use Rattle.tte_observers.proofs.captures.wires.capture.CaptureObserver.event.Goals as goal
 

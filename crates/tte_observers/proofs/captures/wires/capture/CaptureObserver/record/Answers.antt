@@ -1,5 +1,6 @@
-use Rattle.tte_observers.proofs.captures_lemmas.wires_lemmas.{Given.{not_carried, record_fails_first, record_fails_own, record_goes}, Sent.timely}
-use Rattle.tte_observers.proofs.captures_lemmas.wires_lemmas.Puts.{all_further, failed_further, then_all}
+use Rattle.tte_observers.proofs.captures_lemmas.wires_lemmas.{Puts.{all_further, failed_further, then_all, timely}}
+use Rattle.tte_observers.proofs.captures_lemmas.wires_lemmas.Given.{not_carried, record_fails_first, record_fails_own}
+use Rattle.tte_observers.proofs.captures_lemmas.wires_lemmas.Given.{record_goes}
 use Rattle.tte_observers.proofs.captures_lemmas.wires_lemmas.Words.{◌++◌, ◌<◌, ◌∙◌, ◌∷◌, Capture, HasLink, PutsLines-none, StopsWay, [], ap}
 use Rattle.tte_observers.proofs.captures_lemmas.wires_lemmas.Words.{is_sent_on, last_happening, packets_of, rank, scenario_under, subst, sym, told_by}
 use Rattle.tte_observers.proofs.captures.wires.capture.CaptureObserver.record.Goals as goal

@@ -1,5 +1,6 @@
 use Rattle.{std.proofs.Common.{◌<◌, ◌^◌, ◌∙◌, ◌≡◌, ap, arith}, tte_observers.specs.votes.{ballots.Keeping.key_of, tmr.Vote.payload_of}}
-use Rattle.tte_observers.proofs.votes_lemmas.ballots_lemmas.{Filled.filled, First.{first_cast, first_given, none_in, none_left, place_of_key}}
+use Rattle.tte_observers.proofs.votes_lemmas.ballots_lemmas.Ballots
+use Ballots.{filled, first_cast, first_given, none_in, none_left, place_of_key}
 use Rattle.tte_observers.proofs.votes.ballots.votes.KeptVotes.next.Goals as goal
 
 pub cast-requires-in-Some : goal.cast-requires-in-Some

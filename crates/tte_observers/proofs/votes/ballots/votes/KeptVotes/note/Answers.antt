@@ -1,4 +1,5 @@
-use Rattle.{std.proofs.Common.refl, tte_observers.proofs.votes_lemmas.ballots_lemmas.Kept.more_taken}
+use Rattle.std.proofs.Common.{refl}
+use Rattle.tte_observers.proofs.votes_lemmas.ballots_lemmas.Ballots.{more_taken}
 use Rattle.tte_observers.proofs.votes.ballots.votes.KeptVotes.note.Goals as goal
 
 pub returns : goal.returns
