@@ -45,17 +45,21 @@ impl Keys {
         ensures { self.new ≡ slice_set self.old place key }
     {
         let mut node = place + self.places;
-        if self.nodes[node] == key {
+        let nodes = self.nodes.as_mut_slice();
+        if nodes[node] == key {
             return;
         }
-        self.nodes[node] = key;
+        nodes[node] = key;
+        let mut least = key;
         'up: while node > 1 {
-            node /= 2;
-            let least = lesser(self.nodes[2 * node], self.nodes[2 * node + 1]);
-            if self.nodes[node] == least {
+            let above = node / 2;
+            // Below this one are the two nodes 2 * above and 2 * above + 1.
+            least = lesser(least, nodes[4 * above + 1 - node]);
+            if nodes[above] == least {
                 return;
             }
-            self.nodes[node] = least;
+            nodes[above] = least;
+            node = above;
         }
     }
 
