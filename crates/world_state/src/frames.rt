@@ -64,6 +64,7 @@ impl Frames {
     }
 
     /// Takes room for one more at the device.
+    #[inline(always)]
     pub fn reserve(&mut self, device: DeviceId) -> Result<(), AllocError>
         ensures items { self.new.items ≡ self.old.items }
         ensures room { OnOk result (0 < room_of self.new device.0) }
