@@ -1,7 +1,7 @@
 -- What follows a record is what the records with it show.
 use Rattle.std.proofs.Common.{arith}
 use Rattle.audit_devices.{specs.{Following.{Follows, IsMet}, declared.shown.Readings.Readings}}
-use Rattle.audit_devices.proofs.{Steps.{corrected, heard_one, joined, quiet, turned}}
+use Rattle.audit_devices.proofs.Kept.{corrected, heard_one, joined, quiet, turned}
 use Rattle.audit_devices.proofs.{Words.{silence, subst, sym, time_of, ℕ}}
 use Rattle.audit_devices.proofs.Words.{◌++◌, ◌∙◌, ◌∷◌, ◌≡◌, Carried, Corrects, DeviceId, Effect, Happening, Hears, IsInRange, Joins, List, Network, NoneLater}
 use Rattle.audit_devices.proofs.Words.{NoteBody, Nothing, Scenario, Shown, Shows, Summarizes, Turns, [], ap, carried_by, effect_by, effect_of, points_by}

@@ -2,7 +2,8 @@
 use Rattle.std.{specs.Prelude.{OnOk, is_ok, option_and_then}}
 use Rattle.std.proofs.{Common.{Err, Ok, Result}}
 use Rattle.std.proofs.{lemmas.{Bool.{cases_order, eq-eqb, le-ltb}, List.Elements.filter_map-append}}
-use Rattle.audit_devices.proofs.{Kept.{kept_still, nothing_of, parted_on, test_chain}}
+use Rattle.audit_devices.proofs.Kept.{kept_still, nothing_of, parted_on, test_chain}
+use Rattle.run_law.proofs.{records.Order.{before_is, same_kept}, runs.Places.in_parts}
 use Rattle.audit_devices.proofs.Words
 use Words.{if◌then◌else◌, ◌&&◌, ◌++◌, ◌<◌, ◌==◌, ◌||◌, ◌∙◌, ◌∷◌, ◌≡◌, ◌⊎◌, AscendAll, Bool, Carried, DeviceId}
 use Words.{DeviceTakings, Global, Happening, History, IsFresh, IsIn, Keeps, List, Network, None, NoteBody, Option}
@@ -15,7 +16,6 @@ use Rattle.audit_devices.specs.{Taking.{coming_of, taken_at, taken_by, taking_of
 use Rattle.audit_devices.specs.{Takings.{HasTaken, TakesRightly, kept_of, taker_count}}
 use Rattle.audit_devices.specs.{declared.{shown.Readings.Readings, taking.Taken.Taken, takings.Takings.Takings}}
 use Rattle.net_plan.{proofs.SameIds.alike, specs.declared.ids.LinkId.LinkId}
-use Rattle.run_law.{proofs.{records.Order.{before_is, same_kept}, runs.Places.in_parts}}
 use Rattle.run_law.specs.{records.{Happenings.earlier, Order.{AllBefore, IsBefore}}, scenario.Devices.is_end}
 use Rattle.run_law.specs.timed.{Dispatching.{is_accepted, last_accepted}}
 use Rattle.run_law.specs.timed.{Receptions.{is_taken_before, last_taken, taken_cycle}}

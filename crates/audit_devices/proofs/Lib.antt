@@ -1,7 +1,6 @@
 pub mod Tells
-pub mod Steps
-pub mod Follows
 pub mod Kept
+pub mod Follows
 pub mod KeptAll
 pub mod Words
 pub mod stretches_lemmas

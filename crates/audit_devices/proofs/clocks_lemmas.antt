@@ -1,4 +1,2 @@
 pub mod Reached
-pub mod Pointing
 pub mod Bringing
-pub mod Seeking

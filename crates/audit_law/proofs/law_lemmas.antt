@@ -1,15 +1,11 @@
 pub mod Founded
 pub mod Sound
-pub mod AllOwed
+pub mod Owed
 pub mod Departing
 pub mod Arriving
 pub mod Permanence
-pub mod Changing
 pub mod EventDebts
 pub mod Correcting
-pub mod FirstUnpaid
-pub mod Settling
-pub mod Calm
-pub mod Steps
 pub mod SameDue
+pub mod Steps
 pub mod Words

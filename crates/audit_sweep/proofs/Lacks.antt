@@ -1,34 +1,205 @@
--- What is known of a sweep of records, which of them take frames, and what they lack first.
-use Rattle.std.{proofs.Common.{◌^◌, ◌≤ℤ◌, false, length}, specs.Prelude.{Err, Ok}}
-use Rattle.audit_devices.specs.Takings.{TakesRightly}
-use Rattle.audit_law.proofs.law_lemmas.{FirstUnpaid.{EitherOf, first_debt_law, first_of_either, first_of_more}}
-use Rattle.audit_law.proofs.law_lemmas.{Founded.of_amount}
-use Rattle.audit_law.specs.{events.Readings.HaveBegun}
-use Rattle.audit_law.specs.{law.{Debts.IsPaid, FirstDebts.{TellsFirst, earlier_of}, Owed.{Debt, IsOwed, Pays}}}
+-- What is known of a sweep of records: devices named, frames heard and kept, and what is lacking first.
+use Rattle.std.proofs.{Common.{◌-◌, ◌<◌, ◌^◌, ◌≤ℤ◌, ◌⊎◌, arith, false, filter, length, suc, zero}}
+use Rattle.std.proofs.lemmas.{Bool.{and_from, and_parts, cases_lt, eq-eqb, eqb-true, false_from_ne_true, le-ltb}}
+use Rattle.std.proofs.lemmas.{List.{Elements.{filter-append, filter_map-append}, append-nil, map-append}}
+use Rattle.std.proofs.lemmas.{Option.same_Some}
+use Rattle.std.specs.{Int.int_div_euclid, List.{after_last, last_or}, Option.option_map_or}
+use Rattle.std.specs.{Prelude.{◌+ℤ◌, ◌-ℤ◌, Err, Ok, filter_map, int_le, int_lt, nat_lt}}
+use Rattle.audit_devices.specs.{Effects.subject_of, Keeping.records_before, Reading.OnlyJoined}
+use Rattle.audit_devices.specs.{Showing.{IsAfter, IsSteady}, Takings.TakesRightly}
+use Rattle.audit_law.proofs.law_lemmas.{Correcting.{high_quiet, time_before}}
+use Rattle.audit_law.proofs.law_lemmas.{Founded.{earlier_in, joins_looking, of_amount}, Sound.due_in}
+use Rattle.audit_law.proofs.law_lemmas.Owed.{EitherOf, before_is_front, first_debt_law, first_of_either, first_of_more}
+use Rattle.audit_law.specs.{events.Readings.{HaveBegun, ReadsOn}}
+use Rattle.audit_law.specs.law.{CorrectionNumbers.{heard_since_point, standing_at}, Debts.{IsDueIn, IsPaid}}
+use Rattle.audit_law.specs.law.{Findings.{AreSound, IsSound}, FirstDebts.{TellsFirst, earlier_of}}
+use Rattle.audit_law.specs.law.{Owed.{Debt, IsOwed, Pays}}
 use Rattle.audit_sweep.proofs.Words
-use Words.{if◌then◌else◌, ◌+◌, ◌∷◌, ◌≡◌, ◌≤◌, Arrival, ArrivesAs, Bool, DeviceId, Happening, IsCaused, IsDue, IsFounded}
-use Words.{IsSwept, LinkId, List, Network, None, NoteBody, Option, Scenario, Some, Standpoint, Units, [], amount, ap}
-use Words.{arith, founded_of_sound, inl, inr, place_of, pos, refl, scenario_under, subst, sym, time_of, true, ℕ}
-use Rattle.audit_sweep.specs.{Knowing.{IsKnown, KnowsSome}, Lacking.{AreEventsTold, TellsFirstLack}}
-use Rattle.audit_sweep.specs.{Sweeping.SweepsSome, declared.{known.Known.Known, sweep.Sweep.Sweep}}
+use Words.{if◌then◌else◌, ◌&&◌, ◌++◌, ◌+◌, ◌==◌, ◌∙◌, ◌∷◌, ◌≡◌, ◌≤◌, Arrival, ArrivesAs, Bool, DeviceId, Happening}
+use Words.{IsBodyOf, IsCaused, IsDue, IsFounded, IsHeardBefore, IsIn, IsSwept, KeptRecord, LinkId, List, Network, None}
+use Words.{NoneLater, NoteBody, Option, Scenario, Some, Standpoint, Units, [], amount, ap, earlier, founded_of_sound}
+use Words.{happening, inl, inr, kept_of, key, members_in, numbered, one, place_of, pos, rank, refl, scenario_under}
+use Words.{state_before, subst, sym, time_of, true, ℕ}
+use Rattle.audit_sweep.specs.{Knowing.{AllShowByCause, AllYoung, IsKnown, KnowsSome}}
+use Rattle.audit_sweep.specs.{Lacking.{AreEventsTold, TellsFirstLack}, Passing.{IsComing, TakesWith}}
+use Rattle.audit_sweep.specs.{Ripenings.waiting_clock, Sweeping.SweepsSome}
+use Rattle.audit_sweep.specs.{records.{Keeping.{kept_of_event, record_of, records_of}, wires.Receptions.IsArriving}}
+use Rattle.audit_sweep.specs.declared.{known.Known.Known, passage.Passage.Passage, records.wires.putting.OnWire.OnWire}
+use Rattle.audit_sweep.specs.declared.{sweep.Sweep.Sweep}
 use Rattle.audit_sweep.specs.unpaid.{Clocks.IsOnlyEnd, Debtors.device_named, points.Told.AreOfDevices}
 use Rattle.audit_sweep.specs.unpaid.Sorts
 use Sorts.{IsClockDebt, IsDispatchDebt, IsEmissionDebt, IsPointDebt, IsRecordDebt, IsSendingDebt}
-use Rattle.net_plan.specs.{Ranges.IsInRange}
-use Rattle.net_plan.specs.{declared.{event.Event.Event, ids.VlId.VlId, tables.Way.TheVariants.{Down, Up}}}
-use Rattle.run_law.specs.{control.{Arrivals.{frame_fault, frame_or_fault}, Wires.{Signal, control, timed}}}
-use Rattle.run_law.specs.{declared.judgement.Reason.Reason, device.Standpoints.{clock_of, cycle_at, standpoint}}
-use Rattle.run_law.specs.{records.{Causes.device_of, Order.IsBefore}, runs.DueRecords.EndsAt}
-use Rattle.run_law.specs.{scenario.Devices.{is_end, is_parent_of, is_relay}}
+use Rattle.net_plan.{proofs.SameIds.{same_device, same_link}}
+use Rattle.net_plan.specs.{Belonging.HasDevice, Ranges.IsInRange}
+use Rattle.net_plan.specs.{declared.{event.{Event.Event, What.What}, ids.VlId.VlId, tables.Way.TheVariants.{Down, Up}}}
+use Rattle.run_law.proofs.{control.{Arrived.arrived_young, Verdicts.state_by}}
+use Rattle.run_law.proofs.{law.FirstDeliveries.{IsSplit, in_filter, same_earlier, split}}
+use Rattle.run_law.proofs.{runs.{Grow.in_two, Places.{earlier_time, in_parts}, SameSteps.same_arrival}}
+use Rattle.run_law.proofs.records.Order
+use Order.{after_more, has_passed, is_there, makes_none, none_numbered, time_before as rank_first}
+use Rattle.run_law.specs.{declared.{judgement.Reason.Reason, note.Note.Note}}
+use Rattle.run_law.specs.{records.{Causes.device_of, Order.{IsBefore, is_before}}}
+use Rattle.run_law.specs.{runs.DueRecords.{EndsAt, IsArrivedRecord}, scenario.Devices.{is_end, is_parent_of, is_relay}}
+use Rattle.run_law.specs.control.{Arrivals.{frame_fault, frame_or_fault}}
+use Rattle.run_law.specs.control.{Corrections.{correction_value, hearing_by, recorded_cycle}}
+use Rattle.run_law.specs.control.{Wires.{Arrives, Signal, control, timed}}
+use Rattle.run_law.specs.device.{LocalClocks.changes_adjustment, Standpoints.{clock_of, cycle_at, natural, standpoint}}
+use Rattle.run_law.specs.device.{States.{adjustment_after, is_joined_by}}
 use Rattle.run_law.specs.timed.{Arrivals.{entry_arrival, octets_fault, octets_or_fault, row_fault, taken_or_fault}}
 use Rattle.run_law.specs.timed.{Receptions.{arrival_of, last_taken}}
 use Rattle.schedule_tables.specs.declared.entry.Entry.{Entry}
-use Rattle.tte_units.specs.{Amount.units_of, declared.frames.pcf.Pcf.Pcf}
+use Rattle.sync_state.{proofs.VerdictLemmas.no_point}
+use Rattle.sync_state.specs.{Standing.next_point, declared.state.State.TheVariants.Integrating}
+use Rattle.sync_state.specs.{membership.Hearing.Hearing}
+use Rattle.tte_units.{proofs.general_lemmas.{Bools.picked, Lists.pushed}}
+use Rattle.tte_units.{specs.{Amount.units_of, declared.frames.pcf.Pcf.Pcf}}
 use Rattle.audit_law.specs.law.Owed as debts
 use Rattle.audit_sweep.specs.unpaid.emissions.Kept as clusters
 use Rattle.audit_sweep.specs.unpaid.points.Kept as clocks
+use Rattle.net_plan.specs.declared.event.What.TheVariants as events
 use Rattle.run_law.specs.declared.note.NoteBody.TheVariants as notes
 use Rattle.run_law.specs.declared.steps.Arrival.TheVariants as arrivals
+use Rattle.sync_state.specs.declared.state.State.TheVariants as states
+
+-- ---- what arrives by a passage
+
+pub coming : (s : Scenario) (hs : List Happening) (passage : Passage) (h : Happening) (result : Option OnWire) → numbered hs passage.cause ≡ Some h
+    → IsArriving s h passage.device passage.link passage.time result → IsComing s hs passage result
+coming s hs passage h None there none =
+    λ is x. none x.signal
+    (subst (λ g. Arrives s g passage.device passage.link passage.time x.signal)
+    (one (numbered hs passage.cause) x.putting h x.there there) x.arrives)
+coming s hs passage h (Some what) there some = record { putting = h; there = there; signal = some.0; arrives = some.1; is = some.2 }
+
+module _ (s : Scenario) (hs : List Happening) (device : DeviceId) (t : ℕ) (link : LinkId) (cause clock : ℕ) where
+  -- what is taken with a clock has a record of its arrival
+  pub taken : (is : Arrival) → ArrivesAs s hs device t link cause is → TakesWith clock is
+      → IsArrivedRecord s hs device t link cause clock
+  taken (arrivals.Waits frame point) x shows =
+      record { frame = frame; point = point; way = Up; taken = inl x; shows = shows }
+  taken (arrivals.Passes frame way) x shows =
+      record { frame = frame; point = record { 0 = pos 0 }; way = way; taken = inr (inl x); shows = shows }
+  taken (arrivals.PassesAndWaits frame way point) x shows =
+      record { frame = frame; point = point; way = way; taken = inr (inr x); shows = shows }
+  taken other x shows = absurd shows
+
+  -- and what has one was taken so
+  pub takes : {is : Arrival} → ArrivesAs s hs device t link cause is → IsArrivedRecord s hs device t link cause clock
+      → TakesWith clock is
+  takes x y = grind (arith, same_arrival)
+
+  -- something becomes of what has a record of its arrival
+  pub comes : IsArrivedRecord s hs device t link cause clock → (is : Arrival) × ArrivesAs s hs device t link cause is
+  comes y =
+      elim y.taken [
+        | inl w ↦ (arrivals.Waits y.frame y.point, w)
+        | inr r ↦ elim r [ inl p ↦ (arrivals.Passes y.frame y.way, p) | inr b ↦ (arrivals.PassesAndWaits y.frame y.way y.point, b) ]
+      ]
+
+-- ---- what a device has heard by the records before, and to which devices a frame tells the time
+
+-- ---- records that stand before a hearing
+
+rank_before : (u r t q : ℕ) (ks ls : List ℕ) → u ≡ t → IsBefore (u ∷ r ∷ ks) (t ∷ q ∷ ls) → r ≤ q
+rank_before u r t q ks ls e (inl lt) = absurd (omega (arith, lt, e))
+rank_before u r t q ks ls e (inr b) = rank_first r q ks ls b.1
+
+pub rank_below : (u r t q : ℕ) (ks : List ℕ) → u ≡ t → IsBefore (u ∷ r ∷ ks) (t ∷ q ∷ []) → r < q
+rank_below u r t q ks e (inl lt) = absurd (omega (arith, lt, e))
+rank_below u r t q ks e (inr b) = earlier_time r q ks b.1
+
+pub none_later : {t : ℕ} {judged : List Happening} → IsHeardBefore t judged → NoneLater t judged
+none_later {t} b h i =
+    time_before (time_of h) (rank h.note.body) t b.rank (key (members_in h) h.note.body) b.rest (b.before h i)
+
+joins_only : (device : DeviceId) (body : NoteBody) → rank body < 6 → is_joined_by device body ≡ changes_adjustment device body
+joins_only device (notes.Corrected other cycle by adjustment) low = absurd (omega (arith, low))
+joins_only device body low = refl
+
+pub only_joined : {t : ℕ} {judged : List Happening} (device : DeviceId) → IsHeardBefore t judged
+    → OnlyJoined judged device t
+only_joined device b h i at = grind (arith, rank_before, time_of, rank, key, members_in, joins_only)
+
+pub heard_before : (t r : ℕ) (rest : List ℕ) (hs : List Happening) → r < 6 → IsHeardBefore t (filter (λ h. is_before (place_of h) (t ∷ r ∷ rest)) hs)
+heard_before t r rest hs low = record {
+  rank = r;
+  rest = rest;
+  low = low;
+  before = λ h i. is_there (place_of h) (t ∷ r ∷ rest) (has_passed (λ (g : Happening). is_before (place_of g) (t ∷ r ∷ rest)) hs h i);
+}
+
+-- ---- a frame tells the time only to a device that is integrating
+
+-- a record of a founded list by which a frame tells a device the time finds it integrating
+joins_integrating : (s : Scenario) (hs : List Happening) (device : DeviceId) (h : Happening) → IsFounded place_of (IsDue s) hs → IsIn h hs
+    → is_joined_by device h.note.body ≡ true → state_before s hs device (time_of h) ≡ states.Integrating
+joins_integrating s hs device h founded i e =
+    let d : IsDueIn place_of (IsDue s) hs h = due_in place_of (IsDue s) hs h founded i in
+    sym (state_by s d.before hs device (time_of h) (earlier_in (IsDue s) d)) ∙ joins_looking s d.before h.note.time
+    device h.note.body e d.due.cause
+
+-- ---- what a device has heard since its last correction point, by the records before corrections
+
+-- how many correction points the clock has come to, by the records of earlier times
+abbrev come_by : Scenario → DeviceId → ℕ → List Happening → ℕ
+come_by s device by es =
+    let changed = option_map_or time_of (last_or None (filter (λ h. changes_adjustment device h.note.body) es)) 0 in
+    let first = correction_value s.network (recorded_cycle es device) in
+    let shown = pos (s.reading device (by - 1)) +ℤ (adjustment_after s es device).0 in
+    if int_lt (pos (s.reading device changed) +ℤ (adjustment_after s es device).0) first && int_le first shown
+    then natural (int_div_euclid (shown -ℤ first) s.network.cycle.0) + 1
+    else 0
+
+-- the records before corrections tell all that is heard, where none is later
+pub heard_before_corrections : (s : Scenario) (hs : List Happening) (device : DeviceId) (t : ℕ) → IsFounded place_of (IsDue s) hs → NoneLater t hs
+    → heard_since_point s (records_before (t ∷ 6 ∷ []) hs) device t ≡ heard_since_point s hs device t
+heard_before_corrections s hs device t founded none =
+    let at : IsSplit place_of hs (t ∷ 6 ∷ []) = split place_of (IsDue s) hs (t ∷ 6 ∷ []) founded in
+    let front = at.front in
+    let late = at.rest in
+    let in_hs : (h : Happening) → IsIn h late → IsIn h hs = λ h i. subst (IsIn h) (sym at.whole) (in_rest h front late i) in
+    let not_earlier : (h : Happening) → IsIn h late → t ≤ time_of h = λ h i.
+    elim (cases_lt (time_of h) t) [ inl lt ↦ absurd (at.none h i (inl lt)) | inr ge ↦ ge ] in
+    let not_lower : (h : Happening) → IsIn h late → rank h.note.body < 6 → ⊥ = grind (arith, not_earlier, in_hs, at.none) in
+    let set : Happening → Bool = λ h. nat_lt (time_of h) t && changes_adjustment device h.note.body in
+    let f : Happening → Option Hearing = λ h. hearing_by s.network device h h.note.body in
+    let kept : List Happening → Happening → Bool = λ es h. come_by s device t es == come_by s device (time_of h) es in
+    let es = earlier t front in
+    let since = after_more set front late
+    (λ h i. ap (λ (b : Bool). b && changes_adjustment device h.note.body) (le-ltb (time_of h) t (not_earlier h i))) in
+    let quiet = makes_none f (filter (kept es) late)
+    (λ h i. high_quiet s.network device h h.note.body (not_lower h (in_filter (kept es) late h i))) in
+    ap (λ gs. heard_since_point s gs device t) (before_is_front at)
+    ∙ sym (ap (λ (gs : List Happening). filter_map f (filter (kept gs) (after_last set hs)))
+    (sym (same_earlier t (6 ∷ []) at))
+    ∙ ap (λ (gs : List Happening). filter_map f (filter (kept es) (after_last set gs))) at.whole
+    ∙ ap (λ gs. filter_map f (filter (kept es) gs)) since
+    ∙ ap (filter_map f) (filter-append (kept es) (after_last set front) late)
+    ∙ filter_map-append f (filter (kept es) (after_last set front)) (filter (kept es) late)
+    ∙ ap (λ (ts : List Hearing). filter_map f (filter (kept es) (after_last set front)) ++ ts) quiet
+    ∙ append-nil (filter_map f (filter (kept es) (after_last set front))))
+  where
+    in_rest : (h : Happening) (ps qs : List Happening) → IsIn h qs → IsIn h (ps ++ qs)
+    in_rest h [] qs i = i
+    in_rest h (p ∷ ps) qs i = inr (in_rest h ps qs i)
+
+-- where the device has a next correction point, no record before corrections changes its adjustment at the time
+pub unchanged_before : (s : Scenario) (hs : List Happening) (device : DeviceId) (t cycle : ℕ) → IsFounded place_of (IsDue s) hs → NoneLater t hs
+    → next_point (standing_at s hs device t) ≡ Some cycle → IsAfter (records_before (t ∷ 6 ∷ []) hs) device t
+unchanged_before s hs device t cycle founded none next =
+    let test : Happening → Bool = λ h. is_before (place_of h) (t ∷ 6 ∷ []) in
+    record {
+      none_later = λ h i. none h (in_filter test hs h i);
+      unchanged = λ h i at. false_from_ne_true (changes_adjustment device h.note.body) (λ e.
+          let low = rank_below (time_of h) (rank h.note.body) t 6 (key (members_in h) h.note.body) at
+          (is_there (place_of h) (t ∷ 6 ∷ []) (has_passed test hs h i)) in
+          let joined = joins_only device h.note.body low ∙ e in
+          let state = joins_integrating s hs device h founded (in_filter test hs h i) joined in
+          no_point (state_before s hs device t) (standing_at s hs device t).number cycle
+          (subst (λ n. state_before s hs device n ≡ Integrating) at state) next);
+    }
+
+-- ---- what is known of a sweep of records, which of them take frames, and what they lack first
 
 -- ---- the first that the records of a report lack
 
@@ -261,3 +432,166 @@ caused_right s hs time body a = tt
 pub takes_rightly : {s : Scenario} {hs : List Happening} {h : Happening} → IsDue s hs h
     → TakesRightly s.network h.note.body
 takes_rightly {s} {hs} {h} due = caused_right s hs h.note.time h.note.body due.cause
+
+-- ---- records that are sound, and what is known of them, go on by one more
+
+-- ---- records that are sound, and one more
+
+-- records that are sound, and a further one that is sound given them
+pub sound_more : {N : Type 0} {place : N → List ℕ} (IsDue : List N → N → Type 0) {mark : List ℕ} {ns : List N}
+    {x : N} → AreSound place IsDue mark ns → IsSound place IsDue mark ns x → AreSound place IsDue mark (ns ++ x ∷ [])
+sound_more {N} {place} IsDue {mark} {ns} {x} sound one ps qs y e =
+    elim (in_two ns ps (y ∷ qs) x e) [
+      | inl none ↦ let never : y ∷ qs ≡ [] = none.0 in absurd cc
+      | inr l ↦ by l.others l.last l.whole
+    ]
+  where
+    by : (others : List N) → y ∷ qs ≡ others ++ x ∷ [] → ns ≡ ps ++ others → IsSound place IsDue mark ps y
+    by [] last whole =
+        let same : x ≡ y = cc in
+        subst (λ t. IsSound place IsDue mark ps t) same (subst (λ t. IsSound place IsDue mark t x) (whole ∙ append-nil ps) one)
+    by (o ∷ os) last whole = let same : o ≡ y = cc in sound ps os y (whole ∙ ap (λ (t : N). ps ++ t ∷ os) same)
+
+-- no records are sound
+pub sound_none : {N : Type 0} (place : N → List ℕ) (IsDue : List N → N → Type 0) (mark : List ℕ) → AreSound place IsDue mark []
+sound_none {N} place IsDue mark ps qs x e = absurd (no_part ps e)
+  where
+    no_part : (ps : List N) → [] ≡ ps ++ x ∷ qs → ⊥
+    no_part [] e = cc
+    no_part (p ∷ ps) e = cc
+
+-- ---- what is known of records goes on by the next one
+
+-- of the records with the next one, each is one of them, or the next one
+numbered_next : (hs : List Happening) (h g : Happening) (number : ℕ) → numbered (hs ++ h ∷ []) number ≡ Some g → (numbered hs number ≡ Some g) ⊎ (h ≡ g)
+numbered_next hs h g zero e = absurd cc
+numbered_next hs h g (suc before) e = grind (arith, pushed)
+
+-- ---- of no records
+
+pub none_show : (network : Network) → AllShowByCause network []
+none_show network number g e = absurd (none_numbered number g e)
+
+pub none_young : (network : Network) → AllYoung network []
+none_young network number g device link cause clock e is = absurd (none_numbered number g e)
+
+-- ---- of one more
+
+-- a record that is made of a note has what it has by its cause
+pub show_next : (network : Network) (hs : List Happening) (note : Note) → AllShowByCause network hs
+    → AllShowByCause network (hs ++ happening network hs note ∷ [])
+show_next network hs note all number g e = grind (arith, numbered_next, happening)
+
+-- a record that is due shows no transparent clock above the greatest delay
+pub young_next : {s : Scenario} {hs : List Happening} {h : Happening} → IsDue s hs h → AllYoung s.network hs
+    → AllYoung s.network (hs ++ h ∷ [])
+young_next {s} {hs} {h} due all number g device link cause clock e is =
+    elim (numbered_next hs h g number e) [
+      | inl old ↦ all number g device link cause clock old is
+      | inr new ↦
+          let says : h.note.body ≡ notes.Arrived device link cause clock = ap (λ (x : Happening). x.note.body) new ∙ is in
+          arrived_young (subst (IsCaused s hs h.note.time) says due.cause)
+    ]
+
+-- what is kept goes on by what is kept of the next
+pub records_next : (hs : List Happening) (h : Happening) (kept : KeptRecord) (old new : List KeptRecord) → old ≡ records_of hs → kept ≡ record_of h
+    → new ≡ old ++ kept ∷ [] → new ≡ records_of (hs ++ h ∷ [])
+records_next hs h kept old new before one grown =
+    grown ∙ ap (λ (rs : List KeptRecord). rs ++ kept ∷ []) before ∙ ap (λ (r : KeptRecord). records_of hs ++ r ∷ []) one
+    ∙ sym (map-append record_of hs (h ∷ []))
+
+-- the device of which a record shows something is the network's
+pub subject_there : (network : Network) (body : NoteBody) (device : DeviceId) → IsBodyOf network body → subject_of body ≡ Some device → HasDevice network device
+subject_there network (notes.Permanent other link cause point verdict) device has e =
+    let same : other ≡ device = cc in subst (HasDevice network) same has.0
+subject_there network (notes.Compressed other opened at cycle members verdict) device has e =
+    let same : other ≡ device = cc in subst (HasDevice network) same has
+subject_there network (notes.Corrected other cycle by adjustment) device has e =
+    let same : other ≡ device = cc in subst (HasDevice network) same has
+subject_there network (notes.State other state cause why) device has e =
+    let same : other ≡ device = cc in subst (HasDevice network) same has
+subject_there network body device has e = absurd cc
+
+-- a clock that reads on is steady
+pub steady : (s : Scenario) (device : DeviceId) → ReadsOn (s.reading device) → IsSteady s device
+steady s device on = record { begins = on.begins; never_falls = on.never_falls }
+
+-- ---- the devices that records name
+
+module _ (network : Network) where
+  -- what a record of the network's things names is one of its devices
+  named_there : (body : NoteBody) (device : DeviceId) → IsBodyOf network body → device_named body ≡ Some device
+      → HasDevice network device
+  named_there (notes.Event line (events.On d)) device of is = subst (HasDevice network) (same_Some d device is) of
+  named_there (notes.Event line what) device of is = absurd cc
+  named_there (notes.Arrived d link cause clock) device of is = subst (HasDevice network) (same_Some d device is) of.0
+  named_there (notes.Permanent d link cause point verdict) device of is =
+      subst (HasDevice network) (same_Some d device is) of.0
+  named_there (notes.Compressed d opened at cycle members verdict) device of is =
+      subst (HasDevice network) (same_Some d device is) of
+  named_there (notes.Sent d cycle) device of is = subst (HasDevice network) (same_Some d device is) of
+  named_there (notes.Corrected d cycle by adjustment) device of is =
+      subst (HasDevice network) (same_Some d device is) of
+  named_there (notes.State d state cause why) device of is = subst (HasDevice network) (same_Some d device is) of
+  named_there (notes.Left d link cause clock) device of is = subst (HasDevice network) (same_Some d device is) of.0
+  named_there (notes.Lost d link cause) device of is = subst (HasDevice network) (same_Some d device is) of.0
+  named_there (notes.TtSent d link cause vl cycle) device of is = subst (HasDevice network) (same_Some d device is) of.0
+  named_there (notes.Accepted d link cause vl cycle) device of is =
+      subst (HasDevice network) (same_Some d device is) of.0
+  named_there (notes.Delivered d link cause vl cycle) device of is =
+      subst (HasDevice network) (same_Some d device is) of.0
+  named_there (notes.Dropped d link cause reason) device of is = subst (HasDevice network) (same_Some d device is) of.0
+  named_there (notes.Clock d reading adjustment state) device of is =
+      subst (HasDevice network) (same_Some d device is) of
+
+  -- and so with those that records before it name
+  pub named_more : (hs : List Happening) (h : Happening) → IsBodyOf network h.note.body
+      → ((g : Happening) (device : DeviceId) → IsIn g hs → device_named g.note.body ≡ Some device
+      → HasDevice network device) → (g : Happening) (device : DeviceId) → IsIn g (hs ++ h ∷ [])
+      → device_named g.note.body ≡ Some device → HasDevice network device
+  named_more hs h of named g device i is =
+      elim (in_parts g hs (h ∷ []) i) [
+        | inl before ↦ named g device before is
+        | inr (inl same) ↦ named_there h.note.body device of
+            (ap (λ (x : Happening). device_named x.note.body) (sym same) ∙ is)
+        | inr (inr none) ↦ absurd none
+      ]
+
+-- ---- what is kept of frames that wait to be permanent
+
+module _ (device : DeviceId) (link : LinkId) (clock : ℕ) where
+  no_event : (what : What) → waiting_clock device link (kept_of_event what) ≡ Some clock → ⊥
+  no_event (events.On other) e = cc
+  no_event other e = cc
+
+  -- a record of which a clock is kept is of an arrival there
+  pub from_arrival : (body : NoteBody) → waiting_clock device link (kept_of body) ≡ Some clock
+      → (from : ℕ) × (body ≡ notes.Arrived device link from clock)
+  from_arrival (notes.Event line what) e = absurd (no_event what e)
+  from_arrival (notes.Arrived other by from shown) e =
+      let p = picked (device.0 == other.0 && link.0 == by.0) shown clock e in
+      let both = and_parts (device.0 == other.0) (link.0 == by.0) p.0 in
+      let d = same_device device other (eqb-true device.0 other.0 both.0) in
+      let l = same_link link by (eqb-true link.0 by.0 both.1) in (
+        from,
+        ap (λ (x : DeviceId). notes.Arrived x by from shown) (sym d) ∙ ap
+            (λ (x : LinkId). notes.Arrived device x from shown) (sym l)
+            ∙ ap (λ (n : ℕ). notes.Arrived device link from n) p.1,
+      )
+  from_arrival rest e = absurd cc
+
+module _ (device : DeviceId) (link : LinkId) (from clock : ℕ) where
+  -- and of such a record it is kept
+  pub arrived_clock : waiting_clock device link (kept_of (notes.Arrived device link from clock)) ≡ Some clock
+  arrived_clock = grind (arith, and_from, eq-eqb)
+
+  -- also where the record was found by its number
+  pub clock_found : (kept : KeptRecord) (h g : Happening) → kept ≡ record_of g → h ≡ g
+      → h.note.body ≡ notes.Arrived device link from clock → waiting_clock device link kept.kept ≡ Some clock
+  clock_found kept h g is same arrived =
+      ap (λ (r : KeptRecord). waiting_clock device link r.kept) is ∙ sym
+      (ap (λ (x : Happening). waiting_clock device link (kept_of x.note.body)) same)
+      ∙ ap (λ b. waiting_clock device link (kept_of b)) arrived ∙ arrived_clock
+
+pub none_some : {X : Type 0} (x : X) → None ≡ Some x → ⊥
+none_some x e = cc

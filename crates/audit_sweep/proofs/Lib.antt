@@ -1,12 +1,7 @@
 pub mod unpaid_lemmas
 pub mod records_lemmas
-pub mod NextRecords
-pub mod NamedDevices
-pub mod StandingBehind
 pub mod Lacks
+pub mod StandingBehind
 pub mod StandingPoints
-pub mod Comings
 pub mod Departures
-pub mod PermanentFrames
-pub mod Hearings
 pub mod Words

@@ -1,12 +1,8 @@
-pub mod Marks
+pub mod Debts
 pub mod Payers
 pub mod PaidArrivals
 pub mod PaidLosses
 pub mod PaidChanges
-pub mod PaidPermanences
-pub mod ClockDebts
-pub mod DepartureDebts
-pub mod Brought
 pub mod Words
 pub mod points_lemmas
 pub mod dispatches_lemmas

@@ -1,16 +1,14 @@
 -- How a collector takes points and emits clusters, and what stays true of it.
-use Rattle.std.{specs.{List.{AllByRecursion, last_or}, Prelude.{All, IfSome, int_lt}}}
+use Rattle.std.{specs.{List.{AllByRecursion, last_or}, Prelude.{All, IfSome, false, int_lt, true}}}
 use Rattle.std.proofs.Common
 use Common.{◌*ℤ◌, ◌++◌, ◌+ℤ◌, ◌+◌, ◌-ℤ◌, ◌<ℤ◌, ◌<◌, ◌^◌, ◌∙◌, ◌∷◌, ◌≡◌, ◌≢◌, ◌≤ℤ◌, ◌⊎◌, FitsSigned, IsTrue, List, None}
-use Common.{Option, Some, [], ap, arith, false, inl, inr, length, map, neg_ℤ, pos, refl, subst, sym, take, true, w64, ℕ}
-use Common.{ℤ}
+use Common.{Option, Some, [], ap, arith, inl, inr, length, map, neg_ℤ, pos, refl, subst, sym, take, w64, ℕ, ℤ}
 use Rattle.std.proofs.lemmas.{Bool.{cases_Bool, eqb-false, eqb-true}, Int.ints}
 use Rattle.std.proofs.lemmas.List.{append-nil, append_assoc, length-map, map-append}
 use Rattle.std.proofs.lemmas.List.Elements
 use Elements.{All-cons, All-from_recursion, All-map, All-push, All-weaker, recursion_from_All}
 use Rattle.compression.proofs.{Growth.{AreClusters-opened, AreClusters-within, Grows}}
 use Rattle.compression.proofs.{Middles.{IsAscending-push, middle_of-within}}
-use Rattle.compression.proofs.{Roles.{open_at-beyond, open_at-in, open_at-none}}
 use Rattle.compression.specs.{Ascent.{IsAscending, MayFollow, last_from}}
 use Rattle.compression.specs.{Clusters.{AreClusters, Cluster, Point, beyond}}
 use Rattle.compression.specs.{Collecting.{Collecting, emissions, last_joined, with_opened}}
@@ -20,6 +18,27 @@ use Rattle.compression.specs.{Row.{IsCollection, IsRow, IsSound}, Stands.{Emitte
 use Rattle.compression.specs.declared.{compressed.Compressed.Compressed}
 use Rattle.compression.specs.declared.{taken.Taken.TheVariants.{Joined, Opened, OtherCycle, Repeat}}
 use Rattle.tte_units.{proofs.general_lemmas.Lists.drop-front, specs.Reading.greatest_reading}
+
+-- ---- the role of a point by the last cluster
+
+module _ (cs : List Cluster) (c : Cluster) (reading : ℤ) (last : last_or None cs ≡ Some c) where
+  -- up to its end the last is open
+  pub open_at-in : reading ≤ℤ c.end → open_at cs reading ≡ Some c
+  open_at-in within =
+      let e : int_lt c.end reading ≡ false = grind (arith, ints) in
+      rw (last, e) refl
+
+  -- beyond it none is
+  pub open_at-beyond : c.end <ℤ reading → open_at cs reading ≡ None
+  open_at-beyond past =
+      let e : int_lt c.end reading ≡ true = grind (arith, ints) in
+      rw (last, e) refl
+
+-- nor where there is none
+open_at-none : (cs : List Cluster) (reading : ℤ) → last_or None cs ≡ None → open_at cs reading ≡ None
+open_at-none cs reading last = rw last refl
+
+-- ---- how a collector takes points and emits clusters, and what stays true of it
 
 -- ---- rows of collections, as points are taken and clusters are emitted
 

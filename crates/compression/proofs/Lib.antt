@@ -1,7 +1,6 @@
 pub mod Middles
 pub mod Collections
-pub mod Roles
-pub mod Growth
 pub mod Collectors
+pub mod Growth
 pub mod Times
 pub mod ClusterFacts

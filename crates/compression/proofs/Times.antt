@@ -6,7 +6,7 @@ use Common.{pos, refl, suc, sym, true, zero, ℕ, ℤ}
 use Rattle.std.proofs.lemmas.{Int.ints}
 use Rattle.std.proofs.lemmas.Bool
 use Bool.{and_from, and_parts, cases_Bool, cases_eq, cases_lt, eq-eqb, eqb-false, eqb-true, or_cases, or_parts}
-use Rattle.compression.proofs.{Collectors.AreClusters-unique}
+use Rattle.compression.proofs.Collectors.{AreClusters-unique}
 use Rattle.compression.proofs.Growth
 use Growth.{Counts, Ordered, Ordered-beyond, Ordered-from, all-beyond, all_at, beyond-all, counted, counts}
 use Growth.{end_of-least, end_of-one, end_of-two, firsts-has, from_beyond, held-start, in_beyond, in_cases, in_filter}

@@ -3,6 +3,5 @@ pub mod frames_lemmas
 pub mod Numbers
 pub mod Takings
 pub mod Verdicts
-pub mod KeptRows
 pub mod AtPlace
 pub mod FirstKinds

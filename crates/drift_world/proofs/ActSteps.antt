@@ -1,8 +1,10 @@
 -- A device acts once: its records are those of the law, and are put in at their places.
 use Rattle.std.{proofs.{Common.{drop, get_or, take}, lemmas.{Bool.ne_eqb, List.take-append-drop}}}
 use Rattle.std.{specs.{List.slice_get, Option.{option_and_then, option_map}, Prelude.All}}
-use Rattle.drift_world.proofs.{Foremost.made_of, Parts.{act_place_is, act_rank_is, left_no_sooner, part_most}}
-use Rattle.drift_world.proofs.{Rising.settled_in_order, Showings.shows_of, Signals.{all_put_some, have_octets}}
+use Rattle.drift_world.proofs.{Foremost.made_of, Locals.shows_of, Rising.settled_in_order}
+use Rattle.drift_world.proofs.{Signals.{all_put_some, have_octets}}
+use Rattle.drift_world.proofs.{Timings.{act_place_is, act_rank_is, left_no_sooner, part_most}}
+use Rattle.world_law.proofs.{rows.{AtHand.sender_or, Dispatching.lawful}, runs.Worlds.length_is}
 use Rattle.drift_world.proofs.{Turning.each_of}
 use Rattle.drift_world.proofs.Words
 use Words.{if◌then◌else◌, ◌++◌, ◌+◌, ◌<◌, ◌==◌, ◌∙◌, ◌∷◌, ◌≡◌, ◌≤◌, ArePutIn, AtPort, Bool, ComesFirst, DeviceId}
@@ -23,7 +25,6 @@ use Rattle.run_law.specs.{records.{Frames.tt_frame, Order.{AllBefore, behind}}, 
 use Rattle.schedule_tables.specs.{Entries.IsEntry, declared.entry.Entry.Entry}
 use Rattle.sync_state.specs.declared.{answers.Verdict.{TheVariants.{Cleared, Corrected}, Verdict}}
 use Rattle.sync_state.specs.declared.{state.State.State as Standing}
-use Rattle.world_law.proofs.{rows.{AtHand.sender_or, Dispatching.lawful}, runs.Worlds.length_is}
 use Rattle.world_law.proofs.steps_lemmas.{growing.FromZero.kept_from_zero, steps.Passed.no_task}
 use Rattle.world_law.proofs.steps_lemmas.{turns.Turns.{act_starts_late, acted_turn}}
 use Rattle.world_law.proofs.steps_lemmas.acting.{Dispatching.{IsHeldFrame, held_frame}}

@@ -1,7 +1,7 @@
 -- A device acts again and again at one instant.
 use Rattle.drift_world.{specs.Acting.{ActsOn, AreAbove, IsDueAt, IsFrom, IsLeft, StandsFrom}}
-use Rattle.drift_world.proofs.{Foremost.{higher, made_of, not_earlier}, Parts.{first_no_sooner, one_rank}}
-use Rattle.drift_world.proofs.{Showings.shows_of, Signals.{have_octets, sound_same}, Turning.each_of}
+use Rattle.drift_world.proofs.{Foremost.{higher, made_of, not_earlier}, Locals.shows_of}
+use Rattle.drift_world.proofs.{Signals.{have_octets, sound_same}, Timings.{first_no_sooner, one_rank}, Turning.each_of}
 use Rattle.drift_world.proofs.{Words.{subst, sym, world_of, ℕ}}
 use Rattle.drift_world.specs.{Parts.{IsLaterThan, IsNoSoonerLeft, part_place, part_rank}, declared.part.{Part.Part, ToDo.{ToDo, TheVariants.{Next, Now}}}}
 use Rattle.drift_world.proofs.Words.{◌+◌, ◌<◌, ◌∙◌, ◌≡◌, ◌≤◌, ChangesOnly, ComesFirst, DeviceId, Happening, IsAt, IsBefore, IsDueNow, IsHeld, IsIn, IsSound, Kept, Meaning}

@@ -3,7 +3,8 @@
 use Rattle.{drift_clock.{proofs.Histories.up_to-all, specs.{RateSteps.up_to, Readings.value_after}}, net_plan.specs.declared.event.Event.Event}
 use Rattle.drift_world.proofs.Words.{◌++◌, ◌∷◌, ◌≡◌, ◌≤◌, DeviceId, IsIn, IsLawful, List, Network, None, Option, RateStep, Some, [], amount, arith}
 use Rattle.drift_world.{proofs.Words.{cases_lt, clock_after, inl, inr, le-leb, option_map_or, rate_steps, reading_of, refl, ℕ, ℤ}, specs.Running.clock_of}
-use Rattle.{run_law.proofs.scenario.Rated.{Holds, step_at}, std.proofs.lemmas.List.{Elements.{filter-append, filter_map-append}, Sums.fold-append}}
+use Rattle.std.proofs.lemmas.List.{Elements.{filter-append, filter_map-append}, Sums.fold-append}
+use Rattle.run_law.proofs.scenario.Devices.{Holds, step_at}
 use Rattle.{run_law.specs.scenario.Rates.step_by, std.{proofs.lemmas.Bool.lt-leb, specs.List.All}}
 
 -- ---- the steps of more events

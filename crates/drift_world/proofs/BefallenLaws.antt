@@ -2,13 +2,13 @@
 use Rattle.std.specs.List.{filter_map}
 use Rattle.drift_world.{specs.declared.state.State.State}
 use Rattle.drift_world.proofs.{ActSteps.{is_put_in, one_put_in, order_put, some_put_in}, Alike.ports_at}
-use Rattle.drift_world.proofs.{Signals.{all_put_some, have_octets}}
+use Rattle.drift_world.proofs.Signals.{all_put_some, have_octets}
+use Rattle.world_law.proofs.{runs.Worlds.length_is}
+use Rattle.world_law.proofs.{steps_lemmas.befalling.EventRecords.{on_within, put_event, put_in_more, sent_on, wires_of}}
 use Rattle.run_law.proofs.law.FirstDeliveries.{numbered_within}
 use Rattle.world_law.{specs.steps.Befalling.{ArePutBy, befell_bodies, bodies_of}}
-use Rattle.world_law.proofs.{runs.Worlds.length_is}
 use Rattle.world_law.proofs.steps_lemmas.{steps.Applied.no_coming}
 use Rattle.world_law.proofs.steps_lemmas.befalling.{Befell.befell_step}
-use Rattle.world_law.proofs.steps_lemmas.befalling.{EventRecords.{on_within, put_event, put_in_more, sent_on, wires_of}}
 use Rattle.world_state.{proofs.WorldSteps.{IsFreshOf, ports_settled}}
 use Rattle.world_state.{specs.Befalling.{AreSettledBy, bare, entry_of, lost_on, record_of, sent_up, turned_on}}
 use Rattle.{drift_world.proofs.Words.InOrder, run_law.specs.records.Causes.IsOfThisTime, world_state.specs.declared.queue.Entry.Entry}

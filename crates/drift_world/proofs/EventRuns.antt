@@ -4,7 +4,7 @@ use Rattle.drift_world.proofs.Words.{Scenario, Stands, World, [], amount, ap, ap
 use Rattle.drift_world.{proofs.Words.{sym, true, ℕ, ℤ}, specs.Running.RunsBehindEvents}
 use Rattle.net_plan.specs.declared.event.Event.{Event}
 use Rattle.world_law.{specs.source.{Next.NoneDueBefore, Sources.IsSource}}
-use Rattle.world_law.proofs.{runs.{Next.none_due, TaskPlaces.placed_so, Worlds.{source_before, sourced}}}
+use Rattle.world_law.proofs.runs.{TaskPlaces.placed_so, Worlds.{none_due, source_before, sourced}}
 use Rattle.world_law.proofs.{steps_lemmas.steps.Applied.no_coming}
 use Rattle.run_law.proofs.runs.Grow.{move_mark}
 

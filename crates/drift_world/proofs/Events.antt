@@ -18,6 +18,7 @@ use Rattle.net_plan.specs.{declared.{event.Event.Event, tables.Device.Device}}
 use Rattle.precision_law.proofs.Plain.{any_is, any_of_in}
 use Rattle.run_law.proofs.{law.FirstDeliveries.in_at, records.Order.in_any}
 use Rattle.run_law.proofs.{runs.{NetworkRuns.one_more, Places.before_or_not}, scenario.Devices.broken_by}
+use Rattle.world_law.proofs.{giving.GivenParts.some_same, runs.Worlds.{event_cause, event_place}}
 use Rattle.run_law.specs.{declared.outside.Outside.TheVariants.Late, device.States.state_before}
 use Rattle.run_law.specs.{records.{Causes.IsOfThisTime, Order.AllBefore}, runs.DueRecords.IsEventRecord}
 use Rattle.run_law.specs.scenario.{Devices.is_end, Faults.{Breaks, IsBroken, TurnsOn}, Scenarios.events_up_to}
@@ -25,7 +26,6 @@ use Rattle.run_law.specs.scenario.{Ways.{is_way, is_way_of, wire_of, wire_set}}
 use Rattle.schedule_tables.proofs.Margins.{master_ends}
 use Rattle.tte_units.proofs.general_lemmas.{Bools.same_tests, Integers.whole as whole_time}
 use Rattle.world_law.{specs.world.World.{IsForward, IsFromEnd, has_outcome}}
-use Rattle.world_law.proofs.{giving.GivenParts.some_same, runs.Worlds.{event_cause, event_place}}
 use Rattle.world_law.proofs.{steps_lemmas.steps.AppliedParts.before_others}
 use Rattle.net_plan.specs.declared.event.What.TheVariants as events
 use Rattle.run_law.specs.declared.note.NoteBody.TheVariants as kinds

@@ -1,7 +1,9 @@
 -- What comes first of all that a state has under way.
 use Rattle.std.proofs.Common.{get_or, slice_get}
 use Rattle.device_rules.specs.FirstKinds.{kind_of}
-use Rattle.drift_world.proofs.{Parts.{part_least, part_most, placed_by}}
+use Rattle.drift_world.proofs.Timings.{part_least, part_most, placed_by}
+use Rattle.world_law.proofs.{frames.Proper.{IsReceiver, received}, steps_lemmas.ripening.Ripens.come_of}
+use Rattle.world_state.proofs.Queues.{port_numbers, wire_numbers}
 use Rattle.drift_world.proofs.Words
 use Words.{◌*◌, ◌+◌, ◌-◌, ◌<◌, ◌^◌, ◌∙◌, ◌∷◌, ◌≡◌, ◌≤ℤ◌, ◌≤◌, ◌⊎◌, AreFirsts, AreNotBefore, AreTimed, AreUnderWay}
 use Words.{AtPort, Content, DeviceId, Down, DueAt, Happening, HasNothingBefore, IfNone, IfSome, IsBefore, IsDue}
@@ -15,9 +17,7 @@ use Rattle.drift_world.specs.{Parts.{IsNoSooner, part_of, part_rank}, Sourcing.{
 use Rattle.drift_world.specs.{Stepping.IsActTimed, Turns.IsActive, declared.{part.Part.Part, state.State.State}}
 use Rattle.run_law.{proofs.runs.Places.before_later, specs.machines.Tasks.{IsPending, Task}}
 use Rattle.tte_units.proofs.general_lemmas.Options.{some_same}
-use Rattle.world_law.{proofs.{frames.Proper.{IsReceiver, received}, steps_lemmas.ripening.Ripens.come_of}}
 use Rattle.world_law.{specs.{source.Sources.task_place, world.{Moves.NothingBefore, World.{IsWaitingFor, port_place}}}}
-use Rattle.world_state.{proofs.Queues.{port_numbers, wire_numbers}}
 use Rattle.world_state.specs.{Views.port_at, declared.{queue.Entry.Entry, timers.Timer.Timer}}
 use Rattle.world_state.specs.{timers.Times.{AreFrom, IsFirst as IsFirstDue}}
 

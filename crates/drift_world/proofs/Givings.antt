@@ -2,7 +2,9 @@
 use Rattle.std.{proofs.{Common.slice_get, lemmas.List.Elements.All-weaker}}
 use Rattle.std.{specs.{List.filter_map, Option.option_map, Prelude.All}}
 use Rattle.drift_world.{specs.declared.state.State.State}
-use Rattle.drift_world.proofs.{Fitting.{apart_more, below_one_more}, Storings.taken_by}
+use Rattle.drift_world.proofs.{Signals.{apart_more, below_one_more}, Storings.taken_by}
+use Rattle.world_law.proofs.steps_lemmas.hearing.Receptions.{receiver_in}
+use Rattle.world_state.proofs.Queues.{given_then, ports_kept, put_from, sound_with, wires_kept}
 use Rattle.drift_world.proofs.{Turned.{given_out, link_within, puts}}
 use Rattle.drift_world.proofs.Words
 use Words.{◌+◌, ◌<◌, ◌↔◌, ◌∙◌, ◌∷◌, ◌≡◌, ◌⊎◌, AreApart, AreUnderWay, Arrived, Bool, ChangesOnly, Content, DeviceId}
@@ -11,9 +13,7 @@ use Words.{IsPermutation-sym, IsPutOn, IsStoredBy, Kept, Left, LinkId, List, Net
 use Words.{Scenario, Settled, Some, Timed, TtSent, Waits, WayState, World, ap, arith, at_port, changed_device, delay_by}
 use Words.{happening, happenings, in_permuted, inl, inr, length, link_at, map, not, numbers_of, on_wire, rank_of}
 use Words.{receiver_of, refl, settled_at, stored_as, subst, sym, waiting_as, way_from, wire_entry, world_of, ℕ}
-use Rattle.world_law.{proofs.steps_lemmas.hearing.Receptions.receiver_in}
 use Rattle.world_law.{specs.steps.Turns.{IsLaunched, IsNext, next_note}}
-use Rattle.world_state.{proofs.Queues.{given_then, ports_kept, put_from, sound_with, wires_kept}}
 use Rattle.world_state.specs.{Frames.IsOneMore}
 use Rattle.world_state.specs.{Giving.{MayBeGiven, awaited_by, control_on_wire, place_on_wire, timed_on_wire}}
 use Rattle.world_state.specs.{declared.queue.Entry.Entry}

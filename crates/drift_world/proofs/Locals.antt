@@ -1,14 +1,15 @@
 -- The local clocks of devices, as a world shows them, are those of the records.
-use Rattle.std.specs.List.{All}
+use Rattle.std.{proofs.Common.arith, specs.{List.{All, slice_get}, Option.option_map}}
 use Rattle.drift_clock.specs.Readings.{value_after}
 use Rattle.drift_world.proofs.{Agreements.{all_come, reads_value}, EventRuns.none_coming}
 use Rattle.drift_world.proofs.Words
-use Words.{◌++◌, ◌+◌, ◌<◌, ◌^◌, ◌∙◌, ◌∷◌, ◌≡◌, ◌≤◌, Bool, DeviceId, DeviceState, Happening, IfSome, IsBefore}
-use Words.{IsComplete, IsDue, IsHeld, IsIn, IsLocalClockBefore, IsScenarioRun, Kept, List, Meaning, Network, Node, Note}
-use Words.{Option, RateStep, Scenario, Shows, Stands, Units, World, [], amount, ap, append-nil, arith, breaks_at, chain}
-use Words.{false, filter, happening, happenings, inl, inr, ints, is_broken, keeps, le-leb, length, list_any}
-use Words.{local_shown, nat_le, never_self, note_of, numbered_in, place_of, rate_steps, reading_of, refl, scenario}
-use Words.{subst, suc, sym, time_of, true, world_of, ℕ, ℤ}
+use Words.{if◌then◌else◌, ◌++◌, ◌+◌, ◌<◌, ◌^◌, ◌∙◌, ◌∷◌, ◌≡◌, ◌≤◌, AreWays, AtPort, Bool, DeviceId, DeviceState, Down}
+use Words.{Happening, IfSome, IsBefore, IsComplete, IsDue, IsHeld, IsIn, IsLocalClockBefore, IsOf, IsScenarioRun, Kept}
+use Words.{LinkId, List, Meaning, Network, Node, Note, Option, RateStep, Scenario, Shows, Some, Stands, Units, Up, Way}
+use Words.{WayState, World, [], amount, ap, append-nil, breaks_at, chain, false, filter, happening, happenings, inl}
+use Words.{inr, ints, is_broken, is_cut, keeps, le-leb, length, list_any, local_shown, map, nat_le, never_self, note_of}
+use Words.{numbered_in, place_of, rate_steps, reading_of, refl, scenario, slice_get-map, subst, suc, sym, time_of, true}
+use Words.{way_as, way_from, way_now, world_of, ℕ, ℤ}
 use Rattle.drift_world.specs.{Locals.{AreSmall, HasCome, IsLocalClock, IsLocalValue}, Running.clock_of}
 use Rattle.drift_world.specs.{declared.state.State.State}
 use Rattle.net_plan.specs.declared.event.Event.{Event}
@@ -19,8 +20,36 @@ use Rattle.sync_state.specs.correction.Deviation.{IsSmall}
 use Rattle.world_law.{specs.world.World.{HaveBefallen, IsKept}}
 use Rattle.world_law.proofs.{devices.Standing.{IsWorked, all_past, all_up_to, held_shows}}
 use Rattle.world_law.proofs.{giving.GivenParts.{no_later_breaks, some_same}, runs.Worlds.length_is}
-use Rattle.world_state.specs.declared.kept.Kept.TheVariants.{Out, Sound}
+use Rattle.world_state.specs.{Leaving.{departed, departure_in}, declared.kept.Kept.TheVariants.{Out, Sound}}
 use Rattle.sync_state.specs.declared.state.State.TheVariants as states
+
+-- ---- what the parts of a state show of a scenario
+
+pub shows_of : {C M : Type 0} {reading : C → ℕ → ℕ} {stands : Meaning (Kept M)}
+    {s : Scenario} {network : Network} (state : State C M) {notes : List Note}
+    → Stands reading stands s (world_of network state) notes → IsOf reading s network state
+shows_of state old = record { same = old.same; clocks = old.clocks; broken = old.broken; ways = old.ways }
+
+module _ (s : Scenario) (now : ℕ) (ups downs : List WayState) (link : LinkId) where
+  way_is : (up : Way) (ways : List WayState) {way : WayState}
+      → slice_get (map way_as ways) link.0 ≡ Some (way_now s now link up) → slice_get ways link.0 ≡ Some way
+      → way_as way ≡ way_now s now link up
+  way_is up ways is found = some_same _ _ _ (slice_get-map way_as ways link.0 ∙ ap (option_map way_as) found) is
+
+  -- the way on which a device sends is as the scenario has it
+  pub way_by : {way : WayState} (down : Bool) → AreWays s now (map way_as ups) (map way_as downs)
+      → link.0 < length s.network.link → slice_get (if down then downs else ups) link.0 ≡ Some way
+      → way_as way ≡ way_now s now link (if down then Down else Up)
+  way_by {way} true are lt found = way_is Down downs (are.down link lt) found
+  way_by {way} false are lt found = way_is Up ups (are.up link lt) found
+
+-- the record of what leaves
+pub departure_is : (s : Scenario) (now : ℕ) (e : AtPort) {network : Network} {reading : ℕ} {cut : Bool} → network ≡ s.network
+    → is_broken s e.device now ≡ false → reading ≡ s.reading e.device now → cut ≡ is_cut s e.link (way_from s.network e.device e.link) now
+    → Some (departed network reading cut e) ≡ departure_in s now e
+departure_is s now e same sound read is = grind (arith, is_cut, way_from)
+
+-- ---- the local clocks of devices, as a world shows them, are those of the records
 
 -- ---- the values that local clocks show, where the machines' adjustments are small
 

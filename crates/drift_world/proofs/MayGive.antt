@@ -3,13 +3,13 @@ use Rattle.{world_law.specs.steps.Turns.IsNext, world_state.specs.Giving.{CameBy
 use Rattle.drift_world.{proofs.Words.{IsOwn, units_of, world_of}, specs.{Giving.{AreLow, IsToGive}, declared.state.State.State}}
 use Rattle.drift_world.proofs.Turned.{link_within}
 use Rattle.run_law.proofs.law.FirstDeliveries.{founded_at}
-use Rattle.world_law.proofs.steps_lemmas.hearing.Receptions.{receiver_in}
+use Rattle.drift_world.proofs.Words.{slice_get_within, sym, time_of, with_clock, ℕ}
+use Rattle.world_law.proofs.{frames.Proper.{arrived_so, launched_frame}, steps_lemmas.hearing.Receptions.receiver_in}
 use Rattle.drift_world.proofs.Words.{◌<◌, ◌∙◌, ◌≡◌, Arrived, ArrivedAt, Arrives, Compressed, DeviceId}
 use Rattle.drift_world.proofs.Words.{Happening, HasItsOctets, IsCaused, IsDue, IsFounded, IsInRange, LinkId, List}
 use Rattle.drift_world.proofs.Words.{Network, Note, NoteBody, Option, Pcf, Scenario, Settled, Some, Units, amount}
 use Rattle.drift_world.proofs.Words.{ap, arith, frame_by, happenings, length, link_at, numbered_in, place_of, refl}
 use Rattle.drift_world.proofs.Words.{same_Some}
-use Rattle.{drift_world.proofs.Words.{slice_get_within, sym, time_of, with_clock, ℕ}, world_law.proofs.frames.Proper.{arrived_so, launched_frame}}
 use Rattle.{run_law.{proofs.control.Arrived.arrived_young, specs.runs.DueRecords.IsArrivedRecord}, std.specs.Prelude.{option_and_then, option_map}}
 use Rattle.run_law.specs.declared.note.NoteBody.TheVariants.{Sent}
 

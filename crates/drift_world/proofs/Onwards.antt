@@ -5,7 +5,8 @@ use Rattle.std.proofs.{lemmas.List.{Elements.{All-nil, All-push}, length-replica
 use Rattle.drift_clock.specs.ClockLaws.{AlwaysBeginsAtZero, AlwaysKeepsClockLaws, KeepsClockLaws}
 use Rattle.drift_world.proofs.{Agreements.{clock_more, reads_same, reads_value}}
 use Rattle.drift_world.proofs.{Beginnings.{first_ways_are, found, found_in, none_under_way}, Events.{forward, suits}}
-use Rattle.drift_world.proofs.{Fitting.none_apart}
+use Rattle.drift_world.proofs.Signals.{none_apart}
+use Rattle.run_law.{proofs.scenario.Devices.all_within, specs.law.FirstLaws.IsEventInRange}
 use Rattle.drift_world.proofs.Words
 use Words.{◌*◌, ◌++◌, ◌+ℤ◌, ◌+◌, ◌-◌, ◌<ℤ◌, ◌<◌, ◌^◌, ◌∙◌, ◌∷◌, ◌≡◌, ◌≤ℤ◌, ◌≤◌, ◌⊎◌, AreApart, AreBelow, AreUnderWay}
 use Words.{AreWays, AreWithinHypothesis, DeviceId, Err, FitsWorld, HasItsOctets, IfOk, IsIn, IsInRange, IsLawful}
@@ -19,7 +20,6 @@ use Rattle.drift_world.specs.{Running.{HoldsATime, IsOpenTo, clock_of}, declared
 use Rattle.net_plan.{proofs.Trees.{beta_exists, rules_give_trees}}
 use Rattle.net_plan.{specs.{Bounds.{IsBeta, beta_at}, declared.event.Event.Event}}
 use Rattle.precision_law.proofs.traffic_lemmas.safety_lemmas.Lawful.{history}
-use Rattle.run_law.{proofs.scenario.Devices.all_within, specs.law.FirstLaws.IsEventInRange}
 use Rattle.schedule_tables.{proofs.Margins.shape_rules, specs.declared.rule.Rule.TheVariants.Precision}
 use Rattle.world_law.{proofs.{devices.Leaps.no_leap, steps_lemmas.steps.Passed.begun}}
 use Rattle.world_law.{specs.{device.Ready.IsSteady, source.Applying.note_of_event}}

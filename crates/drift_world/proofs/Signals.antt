@@ -1,39 +1,43 @@
 -- What is on a wire or settled: the records that put it there, and how it arrives and stays fit.
-use Rattle.std.{specs.{List.filter_map, Option.option_copied}}
-use Rattle.std.proofs.{Common.{All, Bor, option_and_then, option_map, set, slice_get}}
-use Rattle.std.proofs.{lemmas.{Bool.ne_eqb, Grind.elements}}
+use Rattle.std.{specs.{List.{IsDistinct, filter_map}, Option.option_copied, Prelude.{All, slice_get}}}
+use Rattle.std.proofs.{Common.{Bor, nat_eq, option_and_then, option_map, set}}
+use Rattle.std.proofs.lemmas.{Bool.ne_eqb, Grind.elements, List.Elements.All-filter}
+use Rattle.std.proofs.lemmas.{Map.Keys.{IsDistinct-IsPermutation, IsDistinct-cons, IsDistinct-head, IsDistinct-tail}}
 use Rattle.drift_world.{specs.{Wires.{IsOfNow, IsOnOwnLink, on_wire_in, put_by}, declared.state.State.State}}
-use Rattle.drift_world.proofs.{Alike.turns_alike, Arrivals.{control_so, on_arrival, timed_so}}
+use Rattle.drift_world.proofs.{Alike.turns_alike, Arrivals.{control_so, on_arrival, timed_so}, Beginnings.found}
 use Rattle.drift_world.proofs.Words
-use Words.{if◌then◌else◌, ◌+◌, ◌<◌, ◌==◌, ◌∙◌, ◌∷◌, ◌≡◌, ◌≤◌, ◌⊎◌, AreApart, AreBelow, AreUnderWay, Arrives, AtPort}
-use Words.{Bool, ComesFirst, Content, DeviceId, DueAt, Err, Happening, HasItsOctets, IfNone, IfSome, IsBefore, IsCaused}
-use Words.{IsDue, IsFounded, IsHeld, IsIn, IsInRange, IsPermutation, IsPermutation-sym, IsPutAt, IsSized, IsSomePut}
-use Words.{IsSound, Kept, Launch, LinkId, List, Meaning, Moment, Network, Node, None, Note, NoteBody, Ok, OnWire}
-use Words.{Option, Pcf, Port, Result, Scenario, Settled, Signal, Some, Stands, StandsFor, StandsUnder, Units, Up, VlId}
-use Words.{Way, Wire, World, [], amount, ap, arith, at_port, control, delay_at, departure_body, eq-eqb, false, field}
-use Words.{filter, frame_by, frame_from, given_of, happenings, in_filter, in_permuted, inl, inr, is_cut, is_given}
-use Words.{launched, length, map, moment_of, nat_lt, numbered, numbered_in, numbers_of, octets_by, octets_from}
-use Words.{octets_in, octets_of, on_wire, place_of, pos, rank, rank_of, reading_of, receiver_of, refl, scenario}
-use Words.{settled_as, settled_at, signal_as, signal_of, subst, suc, sym, target_by, time_of, time_on_port, timed, true}
-use Words.{units_of, way_from, wire_at, wire_place, with_clock, world_of, zero, ℕ, ℤ}
+use Words.{if◌then◌else◌, ◌+◌, ◌<◌, ◌==◌, ◌^◌, ◌∙◌, ◌∷◌, ◌≡◌, ◌≤◌, ◌⊎◌, AreApart, AreBelow, AreUnderWay, Arrives}
+use Words.{AtPort, Bool, ComesFirst, Content, DeviceId, DueAt, Err, Happening, HasItsOctets, IfNone, IfSome, IsBefore}
+use Words.{IsCaused, IsDue, IsFounded, IsHeld, IsIn, IsInRange, IsPermutation, IsPermutation-map, IsPermutation-sym}
+use Words.{IsPutAt, IsShort, IsSized, IsSomePut, IsSound, Kept, Launch, LinkId, List, Meaning, Moment, Network, Node}
+use Words.{None, Note, NoteBody, Ok, OnWire, Option, Pcf, Port, Result, Scenario, Settled, Signal, Some, Stands}
+use Words.{StandsFor, StandsUnder, Units, Up, VlId, Waits, Way, WayState, What, Wire, World, [], amount, ap, arith}
+use Words.{at_port, control, delay_at, departure_body, eq-eqb, false, field, filter, frame_by, frame_from, given_of}
+use Words.{happenings, in_all, in_filter, in_get, in_permuted, inl, inr, is_cut, is_given, launched, length, map}
+use Words.{moment_of, nat_lt, numbered, numbered_in, numbers_of, octets_by, octets_from, octets_in, octets_of, on_wire}
+use Words.{one, place_of, pos, rank, rank_of, reading_of, receiver_of, refl, scenario, settled_as, settled_at}
+use Words.{signal_as, signal_of, slice_get-get_or, subst, suc, sym, target_by, time_of, time_on_port, timed, true}
+use Words.{units_of, unwrap_or, way_from, wire_at, wire_place, with_clock, world_of, zero, ℕ, ℤ}
 use Rattle.net_plan.specs.declared.event.Event.{Event}
 use Rattle.pcf_codec.specs.{Decoding.decoded, EtherType.pcf_type, declared.refusal.PcfRefusal.PcfRefusal}
-use Rattle.run_law.proofs.{runs.Determined.same_units}
+use Rattle.run_law.proofs.{records.Order.all_of, runs.Determined.same_units}
 use Rattle.run_law.proofs.law.FirstDeliveries
 use FirstDeliveries.{IsFoundedAt, by_number, founded_at, last_in, number_is, numbered_front, numbered_within}
 use Rattle.run_law.specs.{control.Arrivals.clock_on_arrival, declared.steps.Arrival.Arrival}
 use Rattle.run_law.specs.{device.Standpoints.standpoint, records.{Frames.tt_frame, Happenings.earlier}}
-use Rattle.run_law.specs.{timed.{Dispatching.is_accepted, Receptions.{ArrivesAs, arrival_of}}}
+use Rattle.run_law.specs.{scenario.Ways.is_way_of, timed.{Dispatching.is_accepted, Receptions.{ArrivesAs, arrival_of}}}
 use Rattle.run_law.specs.machines.{Answers.arrival_at, Calls.{MayArrive, MayCall}}
 use Rattle.run_law.specs.machines.{Nodes.{arriving, last_taken_by, standpoint_at}}
-use Rattle.tte_units.proofs.general_lemmas.Lists.{some_at}
+use Rattle.tte_units.proofs.general_lemmas.{Lists.some_at, Naturals.flips}
 use Rattle.world_law.proofs.{frames.Proper.launch_signal as signal_in, giving.GivenParts.some_same}
 use Rattle.world_law.proofs.steps_lemmas.{turns.Turns.heard_turn}
 use Rattle.world_law.proofs.steps_lemmas.hearing.{Calling.may_call, OneMaster.{decoded_of, may_arrive}}
 use Rattle.world_law.proofs.steps_lemmas.hearing.{Receptions.device_there}
 use Rattle.world_law.specs.{source.Sources.IsArriving, steps.Turns.TurnsBy}
 use Rattle.world_law.specs.{world.{Calls.{HasHeard, IsSet}, Outcomes.arrival_body, World.{IsClockOf, IsOnWire}}}
-use Rattle.world_state.{proofs.{Queues.{ports_stay, wires_without}, WorldSteps.{made_type, plain_signal}}}
+use Rattle.world_state.proofs.{Queues.{ports_stay, wires_without}, WorldSteps.{made_type, plain_signal}}
+use Rattle.world_state.proofs.{queue_lemmas.Slots.{all_apart, each_apart}}
+use Rattle.world_state.specs.{Applying.{SetsShort, way_after}}
 use Rattle.world_state.specs.{Hearing.{AreOctetsOf, IsAsSent, MayCome, arrived, frame_kept, octets_kept, timed_in}}
 use Rattle.world_state.specs.{Leaving.departed}
 use Rattle.world_state.specs.{declared.{contents.Signal.{Signal as Sent, Signal as SignalSent}, queue.Entry.Entry}}
@@ -42,6 +46,76 @@ use Rattle.net_plan.specs.declared.event.What.TheVariants as events
 use Rattle.run_law.specs.declared.note.NoteBody.TheVariants as kinds
 use Rattle.run_law.specs.declared.steps.Arrival.TheVariants as arrivals
 use Rattle.world_state.specs.declared.contents.Signal.TheVariants as signals
+
+-- ---- what is fit stays so where an event befalls
+
+-- ---- the ways
+
+set_short : (b : Bool) (n was : ℕ) → n < 2 ^ 62 → was < 2 ^ 62 → unwrap_or (if b then Some n else None) was < 2 ^ 62
+set_short true n was short old = short
+set_short false n was short old = old
+
+way_short : (link : LinkId) (way : Way) (what : What) (was : WayState) → SetsShort what → IsShort was → IsShort (way_after link way what was)
+way_short link way (events.Wire other turned delay) was short old = (set_short (is_way_of link way other turned) (amount delay) was.delay short old.0, old.1)
+way_short link way (events.Hold other turned hold) was short old = (old.0, set_short (is_way_of link way other turned) (amount hold) was.hold short old.1)
+way_short link way other was short old = old
+
+pub ways_short : (old new : List WayState) (way : Way) (what : What) → SetsShort what → length new ≡ length old
+    → ((link : LinkId) (was : WayState) → slice_get old link.0 ≡ Some was → slice_get new link.0 ≡ Some (way_after link way what was))
+    → All IsShort old → All IsShort new
+ways_short old new way what short same each all k d lt =
+    let many : k < length old = omega arith in
+    let was = found old k many in
+    let link : LinkId = record { 0 = k } in
+    let is = one (slice_get new k) _ _ (each link was.0 was.1) (slice_get-get_or new k d lt) in
+    subst IsShort is (way_short link way what was.0 short (in_all IsShort old k was.0 all was.1))
+
+-- ---- what waits
+
+abbrev pub cause_of : Waits → ℕ
+cause_of w = w.cause
+
+pub none_apart : AreApart []
+unfolding IsDistinct
+none_apart = tt
+
+pub apart_kept : (q : Waits → Bool) (xs : List Waits) → AreApart xs → AreApart (filter q xs)
+apart_kept q [] apart = apart
+apart_kept q (x ∷ xs) apart =
+    let rest = apart_kept q xs (IsDistinct-tail nat_eq x.cause (map cause_of xs) apart) in
+    elim (q x) as (λ b. AreApart (if b then x ∷ filter q xs else filter q xs)) [
+      | true ↦ IsDistinct-cons nat_eq x.cause (map cause_of (filter q xs)) (all_apart cause_of x.cause (filter q xs) (λ v there.
+          each_apart cause_of x.cause xs (IsDistinct-head nat_eq x.cause (map cause_of xs) apart) v (in_filter q xs v there))) rest
+      | false ↦ rest
+    ]
+
+module _ {number : ℕ} (one : Waits) (old new : List Waits) (more : IsPermutation (one ∷ old) new)
+    (cause : one.cause ≡ number) (all : All (λ w. w.cause < number) old) where
+  -- one more with a greater cause
+  pub apart_more : AreApart old → AreApart new
+  apart_more apart =
+      IsDistinct-IsPermutation nat_eq flips (map cause_of (one ∷ old)) (map cause_of new)
+      (IsPermutation-map cause_of _ _ more)
+      (IsDistinct-cons nat_eq one.cause (map cause_of old) (all_apart cause_of one.cause old (λ v there same.
+      let at = in_get old v there in
+      let low = in_all (λ (w : Waits). w.cause < number) old at.0 v all at.1 in
+      omega arith)) apart)
+
+  pub below_one_more : All (λ w. w.cause < number + 1) new
+  below_one_more = all_of (λ w. w.cause < number + 1) new (λ v there.
+      elim (in_permuted new (one ∷ old) v (IsPermutation-sym _ _ more) there) [
+        | inl own ↦ let e = ap cause_of own in omega arith
+        | inr was ↦
+            let at = in_get old v was in
+            let low = in_all (λ (w : Waits). w.cause < number) old at.0 v all at.1 in
+            omega arith
+      ])
+
+pub below_more : (n : ℕ) (q : Waits → Bool) (xs : List Waits) → All (λ w. w.cause < n) xs → All (λ w. w.cause < n + 1) (filter q xs)
+below_more n q xs all k d lt =
+    let here = All-filter q (λ w. w.cause < n) xs all k d lt in omega arith
+
+-- ---- what is on a wire or settled: the records that put it there, and how it arrives and stays fit
 
 -- ---- what is settled stays fit to be given
 

@@ -2,8 +2,10 @@
 use Rattle.std.{specs.{List.{filter_map, slice_get}, Option.option_map}}
 use Rattle.std.proofs.{Common.{All, nat_eq}}
 use Rattle.std.proofs.{lemmas.Map.Keys.{IsDistinct-IsPermutation, IsDistinct-head, IsDistinct-tail}}
-use Rattle.drift_world.proofs.{ActSteps.{both_put, one_by}, Fitting.cause_of, Rising.settled_in_order}
-use Rattle.drift_world.proofs.{Signals.{all_put, all_put_some, have_octets}, Storings.{awaits, none_awaited}}
+use Rattle.drift_world.proofs.{ActSteps.{both_put, one_by}, Rising.settled_in_order}
+use Rattle.drift_world.proofs.{Signals.{all_put, all_put_some, cause_of, have_octets}, Storings.{awaits, none_awaited}}
+use Rattle.run_law.proofs.records.{Members.from_map, Order.all_of}
+use Rattle.world_state.proofs.{Queues.{stayed, stays, was_there}, queue_lemmas.Slots.each_apart}
 use Rattle.drift_world.proofs.{Turning.comes_first}
 use Rattle.drift_world.proofs.Words
 use Words.{if◌then◌else◌, ◌++◌, ◌+◌, ◌<◌, ◌^◌, ◌↔◌, ◌∙◌, ◌∷◌, ◌≡◌, ◌≤ℤ◌, ◌≤◌, Accepted, AreApart, AreBelow, ArePutIn}
@@ -21,7 +23,6 @@ use Words.{subst, sym, target_by, time_of, time_on_port, timed, true, units_of, 
 use Words.{wire_entry, world_of, ℕ}
 use Rattle.drift_world.specs.{Giving.IsGiver, Ripening.IsJudged, Stepping.TurnsPast}
 use Rattle.drift_world.specs.{Turns.{IsNow, MayWork, source_place}, declared.{source.Source.Source, state.State.State}}
-use Rattle.run_law.{proofs.records.{Members.from_map, Order.all_of}}
 use Rattle.run_law.specs.{control.Leaving.{Departure, Gives, leaves, on_cut_way, too_old}, machines.Calls.MayTake}
 use Rattle.run_law.specs.{scenario.Ways.hold_at}
 use Rattle.run_law.specs.declared.{judgement.Judgement.Judgement, note.NoteBody.TheVariants.{Event, Sent}}
@@ -32,7 +33,6 @@ use Rattle.world_law.proofs.{steps_lemmas.{ripening.RipenedSteps.{may_ask, waits
 use Rattle.world_law.specs.{world.{Moves.{AreAwaited, AreGiven, ArePut, IsWithout}, World.{IsGivenBy, is_at_source}}}
 use Rattle.world_law.specs.steps.{Ripening.{HasRipened, ripe_bodies}}
 use Rattle.world_law.specs.steps.{Turns.{IsLaunched, IsNext, IsTurn, TurnsBy, starts_there}}
-use Rattle.world_state.{proofs.{Queues.{stayed, stays, was_there}, queue_lemmas.Slots.each_apart}}
 use Rattle.world_state.specs.{Acting.body_of, Frames.{Waiting, room_of, waiter_of}}
 use Rattle.world_state.specs.{Giving.{ArePutTo, HasItsFrame, entry_at_port, giver_of, hold_by}, Hearing.arrived}
 use Rattle.world_state.specs.{Leaving.{departed, departure_by}}

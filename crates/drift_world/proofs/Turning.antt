@@ -1,8 +1,10 @@
 -- A turn of a world: what comes first, where its records stand, and how far the world came.
 use Rattle.std.{proofs.Common.{All, slice_get}, specs.List.filter_map}
-use Rattle.drift_world.proofs.{Foremost.{of_world, sooner_too, timers_later}, Parts.{part_least, part_most}}
-use Rattle.drift_world.proofs.{Rising.settled_in_order, Signals.{sound_same, sound_timers}}
-use Rattle.drift_world.proofs.{Timings.{passed, rekeyed, unchanged}}
+use Rattle.drift_world.proofs.{Foremost.{of_world, sooner_too, timers_later}, Rising.settled_in_order}
+use Rattle.drift_world.proofs.{Signals.{sound_same, sound_timers}}
+use Rattle.drift_world.proofs.{Timings.{part_least, part_most, passed, rekeyed, unchanged}}
+use Rattle.run_law.proofs.{records.Order.all_of, runs.Places.{before_later, before_later_time}}
+use Rattle.world_law.proofs.{acts.Dues.nothing_comes_before, runs.Worlds.{late_of, nothing_settled_is_all}}
 use Rattle.drift_world.proofs.Words
 use Words.{◌++◌, ◌+◌, ◌<◌, ◌^◌, ◌∙◌, ◌∷◌, ◌≡◌, ◌≤◌, ◌⊎◌, AreComing, AreFirsts, AreTimed, Bool, ChangesOnly, ComesFirst}
 use Words.{ComesUpTo, DeviceId, DueAt, Err, Happening, HasItsOctets, HasNothingBefore, InOrder, IsAt, IsBefore, IsIn}
@@ -18,9 +20,7 @@ use Turns.{SettledFirst, TurnSays, given_in, source_place, source_rank}
 use Rattle.drift_world.specs.declared.{next.Turn.TheVariants.{Ends, Gives, GoesOn}}
 use Rattle.drift_world.specs.declared.{source.Source.{Source, TheVariants.{Act, Arrival, Clock, Departure, Later}}}
 use Rattle.drift_world.specs.declared.{state.State.State}
-use Rattle.run_law.{proofs.{records.Order.all_of, runs.Places.{before_later, before_later_time}}}
 use Rattle.run_law.{specs.records.Ranks.key}
-use Rattle.world_law.{proofs.{acts.NoActs.nothing_comes_before, runs.Worlds.{late_of, nothing_settled_is_all}}}
 use Rattle.world_law.{specs.world.World.is_at_source}
 use Rattle.run_law.specs.declared.note.NoteBody.TheVariants as kinds
 

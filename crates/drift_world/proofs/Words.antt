@@ -15,8 +15,8 @@ pub use Rattle.net_plan.specs.declared.tables.Way.{Way, TheVariants.{Down, Up}}
 pub use Rattle.pcf_codec.specs.Fields.{field}
 pub use Rattle.tte_units.specs.declared.frames.pcf.Pcf.{Pcf}
 pub use Rattle.run_law.proofs.law.FirstDeliveries.{in_filter, numbered_in}
-pub use Rattle.world_state.proofs.{Queues.is_set, queue_lemmas.Slots.in_permuted}
 pub use Rattle.run_law.proofs.records.Order.{any_in, given_of, is_given}
+pub use Rattle.world_state.proofs.{Queues.is_set, queue_lemmas.Slots.in_permuted}
 pub use Rattle.run_law.proofs.runs.Places.{chain, in_parts, in_right, never_self, parted}
 pub use Rattle.run_law.specs.control.Wires.{Arrives, Launch, Signal, control, launched, signal_of, time_on_port, timed}
 pub use Rattle.run_law.specs.declared.note.{Note.Note, NoteBody.NoteBody}

@@ -15,7 +15,7 @@ use Rattle.net_plan.specs.{Ranges.{IsDeviceInRange, IsWithin}}
 use Rattle.net_plan.specs.{declared.tables.{Device.Device, Role.{Role, TheVariants.{Client, Cm, Master, Relay}}}}
 use Rattle.pcf_codec.specs.{Decoding.decoded, EtherType.{HasPcfType, pcf_type}, Fields.field}
 use Rattle.pcf_codec.specs.{declared.refusal.PcfRefusal.PcfRefusal}
-use Rattle.run_law.{proofs.scenario.Devices.end_test}
+use Rattle.run_law.proofs.scenario.Devices.{end_test}
 use Rattle.run_law.specs.{machines.{Answers.{after_arrival, arrival_at}, Calls.IsLinkAt}}
 use Rattle.run_law.specs.{records.Frames.dispatched_frame}
 use Rattle.run_law.specs.control.{Wires.{Signal, control, signal_of, timed}}

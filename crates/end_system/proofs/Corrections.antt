@@ -13,7 +13,7 @@ use Rattle.end_system.specs.{Agendas.{IsAgendaAfter, IsEmpty, IsInNextCycle}, De
 use Rattle.end_system.specs.{Standing.IsHeardSo}
 use Rattle.run_law.{proofs.control.Points.point_is}
 use Rattle.run_law.{specs.{control.Corrections.correction_value, machines.{Answers.after_correction, Nodes.acting}}}
-use Rattle.sync_state.{proofs.StateFacts.{no_longer, point_up_to}}
+use Rattle.sync_state.proofs.VerdictLemmas.{no_longer, point_up_to}
 use Rattle.sync_state.specs.{Calls.{adjustment_by, after, reached_point}, Plan.expected_at}
 use Rattle.sync_state.specs.{Standing.{IsAtIntegration, point_in}}
 use Rattle.sync_state.specs.{Verdicts.{IfCorrected, IsNear, deviation_by, deviation_on}}

@@ -13,7 +13,8 @@ use Words.{next_point, pos, refl, standpoint_at, subst, sym, true, ℕ, ℤ}
 use Rattle.end_system.specs.{Controls.heard_by, Owns.channel_by, Ripening.{IsTold, heard_so}}
 use Rattle.end_system.specs.{Standing.{IsAtEnd, IsHeardSo}}
 use Rattle.net_plan.specs.Ranges.{IsWithin}
-use Rattle.run_law.{proofs.{control.Verdicts.{enough_not, in_time_by, in_time_not, tells_by}, device.States.is_in}}
+use Rattle.run_law.proofs.{control.Verdicts.{enough_not, in_time_by, in_time_not, tells_by}, device.States.is_in}
+use Rattle.sync_state.proofs.VerdictLemmas.{integrating_point, no_longer}
 use Rattle.run_law.specs.{declared.steps.Ripe.{Ripe, TheVariants.{Ignored, Integrates, Outside, Within}}}
 use Rattle.run_law.specs.{device.{Standpoints.clock_of, States.is_synchronised}, scenario.Devices.channel_of_link}
 use Rattle.run_law.specs.control.{Corrections.correction_value}
@@ -21,7 +22,6 @@ use Rattle.run_law.specs.control.{Hearing.{heard_as, heard_by_schedule, heard_en
 use Rattle.run_law.specs.control.{Permanence.ripe_as}
 use Rattle.run_law.specs.machines.{Answers.{IsPermanenceOutcomeAt, hearings, node_turned_on, with_heard, with_joined}}
 use Rattle.run_law.specs.machines.{Calls.{IsLaterMoment, MayRipen}, Nodes.{Phase, TakenFrame, ripening}}
-use Rattle.sync_state.{proofs.StateFacts.{integrating_point, no_longer}}
 use Rattle.sync_state.specs.{Calls.{after, heard_frame, turned_on}}
 use Rattle.sync_state.specs.{Integration.{Integrates as DoesIntegrate, joined_by}, Plan.expected_at, Standing.point_in}
 use Rattle.sync_state.specs.declared.{answers.Joined.Joined, membership.frame.HeardFrame.HeardFrame}

@@ -1,4 +1,2 @@
-pub mod Masters
 pub mod OneStorm
 pub mod Storms
-pub mod Ends

@@ -6,6 +6,9 @@ use Rattle.std.specs.{Option.{option_and_then, option_map}}
 use Rattle.std.specs.{Prelude.{if◌then◌else◌, ◌&&◌, ◌==◌, IfSome, Option, bytes_eq, codes, decimal, nat_le, slice_get}}
 use Rattle.std.specs.{Str.Parse.digits_value}
 use Rattle.fault_hypothesis.proofs.storm_lemmas.OneStorm.{one_storm}
+use Rattle.lens_latency.{proofs.{Comings.latency_one, OneReport.latency_report_one}, specs.Answer.IsLatencyOf}
+use Rattle.lens_plan.{proofs.Plans.plan_one_for, specs.{Answer.IsPlanFor, messages.Values.{is_name_text, time_spelled}}}
+use Rattle.tte_reports.{proofs.Reports.report_one, specs.Reports.IsOneFor}
 use Rattle.lens.{proofs.draw_lemmas.Naming.named_one}
 use Rattle.lens.specs.{Limit.report_limit, Questions.{EndsFor, IsQuestionAnswer}}
 use Rattle.lens.specs.{Top.{AnswerIsOne, AnswersWords, IsAnswerBy}, events.Answer.{IsEventsAnswer, event_lines}}
@@ -20,9 +23,7 @@ use TheVariants.{DrawNamed, Events, Latency, Least, Plan, Report, Schedule, Shee
 use Rattle.lens.specs.declared.forms.Question.{Question}
 use Rattle.lens.specs.declared.forms.Question.{TheVariants.{Clocks, Draw, DrawWhole, Flows, LatencySeen, Page, Why}}
 use Rattle.lens_flows.proofs.AllTold.{flows_answer_one}
-use Rattle.lens_latency.{proofs.{Comings.latency_one, OneReport.latency_report_one}, specs.Answer.IsLatencyOf}
 use Rattle.lens_overview.proofs.OneAnswer.{overview_answer_one}
-use Rattle.lens_plan.{proofs.Plans.plan_one_for, specs.{Answer.IsPlanFor, messages.Values.{is_name_text, time_spelled}}}
 use Rattle.lens_schedule.{proofs.LawProofs.schedule_one, specs.Answer.IsScheduleOf}
 use Rattle.lens_sheet.{proofs.Sheets.sheet_one, specs.Answer.IsSheetOf}
 use Rattle.lens_slack.{proofs.{Verdict.{octets_one, slack_one}, least_lemmas.OneLeast.least_one}}
@@ -40,7 +41,6 @@ use Rattle.tte_forms.specs.{declared.{form.Form.TheVariants.Storm, status.Status
 use Rattle.tte_forms.specs.{networks.Accepting.IsNetworkAnswer}
 use Rattle.tte_forms.specs.Forms
 use Forms.{IsFormInRange as IsStormInRange, cycles_spelled, form_of as storm_form_of, if_some, seed_spelled, storm_form}
-use Rattle.tte_reports.{proofs.Reports.report_one, specs.Reports.IsOneFor}
 
 -- ---- the form of words by their count and their first, and the numbers of forms
 

@@ -2,4 +2,3 @@ pub mod Marking
 pub mod Keeping
 pub mod Naming
 pub mod Reading
-pub mod Coming

@@ -16,12 +16,12 @@ use Rattle.lens_flows.specs.counts.{Ordered.IsCountOf, Told.{AreToldOf, IsTold}}
 use Rattle.lens_flows.specs.declared.{counts.{deliveries.Delivery.Delivery, told.FlowTold.FlowTold}}
 use Rattle.lens_flows.specs.declared.{judge.flow.Flow.Flow}
 use Rattle.net_plan.specs.declared.network.Network.{Network}
-use Rattle.run_law.{proofs.records.Order.{all_of, given_of}}
+use Rattle.run_law.proofs.records.Order.{all_of, given_of}
+use Rattle.tte_reports.{proofs.Reports.{end_soon, none_later, report_well}, specs.Reports.{IsOneFor, IsReportOf}}
 use Rattle.run_law.{specs.{declared.note.{Note.Note, NoteBody.NoteBody}, records.{Happenings.happenings, Order.IsIn}}}
 use Rattle.schedule_tables.specs.Rules.{KeepsRules}
 use Rattle.tte_audit.specs.Report.{events_of}
 use Rattle.tte_forms.specs.{Answering.Answer, declared.status.Status.TheVariants.Done}
-use Rattle.tte_reports.{proofs.Reports.{end_soon, none_later, report_well}, specs.Reports.{IsOneFor, IsReportOf}}
 use Rattle.tte_units.specs.{Amount.amount, declared.units.Units.Units}
 use Rattle.lens_flows.specs.declared.judge.fate.Fate.TheVariants as fates
 use Rattle.run_law.specs.declared.note.NoteBody.TheVariants as notes

@@ -4,8 +4,10 @@ use Rattle.std.proofs.{lemmas.{Bool.{eqb-true, false≢true}, List.length-append
 use Rattle.std.proofs.Common
 use Common.{if◌then◌else◌, ◌++◌, ◌+◌, ◌-◌, ◌<◌, ◌==◌, ◌∙◌, ◌∷◌, ◌≡◌, ◌≤◌, Bool, List, None, Option, Some, [], ap, arith}
 use Common.{false, inl, inr, length, refl, subst, suc, sym, true, zero, ℕ}
-use Rattle.audit_law.{proofs.law_lemmas.AllOwed.{audit_laws, gap_law}, specs.law.Linked.{AreLinked, HasCause}}
-use Rattle.lens_latency.{proofs.{Givings.given_more, LawProofs.comes_in_its_time}}
+use Rattle.audit_law.{proofs.law_lemmas.Owed.{audit_laws, gap_law}, specs.law.Linked.{AreLinked, HasCause}}
+use Rattle.lens_latency.proofs.{Comings.comes_in_its_time, Givings.given_more}
+use Rattle.precision_law.proofs.traffic_lemmas.delivery.{Delivering.fields_fit, Forwarding.Brings, Taken.takings_are_so}
+use Rattle.run_law.proofs.{records.Order.as_many, runs.NetworkRuns.one_more}
 use Rattle.lens_latency.specs.{Arrivals.{AreGiven, HasDeparted, IsArrivalBy, IsDeparture, IsDepartureOf}}
 use Rattle.lens_latency.specs.{Following.{IsFollowed, arrival_by, departure_at, departure_by, is_departure}}
 use Rattle.lens_latency.specs.{Laws.{DeliveriesAreSeen, GoesBy, IsSeenWithin, trip_by}}
@@ -19,7 +21,6 @@ use Rattle.precision_law.proofs.faults.{Masters.{good_is_correct, one_channel_is
 use Rattle.precision_law.proofs.faults.{Sound.{sound_switches_begin_on, sound_ways_are_whole}}
 use Rattle.precision_law.proofs.traffic_lemmas.{Words.{BringsBlocks, BringsChannels}}
 use Rattle.precision_law.proofs.traffic_lemmas.delivery.{Coming.{octets_come_so, takings_come_by_rows}}
-use Rattle.precision_law.proofs.traffic_lemmas.delivery.{Delivering.fields_fit, Forwarding.Brings, Taken.takings_are_so}
 use Rattle.precision_law.proofs.traffic_lemmas.faults.{Channels.{good_sources, source_on, target_on}}
 use Rattle.precision_law.proofs.traffic_lemmas.faults.GoodDevices
 use GoodDevices.{senders_are_broken, sound_switches_keep_time, timed_are_not_turned_on}
@@ -27,7 +28,6 @@ use Rattle.precision_law.specs.{Views.{IsGood, IsView, View}}
 use Rattle.precision_law.specs.traffic.{Coming.HasGoodSources, Dispatched.IsRowDispatch, Fits.FieldsFit}
 use Rattle.precision_law.specs.traffic.{Latency.{IsDeliveryBy, IsDispatchOn}}
 use Rattle.run_law.proofs.{law.FirstDeliveries.{by_number, number_is, numbered_front, numbered_in}}
-use Rattle.run_law.proofs.{records.Happenings.as_many, runs.NetworkRuns.one_more}
 use Rattle.run_law.specs.{declared.note.{Note.Note, NoteBody.NoteBody}, runs.{DueRecords.IsDue, Runs.IsFounded}}
 use Rattle.run_law.specs.{scenario.{Devices.is_end, Scenarios.Scenario}}
 use Rattle.run_law.specs.records.{Causes.{GoesBackTo, IsChain, cause_of, last_from}}

@@ -3,4 +3,3 @@ pub mod Givings
 pub mod Departures
 pub mod SeenTimes
 pub mod OneReport
-pub mod LawProofs

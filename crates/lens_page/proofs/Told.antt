@@ -19,7 +19,7 @@ use Rattle.net_plan.specs.declared.tables.{Role.{Role, TheVariants.{Client, Cm, 
 use Rattle.net_plan.specs.declared.tables.{VirtualLink.VirtualLink}
 use Rattle.report_text.{specs.{Laws.AreOfNetwork, NoteLine.{body_text, report_of}, Ranges.IsNoteInRange}}
 use Rattle.report_text.proofs.{Characters.{IsVisible, decimal_visible, name_visible, visible_from_test}}
-use Rattle.report_text.proofs.{Splits.split_once, Texts.{AreOfLine, AreVisible, IsUnbroken, is_lf, line_unbroken}}
+use Rattle.report_text.proofs.{Splits.split_once, Visible.{AreOfLine, AreVisible, IsUnbroken, is_lf, line_unbroken}}
 use Rattle.run_law.specs.declared.note.Note.{Note}
 use Rattle.trace_text.{proofs.WordsBack.in_list, specs.Steps.{Words, space}}
 use Rattle.tte_io.specs.Line.{lf}

@@ -6,7 +6,7 @@ use Common.{false, get_or, inl, inr, length, refl, slice_get, subst, suc, sym, t
 use Rattle.std.proofs.lemmas.{Bool.{cases_Bool, false≢true}}
 use Rattle.std.proofs.lemmas.List.{append-nil, length-append}
 use Rattle.std.proofs.lemmas.List.Elements.{All-append, All-cons, All-nil, Contains-append_left, Contains-append_right}
-use Rattle.lens_plan.proofs.{Attempts.{AreAlike, after, after_more, way_rows_one}}
+use Rattle.lens_plan.proofs.Attempts.{AreAlike, after, after_more, way_rows_one}
 use Rattle.lens_plan.proofs.{Leading.{cut, none_down, none_up, on_behind, on_first, rest_of, way_down, way_up}}
 use Rattle.lens_plan.specs.{messages.{Message.Message, Values.is_end}}
 use Rattle.lens_plan.specs.declared.places.{best.Attempt.Attempt, offsets.Taken.Taken}

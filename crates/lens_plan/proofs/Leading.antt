@@ -5,7 +5,7 @@ use Common.{◌++◌, ◌+◌, ◌<◌, ◌==◌, ◌||◌, ◌∙◌, ◌∷◌
 use Common.{false, get_or, inl, inr, is_some, length, not, refl, subst, suc, sym, take, true, zero, ℕ, ⊎_elim}
 use Rattle.std.proofs.lemmas.{Bool.{false≢true, or_left, or_parts, or_right}}
 use Rattle.std.proofs.lemmas.{List.{append-nil, length-append, take_more}}
-use Rattle.lens_plan.{proofs.Attempts.{after, after_more}}
+use Rattle.lens_plan.proofs.Attempts.{after, after_more}
 use Rattle.lens_plan.specs.{declared.places.{placing.Placed.Placed, ways.Hop.Hop}}
 use Rattle.lens_plan.specs.{places.Ways.{down_hops, hop_by, is_on, up_hops}}
 use Rattle.net_plan.{proofs.{SameIds.one_link, Trees.{followed, paths_are_unique}}}

@@ -1,16 +1,13 @@
 pub mod Decimals
 pub mod LineParts
 pub mod Askable
-pub mod MessageLines
+pub mod Plans
 pub mod Leading
 pub mod Attempts
 pub mod Courses
 pub mod Orders
 pub mod PlanOne
-pub mod Ordered
-pub mod Plans
 pub mod PlannedRows
-pub mod IdLists
 pub mod InTime
 pub mod Meanings
 pub mod GoodPlans

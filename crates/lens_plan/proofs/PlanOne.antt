@@ -12,7 +12,7 @@ use Rattle.std.proofs.lemmas.Option.{get_or_from_slice_get, none-some, slice_get
 use Rattle.std.proofs.lemmas.Option.{slice_get_past}
 use Rattle.std.specs.{List.{All, AllPairs, AllZip, Contains, Sorted.IsPermutation, range_with_len}}
 use Rattle.std.specs.{Option.option_map_or}
-use Rattle.lens_plan.proofs.{Attempts.{behind_one, way_one}, Ordered.{pairs_head, pairs_tail}}
+use Rattle.lens_plan.proofs.Attempts.{behind_one, pairs_head, pairs_tail, way_one}
 use Rattle.lens_plan.proofs.{Orders.{apart, order_moved}}
 use Rattle.lens_plan.specs.{messages.Message.Message}
 use Rattle.lens_plan.specs.declared.places.{best.Attempt.Attempt, filling.Misfit.Misfit}

@@ -1,27 +1,36 @@
 -- The answer of `plan` for its two files: it is one, and what it tells to be impossible is so.
 use Rattle.std.proofs.Common
-use Common.{◌++◌, ◌+◌, ◌<◌, ◌∙◌, ◌∷◌, ◌≡◌, ◌⊎◌, Err, List, None, Ok, Option, Some, [], ap, append_assoc, arith, get_or}
-use Common.{inl, inr, length, map, refl, subst, suc, sym, take, zero, ℕ}
+use Common.{◌++◌, ◌+◌, ◌<◌, ◌∙◌, ◌∷◌, ◌≡◌, ◌≤◌, ◌⊎◌, Err, List, None, Ok, Option, Result, Some, [], ap, append_assoc}
+use Common.{arith, get_or, inl, inr, map, nat_lt, refl, subst, suc, sym, take, zero, ℕ}
 use Rattle.std.proofs.lemmas.{Bool.Decides.nat_tests, Grind.flat_map-append}
 use Rattle.std.proofs.lemmas.{Option.{get_or_from_slice_get, slice_get-get_or, slice_get_within}}
-use Rattle.std.proofs.lemmas.List.{Elements.{All-cons, All-head, All-nil, All-tail}, Folds.concat-append, append-nil}
-use Rattle.std.proofs.lemmas.List.{map-append, take_more}
+use Rattle.std.proofs.lemmas.List.{Elements.{All-append, All-cons, All-head, All-nil, All-tail, filter_map-append}}
+use Rattle.std.proofs.lemmas.List.{Folds.concat-append, Splits.length-slice_split, Sums.count_by-le-length, append-nil}
+use Rattle.std.proofs.lemmas.List.{length-append, map-append, take_more}
 use Rattle.std.specs.{Fmt.decimal, List.{All, AllZip, concat, cons_option, filter_map, find, flat_map, range_with_len}}
-use Rattle.std.specs.{Option.option_map_or, Prelude.{◌-◌, ◌==◌, Bool, IfSome, codes, cond, false, slice_get, true}}
+use Rattle.std.specs.{Option.option_map_or}
+use Rattle.std.specs.{Prelude.{◌-◌, ◌==◌, Bool, IfSome, codes, cond, false, length, slice_get, true}}
 use Rattle.lens_plan.proofs.{Attempts.own_attempt, PlanOne.{none_one, plan_one, plan_or_none, within_found}}
 use Rattle.lens_plan.proofs.{Serving.{excess_is_impossible, tree_kept, unfit_is_impossible}}
 use Rattle.lens_plan.specs.{Laws.{AreImpossible, ExcessIsTrue, ImpossibleIsTrue, IsImpossible}}
 use Rattle.lens_plan.specs.{Reading.{IsNoMessages, MeansItsText, no_messages_answer}}
-use Rattle.lens_plan.specs.{joining.Joined.{IsNoJoin, joined, text_of}, messages.{Lines.messages_read, Message.Message}}
+use Rattle.lens_plan.specs.{joining.Joined.{IsNoJoin, joined, text_of}}
 use Rattle.lens_plan.specs.Answer.{ArePlanLines, IsJoinedAnswer, IsNoJoinTold, IsPlanAnswer, IsPlanFor, IsPlanOf}
 use Rattle.lens_plan.specs.Answer.{IsToldBy, MeansMessages, TellsOf}
-use Rattle.lens_plan.specs.declared.{joining.joined.NoJoin.NoJoin, messages.refusal.RefusedLine.RefusedLine}
+use Rattle.lens_plan.specs.declared.{joining.joined.NoJoin.NoJoin}
 use Rattle.lens_plan.specs.declared.{reading.{NetworkText.NetworkText, NoMessageFile.NoMessageFile}}
 use Rattle.lens_plan.specs.declared.{text.line.PlanLine.PlanLine}
+use Rattle.lens_plan.specs.declared.messages.refusal.{LineFault.{LineFault, TheVariants.{OutOfMemory, Refused}}}
+use Rattle.lens_plan.specs.declared.messages.refusal.{MessageRefusal.{MessageRefusal, TheVariants.Long}}
+use Rattle.lens_plan.specs.declared.messages.refusal.{NoMessages.NoMessages, RefusedLine.RefusedLine}
 use Rattle.lens_plan.specs.declared.places.{best.Attempt.Attempt}
 use Rattle.lens_plan.specs.declared.places.{limits.Excess.{Excess, TheVariants.{Rows, RowsOf, VirtualLinks}}}
 use Rattle.lens_plan.specs.declared.places.{moving.NoOrder.NoOrder, offsets.Taken.Taken, placing.Placed.Placed}
 use Rattle.lens_plan.specs.declared.places.{planning.NoPlan.NoPlan, scoring.Score.Score}
+use Rattle.lens_plan.specs.messages.{Message.Message, Reading.{message_read, message_reader}}
+use Rattle.lens_plan.specs.messages.{Steps.{IsFault, Read, outcome}}
+use Rattle.lens_plan.specs.messages.Lines
+use Lines.{AreNoMessages, fault_at, is_lf, is_passed, line_limit, lines_of, messages_from, messages_read, refused_line}
 use Rattle.lens_plan.specs.places.{Fitting.{IsBestBehind, IsUnfit}, InOrder.{row_by, rows_in_order}}
 use Rattle.lens_plan.specs.places.{Limits.IsWithinLimits, Moving.{IsNoOrder, IsUnplaced}, Placing.IsOrdered}
 use Rattle.lens_plan.specs.places.{Planning.{IsNoPlan, IsPlaceOf, IsPlan, no_order}, Same.{IsSameAttempt, IsSameNoPlan}}
@@ -32,6 +41,7 @@ use Rattle.lens_plan.specs.text.Refusals
 use Refusals.{IsTellable, excess_line, line_refusal, message_text, row_limit, short_line, short_line_at, short_row}
 use Refusals.{short_row_text}
 use Rattle.net_plan.specs.{Belonging.HasLink, Paths.IsTree, declared.network.Network.Network}
+use Rattle.trace_text.specs.Steps.{Words, words}
 use Rattle.tte_forms.proofs.{Octets.{for_all, for_more}, Puts.{answer_widened, unput_answer}}
 use Rattle.tte_forms.proofs.{networks.Answers.{answered_accepted, answered_none}}
 use Rattle.tte_forms.specs.{Answering.{Answer, ForOctets, Gives, GivesAnswer, line_answer}, Putting.{PutsNone, Shown}}
@@ -45,6 +55,63 @@ use Rattle.lens_plan.specs.declared.places.moving.NoOrder.TheVariants as orders
 use Rattle.lens_plan.specs.declared.places.planning.NoPlan.TheVariants as plans
 use Rattle.lens_plan.specs.declared.reading.NoMessageFile.TheVariants as files
 use Rattle.tte_forms.specs.declared.accepting.NoNetwork.TheVariants as causes
+
+-- ---- the ids of messages, one after another
+
+-- one more id
+pub ids_more : (taken : List ℕ) (ms : List Message) (ids : List ℕ) (m : Message) (id : ℕ) → AreIds taken ms ids → IsIdBy (taken ++ ids) m.id id
+    → AreIds taken (ms ++ m ∷ []) (ids ++ id ∷ [])
+ids_more taken [] ids m id none is =
+    let here : taken ++ ids ≡ taken = ap (λ (xs : List ℕ). taken ++ xs) none ∙ append-nil taken in
+    (id, [], subst (λ xs. IsIdBy xs m.id id) here is, refl, ap (λ (xs : List ℕ). xs ++ id ∷ []) none)
+ids_more taken (first ∷ ms) ids m id (one, others, own, rest, same) is =
+    let here : taken ++ ids ≡ (taken ++ one ∷ []) ++ others = ap (λ (xs : List ℕ). taken ++ xs) same ∙ sym (append_assoc taken (one ∷ []) others) in (
+      one,
+      others ++ id ∷ [],
+      own,
+      ids_more (taken ++ one ∷ []) ms others m id rest (subst (λ xs. IsIdBy xs m.id id) here is),
+      ap (λ (xs : List ℕ). xs ++ id ∷ []) same,
+    )
+
+-- the ids that one more message gives
+pub given_more : (old now : List ℕ) (ms : List Message) (n : ℕ) (m : Message) {new : List ℕ} → n < length ms
+    → now ≡ old ++ filter_map (λ k. k.id) (take n ms) → m ≡ get_or ms n m → new ≡ now ++ filter_map (λ k. k.id) (m ∷ [])
+    → new ≡ old ++ filter_map (λ k. k.id) (take (n + 1) ms)
+given_more old now ms n m within before at more =
+    let next : take (n + 1) ms ≡ take n ms ++ m ∷ [] = take_more ms n m within ∙ ap (λ (k : Message). take n ms ++ k ∷ []) (sym at) in
+    let parts = ap (filter_map (λ (k : Message). k.id)) next ∙ filter_map-append (λ (k : Message). k.id) (take n ms) (m ∷ []) in
+    more ∙ ap (λ (xs : List ℕ). xs ++ filter_map (λ (k : Message). k.id) (m ∷ [])) before
+    ∙ append_assoc old (filter_map (λ (k : Message). k.id) (take n ms)) (filter_map (λ (k : Message). k.id) (m ∷ []))
+    ∙ ap (λ (xs : List ℕ). old ++ xs) (sym parts)
+
+-- these are the ids of the first messages, and they were added to those that are taken
+pub record AreFirstIds (taken : List ℕ) (ms : List Message) (n : ℕ) (ids now : List ℕ) : Type 0 where
+  pub are : AreIds taken (take n ms) ids
+  pub taken_now : now ≡ taken ++ ids
+  pub small : All (λ id. id < 65536 + n) now
+  pub counted : length ids ≡ n
+
+pub ids_next : {taken : List ℕ} {ms : List Message} {n : ℕ} {ids : List ℕ} (more : List ℕ) {now : List ℕ}
+    (new : List ℕ) (m : Message) (id : ℕ) {seen : List ℕ} → AreFirstIds taken ms n ids now → n < length ms
+    → m ≡ get_or ms n m → seen ≡ now → IsIdBy seen m.id id → id ≤ 65536 + n → new ≡ now ++ id ∷ []
+    → more ≡ ids ++ id ∷ [] → AreFirstIds taken ms (n + 1) more new
+ids_next {taken} {ms} {n} {ids} more {now} new m id first within at same is bound longer other = record {
+  are =
+      let next : take (n + 1) ms ≡ take n ms ++ m ∷ [] = take_more ms n m within ∙ ap (λ (k : Message). take n ms ++ k ∷ []) (sym at) in
+      let all = ids_more taken (take n ms) ids m id first.are (subst (λ xs. IsIdBy xs m.id id) (same ∙ first.taken_now) is) in
+      subst (λ xs. AreIds taken (take (n + 1) ms) xs) (sym other) (subst (λ ks. AreIds taken ks (ids ++ id ∷ [])) (sym next) all);
+  taken_now =
+      longer ∙ ap (λ (xs : List ℕ). xs ++ id ∷ []) first.taken_now ∙ append_assoc taken ids (id ∷ []) ∙ ap (λ (xs : List ℕ). taken ++ xs) (sym other);
+  small =
+      let P = λ (k : ℕ). k < 65536 + (n + 1) in
+      subst (All P) (sym longer) (All-append P now (id ∷ []) (All-weaken first.small) (All-cons P id [] (omega (arith, bound)) (All-nil P)));
+  counted = let parts = ap length other ∙ length-append ids (id ∷ []) in let counted = first.counted in omega (arith, parts, counted);
+}
+  where
+    All-weaken : All (λ k. k < 65536 + n) now → All (λ k. k < 65536 + (n + 1)) now
+    All-weaken all k d lt = let less = all k d lt in omega (arith, less)
+
+-- ---- the answer of `plan` for its two files: it is one, and what it tells to be impossible is so
 
 -- ---- what is told to be impossible is so
 
@@ -588,3 +655,69 @@ module _ (network : Network) where
   place_of ms (plans.Impossible place a) (limits, (there, are, unfit)) = unfit_place unfit
   place_of ms (plans.Unplaced place a) (limits, (there, are, un)) = unplaced_place un
   place_of ms plans.OutOfMemory none = tt
+
+-- ---- the messages of a file, line after line
+
+-- a text has few lines
+pub few_lines : (text : List ℕ) → length (lines_of text) ≤ length text + 1
+few_lines text =
+    let lines = length-slice_split is_lf text in
+    let few = count_by-le-length is_lf text in
+    omega (arith, lines, few)
+
+-- ---- what a line's reading means
+
+pub read_message : (network : Network) (earlier : List Message) (line : List ℕ) (m : Message) (left : Words)
+    → message_reader network earlier (words line) ≡ Ok (m, left) → message_read network earlier line ≡ Ok m
+unfolding message_read
+read_message network earlier line m left read = ap outcome read
+
+pub read_fault : (network : Network) (earlier : List Message) (line : List ℕ) (f : MessageRefusal)
+    → message_reader network earlier (words line) ≡ Err f → message_read network earlier line ≡ Err f
+unfolding message_read
+read_fault network earlier line f read = ap outcome read
+
+-- ---- what a call gives
+
+-- a fault that is passed on
+pub fault_same : {A C : Type 0} (inner : Read C) (outer : Read A) (fault : LineFault) → ((f : MessageRefusal) → inner ≡ Err f → outer ≡ Err f)
+    → IsFault inner fault → IsFault outer fault
+fault_same inner outer (Refused f) carry h = carry f h
+fault_same inner outer OutOfMemory carry h = tt
+
+-- a fault of a line is that of the file
+pub fault_there : {A : Type 0} (reading : Read A) (read : Result (List Message) RefusedLine) (number : ℕ) (fault : LineFault) (r : NoMessages)
+    → r ≡ fault_at number fault → ((f : MessageRefusal) → reading ≡ Err f → read ≡ Err (refused_line number f)) → IsFault reading fault
+    → AreNoMessages read r
+fault_there reading read number (Refused f) r is carry h = subst (AreNoMessages read) (sym is) (carry f h)
+fault_there reading read number OutOfMemory r is carry h = subst (AreNoMessages read) (sym is) tt
+
+pub no_more : (network : Network) (number : ℕ) (earlier : List Message) (lines : List (List ℕ)) → lines ≡ []
+    → messages_from network number earlier lines ≡ Ok earlier
+unfolding messages_from
+no_more network number earlier lines none = rw none refl
+
+-- ---- the next line
+
+module _ (network : Network) (number : ℕ) (earlier : List Message) (line : List ℕ) (lines : List (List ℕ)) where
+  is_short : (length line ≤ line_limit) → nat_lt line_limit (length line) ≡ false
+  is_short short = grind (arith, nat_tests, short)
+
+  pub too_long : line_limit < length line → messages_from network number earlier (line ∷ lines) ≡ Err (refused_line number Long)
+  unfolding messages_from
+  too_long long = let test : nat_lt line_limit (length line) ≡ true = grind (arith, nat_tests, long) in rw test refl
+
+  pub passed : length line ≤ line_limit → is_passed line ≡ true
+      → messages_from network number earlier (line ∷ lines) ≡ messages_from network (number + 1) earlier lines
+  unfolding messages_from
+  passed short pass = rw (is_short short, pass) refl
+
+  pub refused_there : (f : MessageRefusal) → length line ≤ line_limit → is_passed line ≡ false → message_read network earlier line ≡ Err f
+      → messages_from network number earlier (line ∷ lines) ≡ Err (refused_line number f)
+  unfolding messages_from
+  refused_there f short pass read = rw (is_short short, pass, read) refl
+
+  pub one_more : (m : Message) → length line ≤ line_limit → is_passed line ≡ false → message_read network earlier line ≡ Ok m
+      → messages_from network number earlier (line ∷ lines) ≡ messages_from network (number + 1) (earlier ++ m ∷ []) lines
+  unfolding messages_from
+  one_more m short pass read = rw (is_short short, pass, read) refl

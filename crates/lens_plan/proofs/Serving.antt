@@ -11,9 +11,9 @@ use Elements.{All-append, All-cons, All-head, All-nil, All-tail, Contains-append
 use Rattle.std.specs.{List.{All, AllZip, Contains, count_by, fold}, Option.{option_map_or, unwrap_or}}
 use Rattle.std.specs.{Prelude.{IfSome, IsSomeAnd, nat_le, slice_get}}
 use Rattle.lens_plan.proofs.{Leading.{Behind, Goes, IsRowBy, Lead, leads, one_channel, relay_is}}
-use Rattle.lens_plan.proofs.Attempts
-use Attempts.{IsInTime, best_is_earliest, count_all, count_append, count_both, count_found, count_le, own_attempt}
-use Attempts.{way_one, whole}
+use Rattle.lens_plan.proofs.Attempts.{IsInTime, best_is_earliest, count_all, count_append, count_both, count_found}
+use Rattle.lens_plan.proofs.Attempts.{count_le, own_attempt, way_one, whole}
+use Rattle.schedule_checker.proofs.Shape.{tree_of}
 use Rattle.lens_plan.proofs.Courses
 use Courses.{EntersIt, HasTrees, IsCourse, courses, end_is as system_is, one_link, one_target, reaches, sends, targets}
 use Rattle.lens_plan.specs.{messages.{Message.Message, Values.is_end}}
@@ -37,7 +37,6 @@ use Rattle.net_plan.specs.declared.{ids.{DeviceId.DeviceId, LinkId.LinkId, VlId.
 use Rattle.net_plan.specs.declared.tables.{Device.Device, Link.Link, Role.TheVariants.{Cm, Relay}, Row.Row}
 use Rattle.net_plan.specs.declared.tables.{VirtualLink.VirtualLink, Way.{TheVariants.{Down, Up}, Way}}
 use Rattle.run_law.proofs.law.FirstDeliveries.{in_front}
-use Rattle.schedule_checker.proofs.Shape.{tree_of}
 use Rattle.schedule_tables.{proofs.SlotLemmas.one_entry}
 use Rattle.schedule_tables.specs.{Entries.{IsEntry, IsOnChannel, source_by, target_by, target_of}, Rules.KeepsRules}
 use Rattle.schedule_tables.specs.{Schedule.{Coincide, EntersOn, leaves}, Windows.{port_time, tolerance, window_end}}

@@ -1,7 +1,5 @@
-pub mod Findings
-pub mod Keeping
-pub mod Spots
 pub mod Taken
+pub mod Spots
 pub mod Files
 pub mod Verdict
 pub mod Named

@@ -6,9 +6,10 @@ use Common.{inl, inr, refl, subst, suc, sym, true, zero, ℕ}
 use Rattle.std.proofs.lemmas.{Bool.{cases_lt, eq-eqb, eqb-true, le-ltb, lt-ltb}}
 use Rattle.std.proofs.lemmas.List.{Elements.{All-append, All-cons, All-nil}, Sums.{sum_by-append, sum_by-cons}}
 use Rattle.std.proofs.lemmas.List.{append_assoc}
-use Rattle.lens_slack.proofs.{Findings.bounds_decide}
-use Rattle.lens_slack.proofs.Spots
-use Spots.{bound_spot, bounds_met, channel_number, has_number, number_spot, one_at, one_of, path_number, spot_met}
+use Rattle.lens_slack.proofs.{Taken.bounds_decide}
+use Rattle.lens_slack.proofs.Spots.{bound_spot, bounds_met, channel_number, has_number, number_spot, one_at, one_of}
+use Rattle.lens_slack.proofs.Spots.{path_number, spot_met}
+use Rattle.schedule_checker.proofs.Shape.{refusal_is_one, same_rule, tree_of}
 use Rattle.lens_slack.specs.{Answer.{IsFileAnswer, IsSlackOf, ending_status, found_answer}}
 use Rattle.lens_slack.specs.{Finds.{AreFound, AreOf, IsFoundIn, shorts_of, some_found}, Inequalities.IsInequality}
 use Rattle.lens_slack.specs.{Laws.{IsFirstShort, KeepsOthers, SlackAccepts, SlackRefuses}}
@@ -19,7 +20,6 @@ use Rattle.lens_slack.specs.declared.{spot.{BoundedNumber.BoundedNumber, Finding
 use Rattle.lens_slack.specs.declared.{step.Step.{Step, TheVariants.{Judged, Listed, Measured}}}
 use Rattle.net_file.specs.{Schema.network_read, declared.refusal.FileRefusal.FileRefusal}
 use Rattle.net_plan.{proofs.Trees.rules_give_trees, specs.{Paths.IsTree, declared.network.Network.Network}}
-use Rattle.schedule_checker.{proofs.{FirstBroken.{refusal_is_one, same_rule}, Shape.tree_of}}
 use Rattle.schedule_checker.specs.{Judging.{BreaksAt, plan_rule}}
 use Rattle.schedule_checker.specs.{declared.{parts.PlanRule.PlanRule, refusal.RuleBroken.RuleBroken}}
 use Rattle.schedule_tables.specs.{Numbers.number_of, Rules.{IsFirstBroken, IsKept, IsKeptAt, KeepsBelow, KeepsRules}}

@@ -4,4 +4,3 @@ pub mod Painting
 pub mod Hues
 pub mod Folds
 pub mod Windows
-pub mod TitleTexts

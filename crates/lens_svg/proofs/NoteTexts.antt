@@ -1,19 +1,24 @@
--- The text of a record is short, and has no character that SVG reads as its own.
+-- The texts of records and titles are short, and have no character that SVG reads as its own.
 use Rattle.std.proofs.{Math.Seq.take-append_seam}
 use Rattle.std.proofs.Common
-use Common.{◌*◌, ◌++◌, ◌-◌, ◌<◌, ◌^◌, ◌∙◌, ◌∷◌, ◌≡◌, ◌≤◌, List, [], ap, append_assoc, arith, length, length-append}
-use Common.{nat_lt, not, refl, subst, suc, sym, take, true, ℕ}
-use Rattle.std.proofs.lemmas.{Bool.and_parts, Fmt.length-decimal-le, Int.ints}
-use Rattle.std.proofs.lemmas.{List.Elements.{All-append, All-cons, All-nil, All-weaker}}
-use Rattle.std.specs.{Fmt.signed_decimal, Int.{to_be_bytes, w32, w64}, List.join_with_byte}
-use Rattle.std.specs.{Prelude.{◌==◌, ◌||◌, FitsSigned, codes, decimal, negsuc, pos, ℤ}}
+use Common.{◌*◌, ◌++◌, ◌+◌, ◌-◌, ◌<◌, ◌^◌, ◌∙◌, ◌∷◌, ◌≡◌, ◌≤◌, Bool, List, Some, [], ap, append_assoc, arith, false}
+use Common.{get_or, length, length-append, nat_lt, not, refl, subst, suc, sym, take, true, ℕ}
+use Rattle.std.proofs.lemmas.{Bool.and_parts, Fmt.length-decimal-le, Grind.flat_map-append, Int.ints}
+use Rattle.std.proofs.lemmas.{Option.{get_or_from_slice_get, slice_get_within}}
+use Rattle.std.proofs.lemmas.List.{Elements.{All-append, All-cons, All-nil, All-weaker}, Folds.list_all-append}
+use Rattle.std.proofs.lemmas.List.{append-nil, take_all, take_more}
+use Rattle.std.specs.{Fmt.signed_decimal, Int.{to_be_bytes, w32, w64}, List.{join_with_byte, list_all}}
+use Rattle.std.specs.Prelude
+use Prelude.{if◌then◌else◌, ◌&&◌, ◌==◌, ◌||◌, FitsSigned, codes, decimal, flat_map, nat_le, negsuc, pos, slice_get, ℤ}
 use Rattle.hex.{proofs.HexLemmas.length-encode_with, specs.Hex.{encode_lower, lower_digits}}
-use Rattle.lens_svg.specs.Marking.{IsPlain, is_plain, title_room}
+use Rattle.lens_svg.specs.{Marking.{IsPlain, is_plain, title_room}}
+use Rattle.lens_svg.specs.{Titles.{IsClosed, NoneOpens, cut_text, octet_text, word_text}}
 use Rattle.net_plan.specs.{Belonging.{HasVl, vl_name}, Ranges.{IsInRange, IsVlInRange}}
 use Rattle.net_plan.specs.{declared.{ids.VlId.VlId, network.Network.Network}}
-use Rattle.report_text.proofs.{Characters.{IsVisible, decimal_visible, is_visible}, Texts.{AreOfLine, AreVisible}}
+use Rattle.report_text.proofs.{Characters.{IsVisible, decimal_visible, is_visible}}
 use Rattle.report_text.proofs.Visible
-use Visible.{body_visible, device_short, joined_short, link_short, size, units_visible, what_short}
+use Visible.{AreOfLine, AreVisible, body_visible, device_short, joined_short, link_short, size, units_visible}
+use Visible.{what_short}
 use Rattle.report_text.specs.{NoteLine.{body_text, body_words, note_text}}
 use Rattle.report_text.specs.{NoteWords.{judgement_text, members_text, reason_words, state_text, why_text}}
 use Rattle.report_text.specs.{Ranges.{IsBodyInRange, IsBodyOf, IsNoteInRange, IsNoteOf, IsReasonInRange, IsShortCount}}
@@ -27,6 +32,8 @@ use Rattle.run_law.specs.declared.judgement.Reason.TheVariants as reasons
 use Rattle.run_law.specs.declared.judgement.Why.TheVariants as whys
 use Rattle.run_law.specs.declared.note.NoteBody.TheVariants as bodies
 use Rattle.sync_state.specs.declared.state.State.TheVariants as states
+
+-- ---- the text of a record is short, and has no character that SVG reads as its own
 
 -- ---- the text of a record has no character that SVG reads as its own
 
@@ -196,3 +203,72 @@ pub cut_line : (text line : List ℕ) → line ≡ text ++ codes "\n" → take (
 cut_line text line is =
     let less : length line - 1 ≡ length text = omega (arith, ap length is, length-append text (codes "\n")) in
     ap (λ (k : ℕ). take k line) less ∙ ap (take (length text)) is ∙ take-append_seam text (codes "\n")
+
+-- ---- how a title grows, and that no element begins in it
+
+-- ---- one piece more
+
+flat_next : {X : Type 0} (f : X → List ℕ) (xs : List X) (n : ℕ) (d : X) → n < length xs
+    → flat_map f (take n xs) ++ f (get_or xs n d) ≡ flat_map f (take (n + 1) xs)
+flat_next {X = X} f xs n d within =
+    let x = get_or xs n d in
+    sym (ap (λ (ys : List X). flat_map f ys) (take_more xs n d within) ∙ flat_map-append f (take n xs) (x ∷ [])
+    ∙ ap (λ (ls : List ℕ). flat_map f (take n xs) ++ ls) (append-nil (f x)))
+
+pub text_more : {X : Type 0} (f : X → List ℕ) (front : List ℕ) (xs : List X) (n : ℕ) (d : X) → n < length xs → (old new : List ℕ)
+    → old ≡ front ++ flat_map f (take n xs) → new ≡ old ++ f (get_or xs n d) → new ≡ front ++ flat_map f (take (n + 1) xs)
+text_more f front xs n d within old new before next =
+    let x = get_or xs n d in
+    next ∙ ap (λ (ls : List ℕ). ls ++ f x) before ∙ append_assoc front (flat_map f (take n xs)) (f x)
+    ∙ ap (λ (ls : List ℕ). front ++ ls) (flat_next f xs n d within)
+
+-- the same, where the place is asked for
+pub text_at : {X : Type 0} (f : X → List ℕ) (front : List ℕ) (xs : List X) (n : ℕ) (x : X) → slice_get xs n ≡ Some x → (old new : List ℕ)
+    → old ≡ front ++ flat_map f (take n xs) → new ≡ old ++ f x → new ≡ front ++ flat_map f (take (n + 1) xs)
+text_at {X = X} f front xs n x there old new before next =
+    text_more f front xs n x (slice_get_within xs n x there) old new before
+    (next ∙ ap (λ (y : X). old ++ f y) (sym (get_or_from_slice_get xs n x x there)))
+
+-- and where there is none
+pub text_end : {X : Type 0} (f : X → List ℕ) (front : List ℕ) (xs : List X) (n : ℕ) → length xs ≤ n → (old : List ℕ)
+    → old ≡ front ++ flat_map f (take n xs) → old ≡ front ++ flat_map f (take (n + 1) xs)
+text_end {X = X} f front xs n end old before =
+    before ∙ ap (λ (ys : List X). front ++ flat_map f ys) (take_all n xs end ∙ sym (take_all (n + 1) xs (omega (arith, end))))
+
+-- ---- no element begins
+
+both : (a b : Bool) → a ≡ true → b ≡ true → (a && b) ≡ true
+both true b p q = q
+both false b p q = absurd cc
+
+joined : (xs ys : List ℕ) → IsClosed xs → IsClosed ys → IsClosed (xs ++ ys)
+joined xs ys p q =
+    list_all-append (λ c. not (c == 60)) xs ys ∙ both (list_all (λ c. not (c == 60)) xs) (list_all (λ c. not (c == 60)) ys) p q
+
+all_closed : {X : Type 0} (f : X → List ℕ) → ((x : X) → IsClosed (f x)) → (xs : List X) → IsClosed (flat_map f xs)
+all_closed f each [] = refl
+all_closed f each (x ∷ xs) = joined (f x) (flat_map f xs) (each x) (all_closed f each xs)
+
+octet_closed : (c : ℕ) → IsClosed (octet_text c)
+octet_closed c =
+    by (c == 60) (c == 62) (c == 38) (nat_le 33 c && nat_le c 126) (λ none. ap (λ (b : Bool). not b && true) none)
+  where
+    by : (opens closes ands seen : Bool) → (opens ≡ false → IsClosed (c ∷ []))
+        → IsClosed (if opens then codes "&lt;" else if closes then codes "&gt;" else if ands then codes "&amp;" else if seen then c ∷ [] else codes "?")
+    by true closes ands seen own = refl
+    by false true ands seen own = refl
+    by false false true seen own = refl
+    by false false false true own = own refl
+    by false false false false own = refl
+
+cut_closed : (word : List ℕ) → IsClosed (cut_text word)
+cut_closed word = by (nat_le (length word) 60)
+  where
+    by : (b : Bool) → IsClosed (if b then flat_map octet_text word else flat_map octet_text (take 60 word) ++ codes "..")
+    by true = all_closed octet_text octet_closed word
+    by false = joined (flat_map octet_text (take 60 word)) (codes "..") (all_closed octet_text octet_closed (take 60 word)) refl
+
+pub titles_closed : NoneOpens
+titles_closed words =
+    joined (codes "lens") (flat_map word_text (take 7 words)) refl
+    (all_closed word_text (λ word. joined (codes " ") (cut_text word) refl (cut_closed word)) (take 7 words))

@@ -11,7 +11,8 @@ use Rattle.{lens_why.specs.{Grounds.ground_by, declared.seeking.Sought.TheVarian
 use Rattle.lens_why.specs.{Laws.{BestAreThere, best_number, told_in, told_number}, Seeking.{is_channel, is_frame, is_hearing_of, is_sought, last_sought}}
 use Rattle.{run_law.specs.control.Corrections.hearing_by, sync_state.specs.membership.Hearing.within_on}
 use Rattle.audit_sweep.specs.Indexing.{before_corrections}
-use Rattle.{run_law.proofs.records.Order.{before_is, given_of, has_passed, in_drop, is_there}, sync_state.specs.declared.membership.frame.HeardFrame.HeardFrame}
+use Rattle.run_law.proofs.records.Order.{before_is, given_of, has_passed, in_drop, is_there}
+use Rattle.sync_state.specs.declared.membership.frame.HeardFrame.{HeardFrame}
 use Rattle.run_law.{proofs.runs.Places.{in_parts, in_right}, specs.{declared.note.{Note.Note, NoteBody.NoteBody}, device.States.adjustment_before}}
 use Rattle.{run_law.specs.scenario.Scenarios.Scenario, std.proofs.{Common.{subst, sym, true, ℕ, ℤ}, lemmas.{Bool.{and_from, eq-eqb}, Int.ints}}}
 use Rattle.std.proofs.Common.{◌&&◌, ◌<◌, ◌==◌, ◌∙◌, ◌∷◌, ◌≡◌, ◌≤◌, Bool, List, None, Option, Some, [], ap, arith, false, filter, if◌then◌else◌, inl, inr, refl}

@@ -11,7 +11,7 @@ use Rattle.lens_why.specs.{Decisions.IsStateSince, Grounds.unsynchronised_ground
 use Rattle.lens_why.specs.{Seeking.{is_turning_on, turns, turns_before}}
 use Rattle.net_plan.specs.declared.{ids.{DeviceId.DeviceId, LinkId.LinkId, VlId.VlId}, network.Network.Network}
 use Rattle.precision_law.proofs.traffic_lemmas.spans.Spans.{turned_on_by}
-use Rattle.run_law.proofs.{records.Order.{has_passed, time_before}}
+use Rattle.run_law.proofs.records.Order.{has_passed, time_before}
 use Rattle.run_law.proofs.{runs.{Lacking.behind_first, Places.{in_left, in_right}}}
 use Rattle.run_law.proofs.law.FirstDeliveries
 use FirstDeliveries.{accepted_in, by_number, founded_at, front_founded, in_filter, none_kept, number_is, numbered_front}

@@ -14,7 +14,7 @@ use Rattle.lens_why.specs.{declared.ground.Ground.TheVariants.CutBy}
 use Rattle.net_plan.specs.declared.{event.Event.Event, ids.LinkId.LinkId, network.Network.Network, tables.Way.Way}
 use Rattle.report_text.specs.Ranges.{IsNoteOf}
 use Rattle.run_law.proofs.{law.FirstDeliveries.{founded_at, front_founded, in_at, in_filter, number_is}}
-use Rattle.run_law.proofs.{records.Order.{all_kept, has_passed, makes_none, time_before}}
+use Rattle.run_law.proofs.records.Order.{all_kept, has_passed, makes_none, time_before}
 use Rattle.run_law.proofs.{runs.{Lacking.behind_first, NetworkRuns.same_notes}}
 use Rattle.run_law.specs.{declared.note.{Note.Note, NoteBody.NoteBody}, runs.{DueRecords.IsDue, Runs.IsFounded}}
 use Rattle.run_law.specs.{scenario.{Scenarios.Scenario, Ways.{cut_set, is_cut}}}

@@ -6,9 +6,9 @@ use Common.{None, Ok, Option, Result, Some, [], ap, arith, false, inl, inr, leng
 use Rattle.std.specs.{Int.int_div_euclid, List.AllByRecursion, Option.option_map_or}
 use Rattle.std.specs.Prelude
 use Prelude.{◌||◌, IfSome, IsSomeAnd, MatchBool, int_lt, nat_le, nat_lt, not, option_and_then, option_map}
-use Rattle.audit_law.{proofs.law_lemmas.AllOwed.before_is_front}
+use Rattle.audit_law.proofs.law_lemmas.Owed.{before_is_front}
+use Rattle.audit_sweep.{proofs.Lacks.heard_before_corrections, specs.Indexing.before_corrections}
 use Rattle.audit_law.{specs.law.CorrectionNumbers.{ComesToPoint, heard_since_point, standing_at}}
-use Rattle.audit_sweep.{proofs.Hearings.heard_before_corrections, specs.Indexing.before_corrections}
 use Rattle.compression.specs.{Clusters.{Point, point_at}, declared.taken.Taken.Taken}
 use Rattle.lens_why.proofs.{Frames.held_by}
 use Rattle.lens_why.proofs.LastRecords

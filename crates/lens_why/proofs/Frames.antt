@@ -7,7 +7,7 @@ use Rattle.std.proofs.lemmas.{List.{Folds.find_at, Sums.position_or_len_is}}
 use Rattle.std.proofs.lemmas.{Option.{get_or_from_slice_get, slice_get-get_or, slice_get_past}}
 use Rattle.std.specs.{List.{find, position, position_or_len}}
 use Rattle.std.specs.{Prelude.{if◌then◌else◌, nat_lt, option_and_then, option_map, slice_get}}
-use Rattle.audit_law.proofs.law_lemmas.AllOwed.{before_is_front}
+use Rattle.audit_law.proofs.law_lemmas.Owed.{before_is_front}
 use Rattle.compression.specs.{Middle.{middle_of, relative}, declared.compressed.Compressed.Compressed}
 use Rattle.lens_why.{proofs.{Grounded.window_is, LastRecords.parted_there}}
 use Rattle.lens_why.specs.{Collections.{IsMiddle, MiddlesAreOfClusters}}

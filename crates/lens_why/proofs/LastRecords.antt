@@ -11,7 +11,8 @@ use Rattle.std.specs.{List.last_or, Option.option_map_or}
 use Rattle.std.specs.{Prelude.{◌||◌, int_lt, nat_le, nat_lt, option_and_then, slice_get, take}}
 use Rattle.audit_devices.specs.{Keeping.records_before, Showing.IsAfter}
 use Rattle.audit_law.{proofs.law_lemmas.Correcting.time_before, specs.law.CorrectionNumbers.standing_at}
-use Rattle.audit_sweep.{proofs.Hearings.{rank_below, unchanged_before}, specs.Indexing.before_corrections}
+use Rattle.audit_sweep.{proofs.Lacks.{rank_below, unchanged_before}, specs.Indexing.before_corrections}
+use Rattle.run_law.proofs.records.{Members.in_kept, Order.{all_kept, before_is, has_passed, is_there}}
 use Rattle.lens_why.specs.{Records.IsThere, Seeking.{is_sought, last_sought}}
 use Rattle.lens_why.specs.Corrections
 use Corrections.{better, channel_ground, clique_ground, corrected_ground, heard_at_point, is_behind, is_clique, said_by}
@@ -20,7 +21,6 @@ use Rattle.lens_why.specs.declared.{ground.{Best.Best, BestHeard.BestHeard, Grou
 use Rattle.lens_why.specs.declared.{seeking.Sought.{Sought, TheVariants.Frame}}
 use Rattle.net_plan.specs.declared.{ids.DeviceId.DeviceId, network.Network.Network}
 use Rattle.run_law.proofs.{law.FirstDeliveries.{front_founded, in_filter, none_kept, number_is, numbered_in}}
-use Rattle.run_law.proofs.{records.{Members.in_kept, Order.{all_kept, before_is, has_passed, is_there}}}
 use Rattle.run_law.proofs.{runs.{Lacking.behind_first, Places.{chain, in_parts, never_self, parted}}}
 use Rattle.run_law.specs.{declared.{judgement.Why.Why, note.{Note.Note, NoteBody.NoteBody}}}
 use Rattle.run_law.specs.{device.States.adjustment_before, runs.{DueRecords.IsDue, Runs.IsFounded}}

@@ -13,6 +13,7 @@ use Rattle.audit_devices.specs.{Effects.carried_by, Keeping.records_before, decl
 use Rattle.audit_law.proofs.collections_lemmas.Clusters.{AreBefore, are-ignored, are-joined, are-opened}
 use Rattle.compression.proofs.{Growth.{Ordered, Ordered-from}}
 use Rattle.compression.proofs.Collectors.{AreClusters-unique, last_split, open_at-some, role_in-joined, role_in-opened}
+use Rattle.run_law.proofs.records.Order.{after_more, all_kept, before_is}
 use Rattle.compression.specs.{Clusters.{AreClusters, Cluster, Point, point_at}, Collection.{joined, opening}}
 use Rattle.compression.specs.{Role.{has_point_of, open_at, role, role_in}}
 use Rattle.compression.specs.{declared.taken.Taken.{Taken, TheVariants.{Joined, Opened, OtherCycle, Repeat}}}
@@ -25,7 +26,6 @@ use Rattle.lens_why.specs.Collections
 use Collections.{LastIsOfClusters, behind_point, collected_ground, last_collection, last_of, open_in, taken_to, told_of}
 use Rattle.net_plan.specs.declared.{ids.{DeviceId.DeviceId, LinkId.LinkId}, network.Network.Network}
 use Rattle.precision_law.proofs.records.Behind.{after_last_at}
-use Rattle.run_law.{proofs.records.Order.{after_more, all_kept, before_is}}
 use Rattle.run_law.specs.{declared.{judgement.{Judgement.Judgement, Reason.Reason}, note.Note.Note, steps.Ripe.Ripe}}
 use Rattle.run_law.specs.{device.States.{adjustment_at_hearing, cycle_in, state_at_hearing}}
 use Rattle.run_law.specs.{runs.DueRecords.{IsCaused, IsDue}, scenario.{Devices.{is_cm, plan_of}, Scenarios.Scenario}}

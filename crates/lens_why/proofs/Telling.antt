@@ -21,7 +21,7 @@ use Puts.{Ends-gives, PutFails-behind, PutFails-more, PutsLines-append, PutsLine
 use Rattle.tte_forms.specs.{Answering.{Ends, GivesAnswer}, Putting.{PutFails, PutsLines, Shown}}
 use Rattle.tte_forms.specs.{declared.status.Status.{Status, TheVariants.{Done, WriteFault}}}
 use Rattle.tte_io.specs.{Faults.next_count, Told.AppendsFront}
-use Rattle.tte_reports.{proofs.Reports.{end_soon, none_later, one_end, one_notes}}
+use Rattle.tte_reports.proofs.Reports.{end_soon, none_later, one_end, one_notes}
 use Rattle.tte_reports.{specs.{Places.note_at, Reports.IsReportOf}}
 use Rattle.tte_units.{proofs.general_lemmas.Lists.in_all, specs.declared.units.Units.Units}
 

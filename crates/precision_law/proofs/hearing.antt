@@ -3,4 +3,3 @@ pub mod Heard
 pub mod Timely
 pub mod InBlocks
 pub mod GoodFrames
-pub mod Received

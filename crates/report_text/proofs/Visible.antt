@@ -1,14 +1,16 @@
--- The words of records are visible, and those of names, numbers and events are short.
-use Rattle.std.proofs.{Common.{◌+◌, ◌<◌, ◌^◌, ◌∷◌, ◌≡◌, ◌≤◌, List, [], arith, length, length-append, refl, true, ℕ}}
-use Rattle.std.proofs.{lemmas.{Fmt.length_signed_le, Int.ints}}
+-- Words and texts are visible and short, and no LF breaks them.
+use Rattle.std.proofs.Common
+use Common.{◌++◌, ◌+◌, ◌<◌, ◌^◌, ◌∷◌, ◌≡◌, ◌≤◌, Bool, List, [], arith, false, length, length-append, refl, true, ℕ}
+use Rattle.std.proofs.lemmas.{Bool.Decides.nat_tests, Fmt.length_signed_le, Int.ints}
+use Rattle.std.proofs.lemmas.{List.Elements.{All-append, All-cons, All-weaker}}
 use Rattle.std.specs.{Fmt.signed_decimal, Int.Signed.mag, List.{join_with_byte, list_all}}
-use Rattle.std.specs.{Prelude.{◌≤ℤ◌, codes, decimal, neg_ℤ, negsuc, pos, ℤ}}
+use Rattle.std.specs.{Prelude.{◌==◌, ◌≤ℤ◌, codes, decimal, neg_ℤ, negsuc, pos, ℤ, ⊤}}
 use Rattle.hex.{proofs.HexLemmas.length-encode_with, specs.Hex.lower_digits}
 use Rattle.net_plan.specs.{Belonging.{HasDevice, HasLink, HasVl, IsOfNetwork, device_name, link_name, vl_name}}
 use Rattle.net_plan.specs.{Ranges.{IsDeviceInRange, IsInRange, IsLinkInRange, IsVlInRange}}
 use Rattle.net_plan.specs.declared.{event.What.What, ids.{DeviceId.DeviceId, LinkId.LinkId, VlId.VlId}}
 use Rattle.net_plan.specs.declared.{network.Network.Network, tables.Way.{TheVariants.{Down, Up}, Way}}
-use Rattle.report_text.proofs.{Texts.{AreOfLine, AreVisible}}
+use Rattle.report_text.proofs.{Splits.NonePasses}
 use Rattle.report_text.proofs.Characters
 use Characters.{IsVisible, decimal_visible, hex_visible, is_visible, name_visible, octet_is_byte, signed_visible}
 use Characters.{visible_from_test, word_is_bytes}
@@ -17,9 +19,10 @@ use Rattle.report_text.specs.Ranges
 use Ranges.{HasPassage, HasStream, IsBodyInRange, IsBodyOf, IsCount, IsReasonInRange, IsShortCount, IsSignedUnits}
 use Rattle.run_law.specs.declared.{judgement.{Judgement.Judgement, Reason.Reason, Why.Why}, note.NoteBody.NoteBody}
 use Rattle.sync_state.specs.declared.state.State.{State}
-use Rattle.trace_text.{proofs.WordsBack.in_list}
+use Rattle.trace_text.{proofs.{Splitting.{AreWords, words_joined}, WordsBack.in_list}}
 use Rattle.trace_text.specs.{EventLine.what_words, EventWords.way_text, Ranges.{IsRate, IsTime, IsWhatInRange}}
-use Rattle.trace_text.specs.{Steps.{Words, space}}
+use Rattle.trace_text.specs.{Steps.{Words, is_space, space, words}}
+use Rattle.tte_io.specs.Line.{lf}
 use Rattle.tte_units.{proofs.general_lemmas.Lists.{in_all, some_at}, specs.declared.{rates.Ppb.Ppb, units.Units.Units}}
 use Rattle.net_plan.specs.declared.event.What.TheVariants as events
 use Rattle.run_law.specs.declared.judgement.Judgement.TheVariants as judgements
@@ -27,6 +30,64 @@ use Rattle.run_law.specs.declared.judgement.Reason.TheVariants as reasons
 use Rattle.run_law.specs.declared.judgement.Why.TheVariants as whys
 use Rattle.run_law.specs.declared.note.NoteBody.TheVariants as bodies
 use Rattle.sync_state.specs.declared.state.State.TheVariants as states
+
+-- ---- texts that no LF breaks, and lines of visible words
+
+-- the octet is LF
+abbrev pub is_lf : ℕ → Bool
+is_lf c = c == lf
+
+-- no octet of the text is LF
+abbrev pub IsUnbroken : List ℕ → Type 0
+IsUnbroken text = NonePasses is_lf text
+
+visible_no_lf : (c : ℕ) → is_visible c ≡ true → is_lf c ≡ false
+visible_no_lf c h = grind (arith, nat_tests)
+
+pub visible_unbroken : (text : List ℕ) → IsVisible text → IsUnbroken text
+visible_unbroken text h = All-weaker (λ c. is_visible c ≡ true) (λ c. is_lf c ≡ false) visible_no_lf text h
+
+visible_no_space : (c : ℕ) → is_visible c ≡ true → is_space c ≡ false
+visible_no_space c h = grind (arith, nat_tests)
+
+pub visible_word : (text : List ℕ) → IsVisible text → NonePasses is_space text
+visible_word text h = All-weaker (λ c. is_visible c ≡ true) (λ c. is_space c ≡ false) visible_no_space text h
+
+-- two texts with a space between them
+pub unbroken_spaced : (front back : List ℕ) → IsUnbroken front → IsUnbroken back → IsUnbroken (front ++ space ∷ back)
+unbroken_spaced front back h g = All-append (λ c. is_lf c ≡ false) front (space ∷ back) h (All-cons (λ c. is_lf c ≡ false) space back refl g)
+
+-- ---- words
+
+-- each word is visible
+abbrev pub AreVisible : Words → Type 0
+AreVisible [] = ⊤
+AreVisible (w ∷ ws) = IsVisible w × AreVisible ws
+
+-- there is a word, and each is visible
+abbrev pub AreOfLine : Words → Type 0
+AreOfLine [] = ⊥
+AreOfLine (w ∷ ws) = IsVisible w × AreVisible ws
+
+joined_unbroken : (w : List ℕ) (ws : Words) → IsVisible w → AreVisible ws → IsUnbroken (join_with_byte space (w ∷ ws))
+joined_unbroken w [] h hs = visible_unbroken w h
+joined_unbroken w (v ∷ vs) h hs = unbroken_spaced w (join_with_byte space (v ∷ vs)) (visible_unbroken w h) (joined_unbroken v vs hs.0 hs.1)
+
+-- the line of visible words is not broken
+pub line_unbroken : (ws : Words) → AreOfLine ws → IsUnbroken (join_with_byte space ws)
+line_unbroken [] h = absurd h
+line_unbroken (w ∷ ws) h = joined_unbroken w ws h.0 h.1
+
+visible_are_words : (ws : Words) → AreVisible ws → AreWords ws
+visible_are_words [] h = tt
+visible_are_words (w ∷ ws) h = (visible_word w h.0, visible_are_words ws h.1)
+
+-- and it has these words
+pub words_of_line : (ws : Words) → AreOfLine ws → words (join_with_byte space ws) ≡ ws
+words_of_line [] h = absurd h
+words_of_line (w ∷ ws) h = words_joined w ws (visible_word w h.0) (visible_are_words ws h.1)
+
+-- ---- the words of records are visible, and those of names, numbers and events are short
 
 -- ---- the words of names, numbers and events are short
 

@@ -3,4 +3,3 @@ pub mod Verdicts
 pub mod Summaries
 pub mod Points
 pub mod Arrived
-pub mod Joined

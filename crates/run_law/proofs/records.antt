@@ -1,5 +1,4 @@
 -- Records.
 pub mod Order
-pub mod Happenings
 pub mod Told
 pub mod Members

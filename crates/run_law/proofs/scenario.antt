@@ -3,4 +3,3 @@ pub mod Decisions
 pub mod Decided
 pub mod Devices
 pub mod Ways
-pub mod Rated

@@ -1,9 +1,5 @@
-pub mod FirstBroken
 pub mod Shape
 pub mod Elements
-pub mod BetaLemmas
 pub mod NameLemmas
 pub mod WindowLemmas
-pub mod EntryPlaces
-pub mod SomePlaces
 pub mod AtPlace

@@ -1,27 +1,42 @@
--- The rows' frames that a switch has still to dispatch, from call to call.
-use Rattle.std.{specs.{List.{All, last_or}, Prelude.{filter, ⊤}, declared.vec.Vec.Vec}}
-use Rattle.std.proofs.{Common.{◌%◌, Global}}
-use Rattle.std.proofs.{lemmas.{Bool.{and_from, both_ways}, List.Elements.{Contains-get_or, filter-append}}}
+-- What a switch has still to dispatch, what its calls leave as it was, and what its site says.
+use Rattle.std.{specs.{List.{All, last_or}, Prelude.{Err, Ok, Result, filter, ⊤}, declared.vec.Vec.Vec}}
+use Rattle.std.proofs.{Common.{◌%◌, Global, not}}
+use Rattle.std.proofs.lemmas.{Bool.{and_from, both_ways}, List.Elements.{Contains-get_or, filter-append}}
+use Rattle.std.proofs.lemmas.{Option.slice_get-map}
 use Rattle.net_plan.specs.declared.tables.VirtualLink.{VirtualLink}
-use Rattle.run_law.specs.machines.Tasks.{HasFrame, offset_of}
+use Rattle.pcf_codec.specs.{EtherType.pcf_type, Fields.field, declared.refusal.PcfRefusal.PcfRefusal}
+use Rattle.run_law.specs.{declared.steps.Arrival.Arrival, device.Standpoints.Standpoint as Point}
+use Rattle.run_law.specs.{machines.{Answers.with_taken, Nodes.{arriving, standpoint_at}, Tasks.{HasFrame, offset_of}}}
+use Rattle.run_law.specs.{scenario.Devices.{channel_of, channel_of_link, is_parent_of, is_relay, member_of}}
+use Rattle.run_law.specs.control.Arrivals
+use Arrivals.{are_others, control_arrival, frame_fault, frame_or_fault, frame_taken, is_of_other_member}
 use Rattle.schedule_tables.{proofs.SlotLemmas.{in_range, one_entry}, specs.Windows.OccursIn}
-use Rattle.switch_ports.proofs.{EachRow.all_each, RowKeys.{fit_reopened, fit_taken, of_taken}, RowOrder.chained_each}
+use Rattle.switch_ports.proofs.{EachRow.all_each, Ranges.site_in_range}
+use Rattle.switch_ports.proofs.{RowKeys.{chained_each, fit_reopened, fit_taken, of_taken}}
 use Rattle.switch_ports.proofs.Words
 use Words.{if◌then◌else◌, ◌&&◌, ◌*◌, ◌++◌, ◌+ℤ◌, ◌+◌, ◌-ℤ◌, ◌<ℤ◌, ◌<◌, ◌==◌, ◌^◌, ◌∙◌, ◌∷◌, ◌≡◌, ◌≤ℤ◌, ◌≤◌, ◌⊎◌}
 use Words.{All-contains, AreChained, AreEach, Awaits, AwaitsIn, AwaitsSo, Bool, Changes, ClockTask, Contains, Departure}
-use Words.{Departures, Device, DeviceId, Dispatch, Entry, HasDepartures, Held, IfSome, Integrating, IsAccepted, IsBegun}
-use Words.{IsDeparture, IsEntry, IsInRange, IsLeaving, IsPending, IsSomeAnd, Joining, KnowsNext, List, Moment, Network}
-use Words.{Node, None, Off, Option, Precedes, Row, RowId, Some, StandsAs, State, Switch, SwitchRow, Synchronised}
-use Words.{TakenFrame, Task, VlId, [], amount, amount_most, ap, arith, cases_Bool, correcting, dispatch_at, dispatching}
-use Words.{doing, emitting, false, get_or, held_by, held_in, in_none, inl, inr, int_lt, ints, is_end, is_end_system}
-use Words.{length, nat_le, option_and_then, option_map, option_map_or, pos, reading_for, refl, sending, subst, sym}
-use Words.{through, true, value_of, with_taking, ℕ, ℤ}
-use Rattle.switch_ports.specs.{Departing.{Reopens, last_of}}
+use Words.{Departures, Device, DeviceId, Dispatch, Entry, HasDepartures, HasTaken, Held, IfSome, Intake, Integrating}
+use Words.{IsAccepted, IsBegun, IsDeparture, IsEntry, IsInRange, IsLeaving, IsPending, IsSiteOf, IsSomeAnd, Joining}
+use Words.{KnowsNext, Link, LinkId, List, MayCall, Members, Moment, Network, Node, None, Off, Option, Pcf, Phase, Port}
+use Words.{Precedes, Reason, Row, RowId, Some, Standing, StandsAs, State, Switch, SwitchRow, SyncPlan, Synchronised}
+use Words.{TakenFrame, Task, Units, VlId, [], after_arrival, amount, amount_most, ap, arith, called, cases_Bool}
+use Words.{correcting, dispatch_at, dispatching, doing, emitting, eqb-true, false, further, get_or, held_by, held_in}
+use Words.{in_none, inl, inr, int_lt, ints, is_end, is_end_system, length, link_at, nat_le, option_and_then, option_map}
+use Words.{option_map_or, port_of, pos, reading_for, refl, sending, slice_get, standpoint_of, subst, sym, through, true}
+use Words.{unwrap_or, value_of, with_taking, ℕ, ℤ}
+use Rattle.switch_ports.specs.{Departing.{IsKeptSo, Keeps, Reopens, last_of}, Intakes.IsTakenSo}
+use Rattle.switch_ports.specs.{Sites.{end_below, is_below, is_other_member, no_port, port_in}, Standpoints.IsAlive}
+use Rattle.switch_ports.specs.{declared.{site.Site.Site, standpoint.Standpoint.{Standpoint, Standpoint as Place}}}
 use Rattle.switch_ports.specs.Leaving
 use Leaving.{HasRow, IsFirstOf, IsFit, IsFresh, awaited_of, dispatch_by, is_dispatch_in, reopened, value_in, with_held}
 use Rattle.tte_units.proofs.general_lemmas.{Bools.{both_left, both_right, turned}, Integers.{int_lt-from, int_lt-is}}
 use Rattle.tte_units.proofs.general_lemmas.{Lists.{got_within, last_kept, last_pushed}, Options.mapped}
+use Rattle.run_law.specs.declared.steps.Arrival.TheVariants as arrivals
 use Rattle.schedule_tables.specs.declared.rule.Rule.TheVariants as rules
+use Rattle.switch_ports.specs.declared.site.Peer.TheVariants as peers
+
+-- ---- the rows' frames that a switch has still to dispatch, from call to call
 
 -- ---- what a switch has still to dispatch, from call to call
 
@@ -241,7 +256,7 @@ departure_kept {network} {taken} t changed {d} false e fits is = record {
   fit = is.fit;
 }
 
-pub departs_taken : {network : Network} {device : DeviceId} {old new : Departures} {taken : List TakenFrame}
+departs_taken : {network : Network} {device : DeviceId} {old new : Departures} {taken : List TakenFrame}
     (t : TakenFrame) (changed : ℤ) → t.cycle * amount network.cycle ≤ 2 ^ 62
     → Changes (taken_as (amount network.cycle) changed t) old new → HasDepartures network device old taken
     → HasDepartures network device new (taken ++ t ∷ [])
@@ -274,7 +289,7 @@ awaits_kept {network} t changed x done d true passed le is h held =
       λ f. opened_by changed o held f.is f.ahead,
     )
 
-pub awaits_taken : (state : State) {network : Network} {device : DeviceId} {old new : Departures}
+awaits_taken : (state : State) {network : Network} {device : DeviceId} {old new : Departures}
     {taken : List TakenFrame} (t : TakenFrame) (adjustment changed x : ℤ) (done : List ClockTask)
     → state ≡ Synchronised → HasDepartures network device old taken
     → Changes (taken_as (amount network.cycle) changed t) old new → KnowsNext adjustment new
@@ -565,3 +580,255 @@ dispatch_bound {s} {network} {device} {node} next (doing (dispatching row cycle)
     ap (λ (r : RowId). value_of network (dispatching r cycle)) (sym same) ∙ value_is cycle
     (leaves_so s network device node d st there) in
     subst (λ z. next.at.0 ≤ℤ (z -ℤ node.standing.adjustment.0)) (sym value) le
+
+-- ---- what the calls of a switch leave as it was, and the time-triggered frames that it takes
+
+-- ---- how a call leaves a switch to what it was given and has done
+
+module _ (s : Switch) (network : Network) (device : DeviceId) (node : Node) (moment : Moment) (phase : Phase) where
+  -- the moment of a call is in its range
+  pub alive : (at : Standpoint) → StandsAs s network device node → MayCall network device node moment phase
+      → at.reading ≡ moment.reading → at.adjustment ≡ s.sync.adjustment → IsAlive s.site at
+  alive at st may r a = record {
+    site_in_range = site_in_range st.accepted.range st.site;
+    reading = rw r (record { least = through _ _ _ st.begun may.later.reading; most = may.later.low_enough });
+    small = rw (a ∙ sym (ap (λ (x : Standing). x.adjustment) st.standing)) st.small;
+  }
+
+  -- a call that changes nothing else
+  pub called_stands : StandsAs s network device node → node.last.reading.0 ≤ℤ moment.reading.0
+      → StandsAs s network device (called moment phase node)
+  called_stands st later = record {
+    accepted = st.accepted;
+    site = st.site;
+    sound = st.sound;
+    standing = st.standing;
+    plan = st.plan;
+    heard = st.heard;
+    changed = st.changed;
+    corrects = st.corrects;
+    done = st.done;
+    begun = through _ _ _ st.begun later;
+    small = st.small;
+    steady =
+        λ timed. let h = st.steady timed in record {
+          number = h.number;
+          lower = h.lower;
+          upper = further _ _ _ _ h.upper later;
+          joined = h.joined;
+          fair = h.fair;
+        };
+    intake = st.intake;
+    collects = st.collects;
+    departs = st.departs;
+    awaits = awaits_called moment st later;
+  }
+
+-- ---- arrivals
+
+and_true : (b c : Bool) → c ≡ false → (b && not c) ≡ b
+and_true true c e = rw e refl
+and_true false c e = refl
+
+abbrev made_point : Bool → State → ℕ → ℤ → Point
+made_point part state reading adjustment = record { takes_part = part; state = state; reading = reading; adjustment = adjustment }
+
+pub point_same : {s : Switch} {network : Network} {device : DeviceId} {node : Node} (moment : Moment)
+    (at : Standpoint) → StandsAs s network device node → at.state ≡ s.sync.state → at.reading ≡ moment.reading
+    → at.adjustment ≡ s.sync.adjustment → standpoint_of at ≡ standpoint_at node moment
+point_same moment at st e r a = grind (arith, not, and_true, amount)
+
+module _ (node : Node) (moment : Moment) (network : Network) (device : DeviceId) (link : LinkId) where
+  taken_none : (frame : Pcf) (point : Units) (relay parent : Bool) → is_relay network device ≡ relay
+      → is_parent_of network device link ≡ parent → after_arrival node moment
+      (frame_taken network device link frame point) ≡ node
+  taken_none frame point false parent r p = rw r refl
+  taken_none frame point true true r p = rw r (rw p refl)
+  taken_none frame point true false r p = rw r (rw p refl)
+
+  fault_none : (at : Point) (frame : Pcf) (fault : Option Reason)
+      → after_arrival node moment (frame_or_fault network device link at frame fault) ≡ node
+  fault_none at frame (Some reason) = refl
+  fault_none at frame None = taken_none _ _ _ _ refl refl
+
+  -- a control frame is never taken as that of a virtual link
+  pub control_none : (at : Point) (read : Result Pcf PcfRefusal)
+      → after_arrival node moment (control_arrival network device link at read) ≡ node
+  control_none at (Err refusal) = refl
+  control_none at (Ok frame) = fault_none at frame (frame_fault network device link at frame)
+
+pub is_type : (octets : List ℕ) → field 12 2 octets ≡ pcf_type → (field 12 2 octets == pcf_type) ≡ true
+is_type octets e = rw e refl
+
+pub is_no_type : (octets : List ℕ) → (field 12 2 octets ≡ pcf_type → ⊥) → (field 12 2 octets == pcf_type) ≡ false
+is_no_type octets other = grind (arith, cases_Bool, eqb-true)
+
+-- ---- time-triggered frames that a switch takes
+
+with_intake : {s : Switch} {intake : Intake} {ds : Departures} {network : Network} {device : DeviceId} {node : Node}
+    (moment : Moment) {taken : List TakenFrame} → StandsAs s network device node
+    → node.last.reading.0 ≤ℤ moment.reading.0 → HasTaken network device intake taken
+    → HasDepartures network device ds taken
+    → AwaitsIn node.standing.state network ds node.standing.adjustment.0 node.changed node.done
+    (moment.reading.0 +ℤ node.standing.adjustment.0) → StandsAs
+    (record s { intake = intake; departures = ds }) network device
+    (called moment arriving (record node { taken = taken }))
+with_intake {intake} moment st later has departs awaits = record {
+  accepted = st.accepted;
+  site = st.site;
+  sound = st.sound;
+  standing = st.standing;
+  plan = st.plan;
+  heard = st.heard;
+  changed = st.changed;
+  corrects = st.corrects;
+  done = st.done;
+  begun = through _ _ _ st.begun later;
+  small = st.small;
+  steady =
+      λ timed. let h = st.steady timed in record {
+        number = h.number;
+        lower = h.lower;
+        upper = further _ _ _ _ h.upper later;
+        joined = h.joined;
+        fair = h.fair;
+      };
+  intake = has;
+  collects = st.collects;
+  departs = departs;
+  awaits = awaits;
+}
+
+-- where the switch stands when the frame comes
+pub record IsHere (s : Switch) (moment : Moment) (at : Place) : Type 0 where
+  pub state : at.state ≡ s.sync.state
+  pub reading : at.reading ≡ moment.reading
+  pub adjustment : at.adjustment ≡ s.sync.adjustment
+
+module _ (s : Switch) (intake : Intake) (ds : Departures) (network : Network) (device : DeviceId) (node : Node)
+    (moment : Moment) where
+  accepted_stands : (at : Place) (vl : VlId) (cycle : ℕ) → StandsAs s network device node
+      → node.last.reading.0 ≤ℤ moment.reading.0 → IsHere s moment at
+      → IsTakenSo network device node.taken intake (arrivals.Accepted vl cycle)
+      → Keeps s.departures (amount s.site.plan.cycle_length) s.changed.0 at vl cycle ds
+      → StandsAs (record s { intake = intake; departures = ds }) network device
+      (called moment arriving (with_taken node moment vl cycle))
+  accepted_stands at vl cycle st later here takes keeps =
+      let local = moment.reading.0 +ℤ node.standing.adjustment.0 in
+      let t : TakenFrame = record { vl = vl; cycle = cycle; at = local } in
+      let adjustment : at.adjustment ≡ node.standing.adjustment =
+      here.adjustment ∙ ap (λ (x : Standing). x.adjustment) (sym st.standing) in
+      let length_is : amount s.site.plan.cycle_length ≡ amount network.cycle =
+      ap (λ (p : SyncPlan). amount p.cycle_length) st.site.plan in
+      let at_is : at.reading.0 +ℤ at.adjustment.0 ≡ local =
+      ap (λ (u : Units). u.0 +ℤ at.adjustment.0) here.reading ∙ ap (λ (u : Units). moment.reading.0 +ℤ u.0)
+      adjustment in
+      let changes : Changes (taken_as (amount network.cycle) node.changed t) s.departures ds =
+      subst (λ z. Changes (taken_as (amount network.cycle) z t) s.departures ds) (sym st.changed)
+      (subst (λ n. Changes (taken_as n s.changed.0 t) s.departures ds) length_is
+      (subst (λ (z : ℤ). Changes (taken_as (amount s.site.plan.cycle_length) s.changed.0
+      (record { vl = vl; cycle = cycle; at = z })) s.departures ds) at_is
+      keeps.changes)) in
+      let state : node.standing.state ≡ Synchronised =
+      ap (λ (x : Standing). x.state) st.standing ∙ sym here.state ∙ keeps.synchronised in
+      with_intake moment st later (takes t refl refl)
+      (departs_taken t node.changed
+      (subst (λ (n : ℕ). cycle * n ≤ 2 ^ 62) length_is keeps.in_range) changes st.departs)
+      (awaits_taken node.standing.state t node.standing.adjustment.0 node.changed
+      (node.last.reading.0 +ℤ node.standing.adjustment.0) node.done state st.departs changes
+      (subst (λ (u : Units). KnowsNext u.0 ds) adjustment keeps.next) st.awaits
+      (later_by node.last.reading.0 moment.reading.0 node.standing.adjustment.0 later))
+
+  not_taken : StandsAs s network device node → node.last.reading.0 ≤ℤ moment.reading.0
+      → HasTaken network device intake node.taken → ds ≡ s.departures
+      → StandsAs (record s { intake = intake; departures = ds }) network device (called moment arriving node)
+  not_taken st later has as_before =
+      subst (λ (x : Departures). StandsAs (record s { intake = intake; departures = x }) network device
+      (called moment arriving node)) (sym as_before)
+      (with_intake moment st later has st.departs
+      (called_stands s network device node moment arriving st later).awaits)
+
+  -- the switch of whose frame this became
+  pub arrival_stands : (at : Place) (is : Arrival) → StandsAs s network device node
+      → node.last.reading.0 ≤ℤ moment.reading.0 → IsHere s moment at → IsTakenSo network device node.taken intake is
+      → IsKeptSo s.departures (amount s.site.plan.cycle_length) s.changed.0 at is ds
+      → StandsAs (record s { intake = intake; departures = ds }) network device
+      (called moment arriving (after_arrival node moment is))
+  arrival_stands at (arrivals.Accepted vl cycle) st later here so kept =
+      accepted_stands at vl cycle st later here so kept
+  arrival_stands at (arrivals.Delivered vl cycle) st later here so kept = absurd so
+  arrival_stands at (arrivals.Dropped reason) st later here so kept =
+      not_taken st later so kept
+  arrival_stands at (arrivals.Waits frame point) st later here so kept =
+      not_taken st later so kept
+  arrival_stands at (arrivals.Passes frame way) st later here so kept =
+      not_taken st later so kept
+  arrival_stands at (arrivals.PassesAndWaits frame way point) st later here so kept =
+      not_taken st later so kept
+
+-- ---- what a site says of its links
+
+-- the port of a link that may be there
+abbrev port_by : Network → DeviceId → Option Link → Port
+port_by network device o = unwrap_or (option_map (port_of network device) o) no_port
+
+pub port_is : {network : Network} {device : DeviceId} {site : Site} (link : LinkId) → IsSiteOf network device site
+    → port_in site.ports.items link ≡ port_by network device (link_at network link)
+port_is {network} {device} link h =
+    ap (λ (ports : List Port). unwrap_or (slice_get ports link.0) no_port) h.ports
+    ∙ ap (λ (o : Option Port). unwrap_or o no_port) (slice_get-map (port_of network device) network.link link.0)
+
+-- ---- members
+
+by_peer : (below end : Bool) (member : Option ℕ) (members : Members)
+    → (below && end && are_others member members) ≡ is_other_member (if below then (if end then end_below member else peers.Switch) else peers.Parent) members
+by_peer false end member members = refl
+by_peer true false member members = refl
+by_peer true true None members = refl
+by_peer true true (Some m) members = refl
+
+member_by : (network : Network) (device : DeviceId) (o : Option Link) (members : Members)
+    → option_map_or (λ l. l.parent.0 == device.0 && is_end network l.child && are_others (member_of network l.child) members) o false ≡ is_other_member
+    (port_by network device o).peer members
+member_by network device None members = refl
+member_by network device (Some l) members = by_peer (l.parent.0 == device.0) (is_end network l.child) (member_of network l.child) members
+
+pub member_same : {network : Network} {device : DeviceId} {site : Site} (link : LinkId) (members : Members)
+    → IsSiteOf network device site → is_other_member (port_in site.ports.items link).peer members
+    ≡ is_of_other_member network device link members
+member_same {network} {device} link members h =
+    ap (λ (p : Port). is_other_member p.peer members) (port_is link h) ∙ sym
+    (member_by network device (link_at network link) members)
+
+-- ---- ways
+
+below_end : (o : Option ℕ) → is_below (end_below o) ≡ true
+below_end None = refl
+below_end (Some m) = refl
+
+by_below : (below end : Bool) (member : Option ℕ) → is_below (if below then (if end then end_below member else peers.Switch) else peers.Parent) ≡ below
+by_below false end member = refl
+by_below true false member = refl
+by_below true true member = below_end member
+
+module _ (network : Network) (device : DeviceId) where
+  below_by : (o : Option Link) → is_below (port_by network device o).peer
+      ≡ option_map_or (λ l. l.parent.0 == device.0) o false
+  below_by None = refl
+  below_by (Some l) = by_below (l.parent.0 == device.0) (is_end network l.child) (member_of network l.child)
+
+  pub parent_same : {site : Site} (link : LinkId) → IsSiteOf network device site
+      → is_below (port_in site.ports.items link).peer ≡ is_parent_of network device link
+  parent_same link h =
+      ap (λ (p : Port). is_below p.peer) (port_is link h) ∙ below_by (link_at network link)
+
+  -- ---- wires and channels
+
+  channel_by : (o : Option Link) → (port_by network device o).channel
+      ≡ option_and_then (λ l. channel_of network l.parent) o
+  channel_by None = refl
+  channel_by (Some l) = refl
+
+  pub channel_same : {site : Site} (link : LinkId) → IsSiteOf network device site
+      → (port_in site.ports.items link).channel ≡ channel_of_link network link
+  channel_same link h = ap (λ (p : Port). p.channel) (port_is link h) ∙ channel_by (link_at network link)

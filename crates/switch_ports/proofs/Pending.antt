@@ -9,9 +9,8 @@ use Rattle.run_law.specs.{machines.{Calls.HasDue, Tasks.{IsDueReading, IsFirstTa
 use Rattle.schedule_tables.specs.Dispatches.{dispatch_order}
 use Rattle.switch_ports.{specs.Due.least_of}
 use Rattle.switch_ports.proofs.{SwitchStates.number_of}
-use Rattle.switch_ports.proofs.Dispatching
-use Dispatching.{IsDispatch, dispatch_bound, dispatch_is, leaves_so, next_is, next_of, no_dispatch, not_sooner}
-use Dispatching.{pending_dispatch, value_is}
+use Rattle.switch_ports.proofs.Dispatching.{IsDispatch, dispatch_bound, dispatch_is, leaves_so, next_is, next_of}
+use Rattle.switch_ports.proofs.Dispatching.{no_dispatch, not_sooner, pending_dispatch, value_is}
 use Rattle.switch_ports.proofs.Words
 use Words.{◌*◌, ◌++◌, ◌+ℤ◌, ◌+◌, ◌-ℤ◌, ◌<ℤ◌, ◌<◌, ◌∙◌, ◌∷◌, ◌≡◌, ◌≤ℤ◌, ◌≤◌, ◌⊎◌, All-contains, AreClusters, Cluster}
 use Words.{Collecting, Compressed, Contains, Contains-append_right, DeviceId, Dispatch, IfSome, Integrating, IsAccepted}

@@ -1,16 +1,15 @@
 -- How a switch stands from its beginning on: as it hears and is corrected, and what room its numbers have.
 use Rattle.std.{proofs.lemmas.List.Elements.Contains-append_cases, specs.Prelude.int_le}
 use Rattle.compression.{proofs.Growth.{in_cases, in_filter}, specs.Clusters.Point}
-use Rattle.run_law.{proofs.control.Verdicts.{enough_not, in_time_by}}
+use Rattle.run_law.proofs.control.Verdicts.{enough_not, in_time_by}
+use Rattle.switch_ports.proofs.Dispatching.{awaits_called, awaits_cleared, awaits_fresh, awaits_reopened, departs_fresh}
+use Rattle.switch_ports.proofs.Dispatching.{departs_reopened, departs_stopped}
 use Rattle.run_law.specs.{device.States.is_synchronised}
 use Rattle.run_law.specs.{machines.{Answers.{after_correction, with_heard, with_joined}, Nodes.begun_node}}
 use Rattle.run_law.specs.{scenario.Devices.start_of}
 use Rattle.schedule_tables.{proofs.Margins.master_ends, specs.Delays.pcf_port_time}
 use Rattle.switch_ports.{specs.{Departing.Reopens, Standpoints.IsPoint, Steps.{Corrects, Hears, IsHeardSo, Joins}}}
 use Rattle.switch_ports.proofs.{Ranges.expected_most}
-use Rattle.switch_ports.proofs.Dispatching
-use Dispatching.{awaits_called, awaits_cleared, awaits_fresh, awaits_reopened, departs_fresh, departs_reopened}
-use Dispatching.{departs_stopped}
 use Rattle.switch_ports.proofs.Words
 use Words.{if◌then◌else◌, ◌&&◌, ◌*ℤ◌, ◌*◌, ◌++◌, ◌+ℤ◌, ◌+◌, ◌-ℤ◌, ◌<ℤ◌, ◌<◌, ◌^◌, ◌∙◌, ◌∷◌, ◌≡◌, ◌≤ℤ◌, ◌≤◌, ◌⊎◌, A}
 use Words.{Awaits, B, Bool, Channel, ClockTask, Collecting, Compressed, Contains, Departures, Device, DeviceId}

@@ -2,13 +2,14 @@
 use Rattle.std.proofs.{Common.All}
 use Rattle.std.proofs.{lemmas.List.{Elements.{All-append, Contains-push, Contains-push_cases}, get_or_default}}
 use Rattle.compression.specs.{Clusters.{Point, point_at}, declared.taken.Taken.Taken}
-use Rattle.run_law.{proofs.control.Verdicts.{in_time_not, tells_by as enough}}
+use Rattle.run_law.proofs.control.Verdicts.{in_time_not, tells_by as enough}
+use Rattle.switch_ports.proofs.{EachRow.all_each, Emissions.{IsBit, master_is}, Ranges.expected_most}
+use Rattle.switch_ports.proofs.{RowKeys.{distinct, fit_closed, of_closed}}
+use Rattle.switch_ports.proofs.Dispatching.{IsNextOf, awaits_called, called_stands, departs_each, its_awaits, later_by}
+use Rattle.switch_ports.proofs.Dispatching.{next_of}
 use Rattle.run_law.specs.{declared.steps.{Act.Act, Ripe.Ripe}, machines.{Answers.{IsActOf, with_done}, Calls.HasDue}}
 use Rattle.run_law.specs.control.{Collections.ripe_by_role, Hearing.{heard_by_schedule, heard_enough}}
 use Rattle.run_law.specs.control.{Permanence.IsCollectionOutcome}
-use Rattle.switch_ports.proofs.{Dispatching.{IsNextOf, awaits_called, departs_each, its_awaits, later_by, next_of}}
-use Rattle.switch_ports.proofs.{EachRow.all_each, Emissions.{IsBit, master_is}, Ranges.expected_most}
-use Rattle.switch_ports.proofs.{RowKeys.{fit_closed, of_closed}, RowOrder.distinct, Standings.called_stands}
 use Rattle.switch_ports.proofs.{SwitchStates.{IsComing, expected_is, fair_frame, hears_stands, joins_stands}}
 use Rattle.switch_ports.proofs.Pending
 use Pending.{EmitsNone, correction_pending, first_dispatch, nothing_due, value_reached, window_is}

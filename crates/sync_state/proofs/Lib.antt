@@ -1,5 +1,4 @@
 pub mod membership_lemmas
 pub mod CallLemmas
 pub mod VerdictLemmas
-pub mod StateFacts
 pub mod PlanFacts

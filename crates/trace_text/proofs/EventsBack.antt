@@ -9,9 +9,8 @@ use Rattle.net_plan.specs.{Rules.{DeviceIsNew, LinkIsNew}}
 use Rattle.net_plan.specs.declared.{event.{Event.Event, What.What}, ids.{DeviceId.DeviceId, LinkId.LinkId}}
 use Rattle.net_plan.specs.declared.{network.Network.Network, tables.Way.Way}
 use Rattle.trace_text.proofs.{Splitting.{AreWords, event_word_is_word, hex_is_word, way_is_word, words_joined}}
-use Rattle.trace_text.proofs.Lowering
-use Lowering.{device_forth, event_word_forth, link_forth, lower, lower_words, octets_forth, rate_forth, units_forth}
-use Lowering.{way_forth}
+use Rattle.trace_text.proofs.Lowering.{device_forth, event_word_forth, link_forth, lower, lower_words, octets_forth}
+use Rattle.trace_text.proofs.Lowering.{rate_forth, units_forth, way_forth}
 use Rattle.trace_text.proofs.WordsBack
 use WordsBack.{device_back, device_is_word, event_word_back, link_back, link_is_word, octets_back, rate_back}
 use WordsBack.{rate_is_word, time_is_word, units_back, way_back}

@@ -1,6 +1,6 @@
 -- What a report lacks first is told by its debts.
 use Rattle.tte_audit.{proofs.Words.{amount, ap, happenings, refl, scenario_of, subst, sym}, specs.Laws.ReportLackLaw}
-use Rattle.audit_law.{proofs.law_lemmas.FirstUnpaid.lack_law, specs.law.DebtLaws.IsFirstLack}
+use Rattle.audit_law.{proofs.law_lemmas.Owed.lack_law, specs.law.DebtLaws.IsFirstLack}
 
 pub report_lack_law : ReportLackLaw
 report_lack_law network ns end time sound =

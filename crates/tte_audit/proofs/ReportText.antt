@@ -6,16 +6,16 @@ use Rattle.std.proofs.lemmas.List.{Sums.fails_before_first}
 use Rattle.std.proofs.lemmas.List.Splits
 use Splits.{join_with_byte-slice_split, length-slice_split, slice_split_at, slice_split_first, slice_split_none}
 use Rattle.std.specs.{List.{cons_option, join_with_byte, position_or_len, slice_split}, Prelude.{filter_map, slice_get}}
-use Rattle.audit_law.{proofs.law_lemmas.{FirstUnpaid.lack_law, Founded.timely}}
+use Rattle.audit_law.proofs.law_lemmas.{Founded.timely, Owed.lack_law}
+use Rattle.audit_sweep.proofs.Lacks.{sound_more, sound_none}
+use Rattle.report_text.{proofs.SameReports.note_unbroken, specs.Ranges.{IsNoteInRange, IsNoteOf}}
+use Rattle.run_law.proofs.{law.FirstDeliveries.at_length, records.Order.{as_many, happenings_on}}
 use Rattle.audit_law.specs.law.{DebtLaws.IsFirstDebt, Debts.IsPaid}
 use Rattle.audit_law.specs.law.{Findings.{AreSound, IsLacking, IsSound, IsUnfoundedAt, LacksNothing}, Owed.Pays}
 use Rattle.audit_law.specs.law.{TracedEvents.{OwesEvent, TellsEvent}}
-use Rattle.audit_sweep.{proofs.NextRecords.{sound_more, sound_none}}
 use Rattle.audit_sweep.specs.{Indexing.IsIndex, Judging.Befalls, Sweeping.IsSwept}
 use Rattle.audit_sweep.specs.{declared.{index.Index.Index, sweep.Sweep.Sweep}}
 use Rattle.fault_hypothesis.proofs.storm_lemmas.Storms.{any_split}
-use Rattle.report_text.{proofs.SameReports.note_unbroken, specs.Ranges.{IsNoteInRange, IsNoteOf}}
-use Rattle.run_law.proofs.{law.FirstDeliveries.at_length, records.Happenings.{as_many, happenings_on}}
 use Rattle.run_law.proofs.{runs.{Grow.in_two, NetworkRuns.one_more, Places.in_right}}
 use Rattle.run_law.specs.records.{Happenings.{Happening, happening, time_of}, Order.{IsBefore, IsIn}}
 use Rattle.run_law.specs.records.{Ranks.{key, members_in, rank}}

@@ -1,36 +1,40 @@
 -- What the words of a report's records tell, and how they are spelled and read back.
-use Rattle.std.proofs.{Common.drop}
-use Rattle.std.proofs.lemmas.{Bool.Decides.nat_tests, Fmt.decimal_digit}
-use Rattle.std.proofs.lemmas.List.{Elements.{All-cons, All-head, All-nil, All-tail}, Splits.join_with_byte-slice_split}
-use Rattle.std.proofs.lemmas.List.{take_at}
-use Rattle.std.specs.{Char.to_ascii_lowercase, Cmp.Lexicographic.bytes_decides, Fmt.signed_decimal}
-use Rattle.std.specs.{List.{AllPass, join_with_byte}, Prelude.{All, IfSome, MatchOption, bytes_eq, find, pos}}
-use Rattle.std.specs.{Result.result_unwrap_or, Str.str_to_ascii_lowercase}
+use Rattle.std.proofs.{Common.{◌-◌, drop}, Math.Nat.pow-le-pow_right}
+use Rattle.std.proofs.lemmas.{Fmt.{decimal-digits_value, decimal_digit, decimal_injective}, Int.Digits.digits_value-lt}
+use Rattle.std.proofs.lemmas.{Str.Parse.{IsNumeralModel, numerals_by_value, tells_digits}}
+use Rattle.std.proofs.lemmas.List.{Elements.{All-cons, All-head, All-nil, All-tail}}
+use Rattle.std.proofs.lemmas.List.{Splits.{join_with_byte-slice_split, slice_split_at, slice_split_none}}
+use Rattle.std.proofs.lemmas.List.{length-take-le, take_at}
+use Rattle.std.specs.{Char.{digit_value, is_ascii_digit, to_ascii_lowercase}, Cmp.Lexicographic.bytes_decides}
+use Rattle.std.specs.{Fmt.signed_decimal, List.{AllPass, join_with_byte}}
+use Rattle.std.specs.{Prelude.{All, IfSome, MatchOption, bytes_eq, find, pos}, Result.result_unwrap_or}
+use Rattle.std.specs.{Str.str_to_ascii_lowercase}
 use Rattle.hex.specs.Hex.{encode_lower}
 use Rattle.net_plan.specs.{Belonging.{HasDevice, IsOfNetwork, device_name}, Ranges.IsInRange}
 use Rattle.net_plan.specs.{declared.ids.DeviceId.DeviceId}
-use Rattle.report_text.proofs.{Characters.decimal_visible, Texts.{AreOfLine, AreVisible, words_of_line}}
-use Rattle.report_text.proofs.{Visible.{body_visible, units_visible, what_visible}}
+use Rattle.report_text.proofs.{Characters.decimal_visible}
+use Rattle.report_text.proofs.Visible.{AreOfLine, AreVisible, body_visible, units_visible, what_visible, words_of_line}
 use Rattle.report_text.specs.{NoteLine.{body_text, body_words}, NoteWords.members_text}
 use Rattle.report_text.specs.{Ranges.{IsShortCount, IsSignedUnits}}
 use Rattle.run_law.specs.{declared.plain.bodies.PlainKind.PlainKind, plain.Bodies.body_of}
-use Rattle.trace_text.{proofs.{EventsBack.{prints_back, words_back}, WordsBack.units_back}}
+use Rattle.trace_text.{proofs.{EventsBack.{prints_back, words_back}, Splitting.decimal_is_word, WordsBack.units_back}}
 use Rattle.trace_text.specs.{EventLine.{what_text, what_words}}
 use Rattle.trace_text.specs.{EventReading.{event_read, event_reader, what_behind, what_reader}, Ranges.IsWhatInRange}
-use Rattle.trace_text.specs.{Steps.{◌>>=◌, Read, Reader, and_then, give, line_end, outcome, space, words}}
+use Rattle.trace_text.specs.{Steps.{◌>>=◌, Read, Reader, and_then, give, is_space, line_end, outcome, space, words}}
 use Rattle.trace_text.specs.{WordReading.event_word}
 use Rattle.tte_audit.proofs.{ReportText.{events_on, fault_here, fault_on, few_events, right_none, right_on}}
-use Rattle.tte_audit.proofs.Words.{◌++◌, ◌+◌, ◌<◌, ◌^◌, ◌∙◌, ◌∷◌, ◌≡◌, ◌≤◌, AreTold, Bool, Err, Event, Follows}
-use Rattle.tte_audit.proofs.Words.{IsEventFault, IsReasonInRange, IsTextOf, Judgement, List, MayCome, Network, None}
-use Rattle.tte_audit.proofs.Words.{Note, NoteBody, Ok, Option, Reason, Some, State, Units, What, Why, Words, [], ap}
-use Rattle.tte_audit.proofs.Words.{append_assoc, arith, behind_word, codes, decimal, events_of, false, head_word}
-use Rattle.tte_audit.proofs.Words.{is_some, judgement_text, kind_text, length, length-append, note_text, reason_words}
-use Rattle.tte_audit.proofs.Words.{refl, rules, state_text, subst, sym, take, true, why_text, with_event, ℕ}
+use Rattle.tte_audit.proofs.Words.{◌++◌, ◌+◌, ◌<◌, ◌^◌, ◌∙◌, ◌∷◌, ◌≡◌, ◌≤◌, AllDigits, AreTold, Bool, Err, Event}
+use Rattle.tte_audit.proofs.Words.{Follows, IsEventFault, IsReasonInRange, IsTextOf, Judgement, List, MayCome, Network}
+use Rattle.tte_audit.proofs.Words.{None, Note, NoteBody, Ok, Option, Reason, Some, State, Units, What, Why, Words, []}
+use Rattle.tte_audit.proofs.Words.{ap, append-nil, append_assoc, arith, behind_word, codes, decimal, digits_value}
+use Rattle.tte_audit.proofs.Words.{events_of, false, get_or, head_word, is_some, judgement_text, kind_text, length}
+use Rattle.tte_audit.proofs.Words.{length-append, nat_tests, note_text, reason_words, refl, rules, state_text, subst}
+use Rattle.tte_audit.proofs.Words.{sym, take, true, why_text, with_event, ℕ}
 use Rattle.tte_audit.specs.{Kinds.Tells, Named.IsNamed, Report.{HasNoEvent, saying}, Telling.AreFollowed}
 use Rattle.tte_audit.specs.{declared.{kind.KindWord.KindWord, passes.RecordsTold.RecordsTold}}
 use Rattle.tte_audit.specs.Spellings
 use Spellings.{first_word, is_no_capital, judgement_spelled, kind_spelled, reason_spelled, state_spelled, why_spelled}
-use Rattle.tte_units.{proofs.general_lemmas.{Lists.{differ, find_at, find_of}, Options.{none_at, some_of}}}
+use Rattle.tte_units.{proofs.general_lemmas.{Lists.{differ, find_at, find_of, same_name}, Options.{none_at, some_of}}}
 use Rattle.tte_units.{specs.{Amount.units_of, declared.frames.members.Members.Members}}
 use Rattle.net_plan.specs.declared.event.What.TheVariants as events
 use Rattle.run_law.specs.declared.judgement.Judgement.TheVariants as judgements
@@ -40,6 +44,53 @@ use Rattle.run_law.specs.declared.note.NoteBody.TheVariants as bodies
 use Rattle.run_law.specs.declared.plain.bodies.PlainKind.TheVariants as said
 use Rattle.sync_state.specs.declared.state.State.TheVariants as states
 use Rattle.tte_audit.specs.declared.kind.KindWord.TheVariants as kinds
+
+-- ---- when a text is the decimal of a number
+
+own : IsNumeralModel (AllDigits 10) (digits_value 10)
+own = numerals_by_value (AllDigits 10) tells_digits
+
+-- some digits have a small value
+pub few_digits : (text : List ℕ) (i : ℕ) → AllDigits 10 (take i text) → i < length text → i ≤ 18 → digits_value 10 (take i text) < 1000000000000000000
+few_digits text i all below short =
+    let value = digits_value-lt 10 (take i text) all in
+    let long : length (take i text) ≡ i = length-take-le i text (omega (arith, below)) in
+    let most = pow-le-pow_right {n = 10} (omega arith) {i = length (take i text)} {j = 18} (omega (arith, long, short)) in
+    omega (arith, value, most)
+
+-- digits at the front of a text that have no leading zero are the decimal of their value
+pub decimal_front : (left front rest : List ℕ) (count number : ℕ) → front ≡ take count left → left ≡ front ++ rest → AllDigits 10 (take count left)
+    → number ≡ digits_value 10 (take count left) → 0 < count → count ≤ length left → (get_or front 0 0 ≡ 48 → length front ≤ 1) → number < 2 ^ 64
+    → left ≡ decimal number ++ rest
+decimal_front left front rest count number is parts all value some within plain bound =
+    let same : number ≡ digits_value 10 front = value ∙ ap (digits_value 10) (sym is) in
+    let digits : AllDigits 10 front = subst (AllDigits 10) (sym is) all in
+    let long : length front ≡ count = ap length is ∙ length-take-le count left within in
+    let whole : decimal (digits_value 10 front) ≡ front = decimal-digits_value own front digits (omega (arith, long, some))
+    (λ zero. omega (arith, plain zero, long, some)) (omega (arith, same, bound)) in
+    parts ∙ ap (λ (t : List ℕ). t ++ rest) (sym whole ∙ ap decimal (sym same))
+
+-- a digit's value
+pub digit_shows : (c : ℕ) → is_ascii_digit c ≡ true → digit_value c < 10
+digit_shows c h = grind (arith, nat_tests)
+
+pub digit_spells : (c : ℕ) → is_ascii_digit c ≡ true → digit_value c ≡ c - 48
+digit_spells c h = grind (arith, nat_tests)
+
+-- a number is the only word of its text, or the first one where a space follows
+pub number_alone : (text rest : List ℕ) (n : ℕ) → n < 2 ^ 64 → text ≡ decimal n ++ rest → rest ≡ [] → words text ≡ decimal n ∷ []
+number_alone text rest n range e none =
+    ap words (e ∙ ap (λ (t : List ℕ). decimal n ++ t) none ∙ append-nil (decimal n)) ∙ slice_split_none is_space (decimal n) (decimal_is_word n range)
+
+pub number_first : (text rest behind : List ℕ) (n : ℕ) → n < 2 ^ 64 → text ≡ decimal n ++ rest → rest ≡ space ∷ behind → words text ≡ decimal n ∷ words behind
+number_first text rest behind n range e parts =
+    ap words (e ∙ ap (λ (t : List ℕ). decimal n ++ t) parts) ∙ slice_split_at is_space (decimal n) space behind (decimal_is_word n range) refl
+
+-- the first word is the decimal of one number alone
+pub first_number : (ws rest : Words) (m n : ℕ) → m < 2 ^ 64 → n < 2 ^ 64 → ws ≡ decimal m ∷ rest → first_word ws ≡ Some (decimal n) → m ≡ n
+first_number ws rest m n small range is first = decimal_injective m n small range (same_name (decimal m) (decimal n) (sym (ap first_word is) ∙ first))
+
+-- ---- what the words of a report's records tell, and how they are spelled and read back
 
 -- ---- what a record says is an event, or words of a kind of record tell it
 

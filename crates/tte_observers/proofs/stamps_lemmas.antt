@@ -1,12 +1,6 @@
 pub mod granules_lemmas
 pub mod SameRecords
 pub mod LineStamps
-pub mod Staying
-pub mod Ordered
 pub mod Stamped
 pub mod EventLines
-pub mod Telling
-pub mod Safely
-pub mod Ends
-pub mod Completes
 pub mod Words

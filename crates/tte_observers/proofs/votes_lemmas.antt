@@ -2,8 +2,5 @@ pub mod tmr_lemmas
 pub mod law_lemmas
 pub mod ballots_lemmas
 pub mod VoteLines
-pub mod Along
 pub mod Safely
-pub mod Ends
-pub mod Completes
 pub mod Words

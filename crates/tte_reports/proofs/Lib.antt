@@ -1,4 +1,3 @@
 pub mod Answers
 pub mod Sources
 pub mod Reports
-pub mod Placed

@@ -15,14 +15,14 @@ use Rattle.tte_forms.specs.{networks.{Accepting.{IsNetworkAnswer, MeansAccepted}
 use Rattle.tte_forms.specs.declared.{status.Status.{Status, TheVariants.{Done, ReadFault, WriteFault}}}
 use Rattle.tte_forms.specs.declared.form.Form.{Form}
 use Rattle.tte_forms.specs.declared.form.Form.{TheVariants.{Audit, Capture, Check, Run, Show, Stamp, Storm, Vote, Wire}}
-use Rattle.tte_observers.proofs.{captures_lemmas.{Laws.shows_packets, wires_lemmas.Along.{all_whole, either_stops}}}
-use Rattle.tte_observers.proofs.{stamps_lemmas.Completes.{stamp_done, stamp_one}}
-use Rattle.tte_observers.proofs.{votes_lemmas.Completes.{vote_done, vote_one}}
+use Rattle.tte_observers.proofs.{captures_lemmas.{Packets.shows_packets, wires_lemmas.Along.{all_whole, either_stops}}}
+use Rattle.tte_observers.proofs.{stamps_lemmas.LineStamps.{stamp_done, stamp_one}}
+use Rattle.tte_observers.proofs.{votes_lemmas.VoteLines.{vote_done, vote_one}}
+use Rattle.tte_reports.proofs.Reports.{audit_done, report_one}
 use Rattle.tte_observers.specs.{stamps.Answer.IsStampAnswer, votes.Answer.{IsVoteAnswer, the_names}}
 use Rattle.tte_observers.specs.captures.{Answer.capture_answer, pcap.Writing.head_octets}
 use Rattle.tte_observers.specs.captures.wires.Answer.{EndsEither, IsCapture, IsHeaded, IsNamed, IsWireAnswer}
 use Rattle.tte_observers.specs.captures.wires.Answer.{IsWireNetworkAnswer, silent_lines, way_lines}
-use Rattle.tte_reports.{proofs.Reports.{audit_done, report_one}}
 use Rattle.tte_reports.{specs.{Answer.audit_limit, Reports.{IsAuditAnswer, IsAuditedAnswer}}}
 use Rattle.tte_run.specs.{SecondFiles.{ForSecond, second_of}, Top.{AnswerIsOne, AnswersWords, IsFormAnswer}}
 use Rattle.tte_run.specs.{Whole.{Completes, MeansRun}}

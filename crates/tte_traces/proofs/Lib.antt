@@ -3,11 +3,9 @@ pub mod EventOrder
 pub mod Runs
 pub mod Answers
 pub mod Given
-pub mod Along
 pub mod Splits
 pub mod Completes
 pub mod Ends
-pub mod Reported
 pub mod Taken
 pub mod EventRanges
 pub mod Words

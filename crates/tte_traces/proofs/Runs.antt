@@ -1,9 +1,9 @@
--- The run under a trace: how far it lasts, what its answer begins with, and that it is safe.
-use Rattle.std.{specs.{List.{All, cons_option}, Prelude.nat_le}}
+-- The run under a trace: how far it lasts, its report and its answer, and that it is safe.
 use Rattle.std.proofs.{Common.{filter, option_map, slice_get}}
 use Rattle.std.proofs.lemmas.{Bool.{cases_lt, eq-eqb, lt-leb}}
 use Rattle.std.proofs.lemmas.{List.{Elements.{All-cons, All-nil, filter-append, filter_map-append}, map-append}}
 use Rattle.std.proofs.lemmas.{Option.slice_get_within}
+use Rattle.std.specs.{Io.KnownBytes.Appends, List.{All, cons_option}, Prelude.{IfErr, MatchResult, OnErr, OnOk, nat_le}}
 use Rattle.drift_clock.{proofs.ExactSegments.{exact_begins, exact_laws}}
 use Rattle.drift_clock.specs.{RateSteps.{RateStep, up_to}, Readings.value_after}
 use Rattle.drift_clock.specs.{Segment.{fresh_segment, segment_reading, stepped_segment}}
@@ -17,7 +17,7 @@ use Rattle.precision_law.proofs.traffic_lemmas.{safety_lemmas.Lawful.{ended, las
 use Rattle.precision_law.proofs.traffic_lemmas.existence_lemmas.{Existence.runs_exist_to_each_mark}
 use Rattle.precision_law.proofs.traffic_lemmas.existence_lemmas.{bounds.Weights.device_there}
 use Rattle.report_text.specs.{NoteLine.note_line, Ranges.{HasPassage, HasStream, IsBodyOf}}
-use Rattle.run_law.proofs.{law.FirstDeliveries.numbered_in, scenario.Rated.{Holds, step_at}}
+use Rattle.run_law.proofs.{law.FirstDeliveries.numbered_in, scenario.Devices.{Holds, step_at}}
 use Rattle.run_law.proofs.runs.{NetworkRuns.{earlier_run_is_front, one_more}}
 use Rattle.run_law.proofs.runs.{Places.{before_next_time, in_left, in_right, parted}}
 use Rattle.run_law.specs.{control.{Leaving.{Departs, Departure}, Wires.{Arrives, Signal}}}
@@ -29,31 +29,39 @@ use Rattle.run_law.specs.records.{Happenings.{Happening, happening, happenings, 
 use Rattle.run_law.specs.records.{Ranks.place_of}
 use Rattle.schedule_tables.specs.{Entries.{IsEntry, source_by, source_of}, declared.entry.Entry.Entry}
 use Rattle.trace_text.proofs.WordsBack.{read_of_network}
-use Rattle.tte_forms.{proofs.{Octets.for_all, Puts.{IsSafeAnswer, answer_widened, none_safe, puts_safely}}}
+use Rattle.tte_forms.proofs.{Octets.for_all}
+use Rattle.tte_forms.proofs.Puts.{IsSafeAnswer, PutsLines-fails, PutsLines-more, answer_widened, none_safe, puts_safely}
 use Rattle.tte_forms.specs.{Answering.GivesAnswer, Putting.PutsSo, declared.accepting.NoNetwork.NoNetwork}
 use Rattle.tte_forms.specs.{networks.NoNetworks.answer_by}
+use Rattle.tte_io.specs.{Faults.next_count, Told.AppendsFront, declared.ends.Sink.Ghosts}
 use Rattle.tte_traces.proofs.{Admitted.{admitted_in_order, admitted_one, front_admitted}}
 use Rattle.tte_traces.proofs.{Answers.{AnswersEither, BeginWith, IsAllAdmitted, all_is_whole, answer_stops}}
 use Rattle.tte_traces.proofs.{EventOrder.{last_before, last_of, not_earlier}, EventRanges.event_in_range, Splits.split}
 use Rattle.tte_traces.proofs.Words
 use Words.{if◌then◌else◌, ◌++◌, ◌+◌, ◌<◌, ◌∙◌, ◌∷◌, ◌≡◌, ◌≤◌, ◌⊎◌, After, Answer, AnswersAll, AnswersFault, AreAdmitted}
-use Words.{AreAllRecords, AreRecordsBefore, AreRecordsSoFar, Bool, Done, EndsAt, Event, ForOctets, Gives, HaveEnded}
-use Words.{IsFault, IsInRange, IsNoteOf, IsOfNetwork, IsRunAnswer, IsTraceAnswer, Line, LinesOf, List, Long}
-use Words.{MeansAccepted, Missing, Network, None, Note, Option, Outlaw, PutsLines, Shown, Some, Status, TooMany}
-use Words.{TraceFault, Units, [], amount, ap, append-nil, append_assoc, arith, behind_events, behind_lines}
-use Words.{clock_reading, false, fault_lines, fault_status, first_line, for_more, inl, inr, last_time, length, refl}
-use Words.{report_lines, report_of, subst, suc, sym, true, ℕ}
+use Words.{AreAllRecords, AreRecordsBefore, AreRecordsSoFar, Bool, Done, EndsAt, Err, Event, ForOctets, Gives}
+use Words.{HaveEnded, IsFault, IsFrontOf, IsInRange, IsNoteOf, IsOfNetwork, IsRunAnswer, IsTraceAnswer, Line, LinesOf}
+use Words.{List, Long, MeansAccepted, Missing, Network, None, Note, Ok, Option, Outlaw, PutFails, PutsLines, Result}
+use Words.{Rose, Shown, Some, Status, TooMany, TraceFault, Units, [], amount, ap, append-nil, append_assoc, arith}
+use Words.{behind_events, behind_lines, clock_reading, false, fault_lines, fault_status, first_line, for_more, inl, inr}
+use Words.{last_time, length, refl, report_lines, report_of, subst, suc, sym, true, ℕ}
+use Rattle.tte_traces.specs.{Along.{IsShortAt, PutsAlong}, Report.{PutsReport, StopsReport, shown_as}}
 use Rattle.tte_traces.specs.Safely
 use Safely.{BeginsRunTo, IsGoodRun, IsGoodRunBefore, IsReportToFault, IsWholeReport, OfRunToFault, OfWholeRun}
 use Safely.{PutsOfRun, RunsSafely}
 use Rattle.tte_units.proofs.general_lemmas.Lists.{in_all as all_at}
-use Rattle.world_drive.proofs.{Earlier.{have_ended, no_further, so_far_at}, exact_lemmas.Events.ended_at}
-use Rattle.world_law.proofs.{rows.AtHand.{delivered_of, taken_at}, runs.Stays.run_stays_under_more}
+use Rattle.world_drive.{proofs.{Earlier.{have_ended, no_further, so_far_at}, exact_lemmas.Events.ended_at}}
+use Rattle.world_drive.specs.{Observing.{PutsFurther, Sees, Stops, Told, told_by}}
+use Rattle.world_drive.specs.{declared.observing.Cut.{Cut, TheVariants.{OutOfMemory, WriteFault}}}
+use Rattle.world_drive.specs.{exact.Worlds.{ExactWorld, StandsExact}}
+use Rattle.world_law.proofs.{rows.AtHand.{delivered_of, taken_at}, runs.Foremost.run_stays_under_more}
 use Rattle.world_law.proofs.{steps_lemmas.hearing.Receptions.receiver_in}
 use Rattle.world_law.specs.{device.Own.moves, source.{Agreeing.Agree, Applying.place_of_event}}
 use Rattle.world_law.specs.{world.World.AreOfNetwork}
 use Rattle.run_law.specs.declared.note.NoteBody.TheVariants as kinds
 use Rattle.tte_forms.specs.declared.accepting.NoNetwork.TheVariants as causes
+
+-- ---- the run under a trace: how far it lasts, what its answer begins with, and that it is safe
 
 -- ---- there is an answer for each trace
 
@@ -237,7 +245,7 @@ module _ (network : Network) (octets : List ℕ) (events : List Event) where
       low t line (x ∷ r ∷ more) (inr (e, inr (f, b))) = inr (e, inl (omega (arith, f)))
 
   -- the answer begins with the records up to the place of a next event that is admitted
-  pub next_begins : (event : Event) {mark : List ℕ} (notes : List Note) {a : Answer}
+  next_begins : (event : Event) {mark : List ℕ} (notes : List Note) {a : Answer}
       → AreAdmitted network octets (events ++ event ∷ [])
       → ((p : List ℕ) → IsBefore p mark → IsBefore p (place_of_event events event))
       → AreRecordsBefore network events mark notes → IsRunAnswer octets network a
@@ -253,7 +261,7 @@ module _ (network : Network) (octets : List ℕ) (events : List Event) where
       (subst (λ es. AnswersEither report_lines network octets es a) whole i.is)
 
   -- it begins with the records so far, of whichever first events
-  pub answer_begins : (notes : List Note) {a : Answer} → AreAdmitted network octets events
+  answer_begins : (notes : List Note) {a : Answer} → AreAdmitted network octets events
       → AreRecordsSoFar network events notes → IsRunAnswer octets network a
       → BeginWith a.lines (report_of network notes)
   answer_begins notes {a} all run i =
@@ -278,7 +286,7 @@ module _ (network : Network) (octets : List ℕ) (events : List Event) where
   -- ---- where a trace ends with its end
 
   -- it begins with the records up to any mark that is not behind the end
-  pub ended_begins : {mark : List ℕ} (notes : List Note) {a : Answer} → IsAllAdmitted network octets events
+  ended_begins : {mark : List ℕ} (notes : List Note) {a : Answer} → IsAllAdmitted network octets events
       → ((p : List ℕ) → IsBefore p mark → IsBefore p ((amount (last_time events) + 1) ∷ []))
       → AreRecordsBefore network events mark notes → IsRunAnswer octets network a
       → BeginWith a.lines (report_of network notes)
@@ -587,7 +595,7 @@ module _ (s : Scenario) (hs : List Happening) where
       founded ps (qs ++ more) x (ap (λ (l : List Happening). l ++ more) e ∙ append_assoc ps (x ∷ qs) more)
 
 -- the last record of a run, of which no record moves a device that the network does not have
-pub note_of : {s : Scenario} {mark : List ℕ} (notes : List Note) (note : Note) (coming : List Happening)
+note_of : {s : Scenario} {mark : List ℕ} (notes : List Note) (note : Note) (coming : List Happening)
     → IsInRange s.network → AreEventsOf s.network s.events → IsScenarioRun s mark (notes ++ note ∷ [])
     → AreOfNetwork s (happenings s.network (notes ++ note ∷ []) ++ coming) → IsNoteOf s.network note
 note_of {s} notes note coming range all run known =
@@ -604,3 +612,99 @@ note_of {s} notes note coming range all run known =
           absurd (let bad : true ≡ false = sym moved ∙ still in cc)
     ] in
     body_of s hs note.time note.body range all (front_founded s hs (h ∷ []) founded) own (founded hs [] h refl).1.cause
+
+-- ---- the observer of a report puts its lines along the run
+
+-- what it sees
+abbrev pub report_sees : {O : Type 0} → Sees O
+report_sees network events notes instant old put it = PutsReport network notes old.told put
+
+abbrev pub report_stops : {O : Type 0} → Stops O
+report_stops network events notes cut old put = StopsReport network notes cut old.told put
+
+report_short : (network : Network) (octets : List ℕ) (events : List Event) (next : Option Event) (befallen : List Event) (notes : List Note)
+    → IsShortAt network octets events next befallen notes → IsFrontOf (IsTraceAnswer report_lines octets network) (report_of network notes)
+report_short network octets events (Some event) befallen notes at a is = elim at.1 [
+  | inl way ↦ next_begins network octets events event notes at.0 way.1.sooner way.1.run is
+  | inr own ↦ answer_begins network octets befallen notes (subst (AreAdmitted network octets) (sym own.0) at.0) own.1 is
+]
+report_short network octets events None befallen notes at a is =
+    let up = at.2 in ended_begins network octets events notes at.0 up.up_to up.run is
+
+pub report_along : {O : Type 0} (begun : O) → PutsAlong begun report_sees report_stops report_lines (IsTraceAnswer report_lines)
+report_along begun = record {
+  at_first = λ network. refl;
+  so_far = λ network events notes old put o run seen. seen;
+  all = λ network octets events notes old put o admitted run seen. seen;
+  front = λ network octets events notes all run a is. answer_begins network octets events notes all run is;
+  short = λ network octets events next befallen notes cut old put at stops. (
+    report_of network notes,
+    stops,
+    report_short network octets events next befallen notes at,
+  );
+}
+
+-- ---- the lines of a report put one after another
+
+-- the record that a world gave last is the network's
+pub own_note : {network : Network} {events : List Event} (notes : List Note) (note : Note) {world : ExactWorld}
+    → StandsExact network world events (notes ++ note ∷ []) → IsNoteOf network note
+own_note notes note {world} stands =
+    note_of notes note world.settled stands.is.range stands.of_network stands.is.run stands.is.known
+
+report_one : (network : Network) (notes : List Note) (note : Note)
+    → report_of network notes ++ note_line network note ∷ [] ≡ report_of network (notes ++ note ∷ [])
+report_one network notes note = sym (map-append (note_line network) notes (note ∷ []))
+
+-- what comes of the put of a line
+pub record PutsNote {T K : Type 0} (sink : Ghosts K) (network : Network) (note : Note) (r : Result T Cut) (now new : K) : Type 0 where
+  pub all : OnOk r (Appends (sink.written now) (sink.written new) (note_line network note) × (sink.faults new ≡ sink.faults now))
+  pub front : OnErr r (AppendsFront (sink.written now) (sink.written new) (note_line network note) × Rose (sink.faults now) (sink.faults new))
+  pub counted : sink.puts new ≡ next_count (sink.puts now)
+  pub cut : IfErr r (λ cut. cut ≡ WriteFault)
+
+module _ {T K : Type 0} (sink : Ghosts K) (network : Network) (notes : List Note) (note : Note) where
+  -- it was put
+  pub report_more : (x : T) (old : Told) {now new : K} → PutsReport network notes old (told_by sink now)
+      → PutsNote {T = T} sink network note (Ok x) now new
+      → PutsReport network (notes ++ note ∷ []) old (told_by sink new)
+  report_more x old {now} {new} p n =
+      subst (λ ls. PutsLines ls (shown_as old) (shown_as (told_by sink new)))
+      (report_one network notes note)
+      (PutsLines-more (note_line network note)
+      (shown_as (told_by sink new)) p n.all.0
+      n.counted)
+
+  -- its put failed
+  pub report_fails : (e : Cut) (old : Told) {now new : K} → PutsReport network notes old (told_by sink now)
+      → PutsNote {T = T} sink network note (Err e) now new
+      → StopsReport network (notes ++ note ∷ []) e old (told_by sink new)
+  report_fails OutOfMemory old p n = absurd (let is = n.cut in cc)
+  report_fails WriteFault old {now} {new} p n =
+      inl (subst (λ ls. PutFails ls (shown_as old) (shown_as (told_by sink new)))
+      (report_one network notes note)
+      (PutsLines-fails (note_line network note) [] (shown_as (told_by sink new)) p
+      n.front.0 n.counted))
+
+  pub report_goes : (r : Result T Cut) (old : Told) {now new : K} → PutsReport network notes old (told_by sink now)
+      → PutsNote sink network note r now new → MatchResult r
+      (λ _. PutsReport network (notes ++ note ∷ []) old (told_by sink new))
+      (λ cut. StopsReport network (notes ++ note ∷ []) cut old (told_by sink new))
+  report_goes (Ok x) old p n = report_more x old p n
+  report_goes (Err e) old p n = report_fails e old p n
+
+module _ {T U K : Type 0} (sink : Ghosts K) (network : Network) (note : Note) where
+  pub further_ok : (x : T) (y : U) {now new : K} → PutsNote {T = T} sink network note (Ok x) now new
+      → PutsFurther {T = U} sink (Ok y) now new
+  further_ok x y n = record { grew = (note_line network note, n.all.0); quiet = n.all.1; cause = tt {0} }
+
+  pub further_err : (e : Cut) {now new : K} → PutsNote {T = T} sink network note (Err e) now new
+      → PutsFurther {T = U} sink (Err e) now new
+  further_err OutOfMemory n = absurd (let is = n.cut in cc)
+  further_err WriteFault n =
+      let f = n.front.0 in record { grew = (f.0, f.3); quiet = tt {0}; cause = n.front.1 }
+
+pub further : {T K : Type 0} {sink : Ghosts K} {network : Network} {note : Note} (r : Result T Cut) {now new : K}
+    → PutsNote sink network note r now new → PutsFurther sink r now new
+further {sink} {network} {note} (Ok x) n = further_ok sink network note x x n
+further {sink} {network} {note} (Err e) n = further_err sink network note e n

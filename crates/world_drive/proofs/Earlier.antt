@@ -7,7 +7,8 @@ use Rattle.drift_world.specs.Running
 use Running.{ComesUpTo, HasReached, IsOpenTo, MayBefall, behind_events, event_note, option_given}
 use Rattle.net_plan.specs.{Belonging.IsOfNetwork, declared.event.What.TheVariants.End}
 use Rattle.precision_law.specs.traffic.safety.Headline.{IsSafeFront}
-use Rattle.run_law.proofs.{records.Order.index_of}
+use Rattle.run_law.proofs.records.Order.{index_of}
+use Rattle.world_law.{proofs.runs.Worlds.{event_cause, event_place, kinds}, specs.source.Agreeing.scenario}
 use Rattle.run_law.proofs.runs.{Grow.empty_run, NetworkRuns.one_more}
 use Rattle.run_law.proofs.runs.Places
 use Places.{before_later_time, before_next_time, before_of_time, in_left, in_right, never_self, parted}
@@ -30,7 +31,6 @@ use Rattle.world_drive.specs.{Driving.IsUpToEnd, Observing.{Befell, IsCompleteEx
 use Rattle.world_drive.specs.{Seeing.{ComesNext, IsOnTheWay}}
 use Rattle.world_drive.specs.{exact.{Records.{HaveEnded, clock_reading}, Worlds.IsReached}}
 use Rattle.world_drive.specs.{machines.Standing.StandsAsDevice}
-use Rattle.world_law.{proofs.runs.Worlds.{event_cause, event_place, kinds}, specs.source.Agreeing.scenario}
 use Rattle.run_law.specs.declared.outside.Outside.TheVariants as conditions
 
 -- ---- the order of events

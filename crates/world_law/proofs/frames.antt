@@ -1,3 +1,2 @@
 -- What a frame can be that waits, or that comes up from below.
 pub mod Proper
-pub mod Masters

@@ -1,9 +1,8 @@
 -- A source is worked off, and its records are put in among those to come.
 pub mod Numberless
-pub mod Alike
+pub mod Near
 pub mod Idle
 pub mod PutIn
 pub mod Moving
 pub mod Putting
-pub mod Near
 pub mod Placing

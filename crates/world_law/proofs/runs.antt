@@ -1,9 +1,6 @@
 -- Each record of a run has a source, and the run goes on by what is settled, or by an event.
-pub mod Next
-pub mod TaskPlaces
 pub mod Worlds
+pub mod TaskPlaces
 pub mod Foremost
 pub mod Agreement
-pub mod SameCauses
-pub mod Stays
 pub mod FoundedAs

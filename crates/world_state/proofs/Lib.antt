@@ -4,4 +4,3 @@ pub mod Queues
 pub mod Befalls
 pub mod Placings
 pub mod Mapped
-pub mod PutTo

@@ -27,7 +27,7 @@ use Rattle.run_law.specs.machines.{Tasks.{IsDueReading, IsPending, Task, reading
 use Rattle.sync_state.specs.{declared.answers.Verdict.{TheVariants.Corrected, Verdict}, membership.Summary.Summary}
 use Rattle.tte_units.{proofs.general_lemmas.Lists.in_all, specs.declared.{frames.pcf.Pcf.Pcf, units.Units.Units}}
 use Rattle.world_law.specs.world.World.{AreInOrder, AtPort}
-use Rattle.world_state.{proofs.{Queues.{ports_kept, sound_with}, queue_lemmas.Slots.in_permuted}}
+use Rattle.world_state.proofs.{Queues.{ports_kept, sound_with}, queue_lemmas.Slots.in_permuted}
 use Rattle.world_state.specs.{Befalling.{AreSettledBy, entry_of, record_of, sent_up}, Giving.IsPutOn}
 use Rattle.world_state.specs.{Hearing.{AreOctetsOf, MayCome}, Keeping.Meaning, Places.IsSomePut}
 use Rattle.world_state.specs.{Sound.{AreBelow, AreUnderWay, rank_of}, Views.{at_port, befell_as, octets_of}}

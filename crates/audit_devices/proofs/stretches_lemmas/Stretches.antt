@@ -7,7 +7,9 @@ use Rattle.std.proofs.lemmas.{Bool.{and_from, and_parts, cases_lt, cases_order, 
 use Rattle.std.proofs.lemmas.{List.Elements.{All-cons, All-nil, filter_map-append}}
 use Rattle.std.specs.{List.{Sorted.IsPartitionedBy, after_last, cons_option, last_or}}
 use Rattle.std.specs.{Prelude.{◌&&◌, ◌==◌, IfSome, filter_map, slice_set}}
-use Rattle.audit_devices.{proofs.Kept.{parted_on, test_chain}}
+use Rattle.audit_devices.proofs.Kept.{parted_on, test_chain}
+use Rattle.compression.{proofs.Collectors.AreClusters-unique, specs.Clusters.{AreClusters, Cluster, Point, point_at}}
+use Rattle.run_law.proofs.records.Order.{after_more, all_kept, before_is, in_drop, place_order}
 use Rattle.audit_devices.specs.{Effects.carried_by, Keeping.records_before}
 use Rattle.audit_devices.specs.declared.stretches.{kept.Entry.Entry}
 use Rattle.audit_devices.specs.declared.stretches.change.CollectionChange.{CollectionChange, TheVariants.{Ends, Gives}}
@@ -19,11 +21,9 @@ use Keeping.{IsOfRecord, Keeps, KeepsAll, StandsFor, StandsForSome, Stretches, e
 use Rattle.audit_law.specs.{collections.{Gathered.Gathers, Kept.{History, clusters_in, emissions_in, emitted}}}
 use Rattle.audit_law.specs.{declared.collections.{emitted.Emitted.Emitted, gathering.Gathering.Gathering}}
 use Rattle.audit_law.specs.{law.DueRecords.{IsCaused, IsDue}}
-use Rattle.compression.{proofs.Collectors.AreClusters-unique, specs.Clusters.{AreClusters, Cluster, Point, point_at}}
 use Rattle.net_plan.{proofs.SameIds.other_device}
 use Rattle.net_plan.specs.{Ranges.IsInRange, declared.{ids.{DeviceId.DeviceId, LinkId.LinkId}, network.Network.Network}}
 use Rattle.run_law.proofs.{control.Arrived.arrived_young, law.FirstDeliveries.numbered_in}
-use Rattle.run_law.proofs.{records.Order.{after_more, all_kept, before_is, in_drop, place_order}}
 use Rattle.run_law.proofs.{runs.Places.{in_left, in_parts, in_right, parted}}
 use Rattle.run_law.specs.{declared.{judgement.{Judgement.Judgement, Why.TheVariants.On}, note.NoteBody.NoteBody}}
 use Rattle.run_law.specs.{device.States.cycle_in, runs.Runs.IsFounded, scenario.{Devices.is_cm, Scenarios.Scenario}}

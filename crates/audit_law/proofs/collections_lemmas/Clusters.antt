@@ -16,9 +16,9 @@ use Rattle.audit_law.specs.collections.Kept
 use Kept.{History, IsCounted, as_emitted, cluster_kept, clusters_in, emissions_in, emitted, kept_in, points_kept}
 use Rattle.audit_law.specs.declared.collections.{emitted.Emitted.Emitted, gathering.{Gathering.Gathering, Row.Row}}
 use Rattle.audit_law.specs.declared.collections.{kept.KeptCluster.KeptCluster}
-use Rattle.compression.proofs.{Roles.{open_at-beyond, open_at-in}, Times.{first_end, open_beyond}}
-use Rattle.compression.proofs.Collectors
-use Collectors.{ended_later, last_or-none, last_split, open_at-some, role_in-ignored, role_in-joined, role_in-opened}
+use Rattle.compression.proofs.{Times.{first_end, open_beyond}}
+use Rattle.compression.proofs.Collectors.{ended_later, last_or-none, last_split, open_at-beyond, open_at-in}
+use Rattle.compression.proofs.Collectors.{open_at-some, role_in-ignored, role_in-joined, role_in-opened}
 use Rattle.compression.proofs.Growth
 use Growth.{AreClusters-opened, AreClusters-within, Grows as Takes, all-filter, beyond-all, end_of-most, in_cases}
 use Growth.{in_head, in_none, in_tail}

@@ -25,7 +25,7 @@ use Rattle.drift_clock.specs.{Segment.{Segment, fresh_segment, stepped_segment}}
 use Rattle.net_plan.specs.{Belonging.{HasLink, IsOfNetwork}, Ranges.IsInRange}
 use Rattle.net_plan.specs.declared.{event.{Event.Event, What.What}, ids.{DeviceId.DeviceId, LinkId.LinkId}}
 use Rattle.net_plan.specs.declared.{network.Network.Network, tables.{Link.Link, Way.{TheVariants.{Down, Up}, Way}}}
-use Rattle.run_law.{proofs.scenario.Devices.all_within}
+use Rattle.run_law.proofs.scenario.Devices.{all_within}
 use Rattle.run_law.specs.scenario.{Hypothesis.{IsWithinHypothesis, breaks_at}, Rates.{rate_steps, step_by}}
 use Rattle.run_law.specs.scenario.{Scenarios.{last_set, turns_on}}
 use Rattle.run_law.specs.scenario.{Ways.{cut_set, hold_set, is_way_of, wire_of, wire_set}}

@@ -22,8 +22,9 @@ use Rattle.net_plan.{proofs.SameIds.{same_device, same_link}}
 use Rattle.net_plan.specs.{Ranges.IsInRange}
 use Rattle.net_plan.specs.declared.{event.Event.Event, ids.{DeviceId.DeviceId, LinkId.LinkId}, network.Network.Network}
 use Rattle.net_plan.specs.declared.{tables.Way.{TheVariants.{Down, Up}, Way}}
-use Rattle.run_law.proofs.scenario.{Devices.{all_within, broken_by, in_turn, on_by}}
-use Rattle.run_law.proofs.scenario.{Rated.{Holds, IsSlow, IsStepAt, slow_event, step_is}, Ways.way_itself}
+use Rattle.run_law.proofs.scenario.{Ways.way_itself}
+use Rattle.run_law.proofs.scenario.Devices.{Holds, IsSlow, IsStepAt, all_within, broken_by, in_turn, on_by, slow_event}
+use Rattle.run_law.proofs.scenario.Devices.{step_is}
 use Rattle.run_law.specs.scenario.{Faults.{Breaks, TurnsOn}}
 use Rattle.run_law.specs.scenario.{Hypothesis.{AreWithinHypothesis, IsWithinHypothesis, breaks_at}}
 use Rattle.run_law.specs.scenario.{Rates.{rate_steps, step_by}, Scenarios.{is_broken, is_turned_on_at, turns_on}}

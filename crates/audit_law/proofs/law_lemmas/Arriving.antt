@@ -1,6 +1,6 @@
 -- What is owed of arrivals is due.
-use Rattle.audit_law.proofs.law_lemmas.Founded
-use Founded.{PaidAt, due_there, found_before, founded_at, in_whole, next_is_due, next_of, split_at, timely, within}
+use Rattle.audit_law.proofs.law_lemmas.Founded.{PaidAt, due_there, found_before, founded_at, in_whole, next_is_due}
+use Rattle.audit_law.proofs.law_lemmas.Founded.{next_of, split_at, timely, within}
 use Rattle.audit_law.proofs.law_lemmas.Words.{◌&&◌, ◌+◌, ◌==◌, ◌||◌, ◌∙◌, ◌∷◌, ◌≡◌, ◌≤◌, ArrivesAs, Bool, DeviceId, Gives, Happening, IsBefore, IsCaused, IsDue}
 use Rattle.audit_law.proofs.law_lemmas.Words.{IsDueIn, IsFounded, IsIn, IsSplit, LinkId, List, Network, None, NoteBody, Option, Pcf, Reason, Scenario, Some}
 use Rattle.audit_law.proofs.law_lemmas.Words.{Units, VlId, [], adjustment_after, amount, and_parts, ap, append-nil, arith, both_ways, cases_lt, earlier}

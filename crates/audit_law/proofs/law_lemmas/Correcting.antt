@@ -1,7 +1,9 @@
 -- What is owed of correction points is due.
 use Rattle.audit_law.proofs.law_lemmas.{Words.{standing_at, state_after, subst, sym, time_of, units_of, up_to, ℕ, ℤ}}
-use Rattle.audit_law.proofs.law_lemmas.Founded
-use Founded.{PaidAt, due_there, next_is_due, next_of, same_verdict, split_at, timely, within}
+use Rattle.audit_law.proofs.law_lemmas.Founded.{PaidAt, due_there, next_is_due, next_of, same_verdict, split_at, timely}
+use Rattle.audit_law.proofs.law_lemmas.Founded.{within}
+use Rattle.run_law.proofs.records.Order.{after_more, all_kept, has_passed, makes_none}
+use Rattle.sync_state.specs.declared.answers.Verdict.TheVariants.{Cleared}
 use Rattle.run_law.proofs.law.FirstDeliveries.{in_filter}
 use Rattle.audit_law.proofs.law_lemmas.Words.{◌&&◌, ◌++◌, ◌+ℤ◌, ◌+◌, ◌-ℤ◌, ◌-◌, ◌<◌, ◌==◌, ◌∙◌, ◌∷◌, ◌≡◌, ◌≤◌, AsyncClique, Bool, ComesToPoint, Corrected}
 use Rattle.audit_law.proofs.law_lemmas.Words.{DeviceId, Happening, Integrating, IsBefore, IsCaused, IsDue, IsDueIn, IsFounded, IsIn, IsSplit, List}
@@ -12,7 +14,6 @@ use Rattle.audit_law.proofs.law_lemmas.Words.{int_le, int_lt, integration_cycle,
 use Rattle.audit_law.proofs.law_lemmas.Words.{next_point, none_kept, option_map_or, place_at, place_of, plan_of, pos, rank, recorded_cycle, refl, split}
 use Rattle.{audit_law.specs.law.CorrectionPoints.{IsDueByPoint, IsPointOf, OwesPoint, ShowsVerdict, TellsPoint}, run_law.proofs.device.States.reaches_by}
 use Rattle.{audit_law.specs.law.DebtLaws.PointLaw, std.{proofs.lemmas.Bool.{le-leb, leb-true}, specs.List.filter_map}}
-use Rattle.{run_law.proofs.records.Order.{after_more, all_kept, has_passed, makes_none}, sync_state.specs.declared.answers.Verdict.TheVariants.Cleared}
 use Rattle.{run_law.specs.control.Corrections.hearing_by, std.proofs.lemmas.List.Elements.filter_map-append, sync_state.specs.membership.Hearing.Hearing}
 use Rattle.run_law.specs.declared.judgement.Why.TheVariants as whys
 use Rattle.run_law.specs.declared.note.NoteBody.TheVariants as notes

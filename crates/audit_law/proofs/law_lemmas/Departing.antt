@@ -1,8 +1,7 @@
 -- What is owed of leavings is due.
 use Rattle.audit_law.proofs.law_lemmas.{Permanence.not_old, Words.{subst, sym, time_of, units_of, ℕ}}
-use Rattle.audit_law.proofs.law_lemmas.Founded
-use Founded.{PaidAt, due_there, found_before, from_one, front_of, in_whole, next_is_due, next_of, split_at, taken_there}
-use Founded.{timely, within}
+use Rattle.audit_law.proofs.law_lemmas.Founded.{PaidAt, due_there, found_before, from_one, front_of, in_whole}
+use Rattle.audit_law.proofs.law_lemmas.Founded.{next_is_due, next_of, split_at, taken_there, timely, within}
 use Rattle.audit_law.proofs.law_lemmas.Words.{◌++◌, ◌+◌, ◌<◌, ◌∙◌, ◌∷◌, ◌≡◌, DeviceId, Gives, Happening, HasAccepted, IsBefore, IsCaused, IsDue}
 use Rattle.audit_law.proofs.law_lemmas.Words.{IsDueIn, IsFounded, LinkId, List, Network, NoteBody, Scenario, Some, VlId, [], ahead, ap, arith}
 use Rattle.audit_law.proofs.law_lemmas.Words.{inl, inr, key, members_in, numbered, place_at, place_of, rank, refl, same_some, split}

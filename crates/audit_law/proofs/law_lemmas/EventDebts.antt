@@ -1,7 +1,6 @@
 -- What is owed of events, of sends on ways that are cut, and at the end is due.
-use Rattle.audit_law.proofs.law_lemmas.Founded
-use Founded.{PaidAt, due_there, found_before, from_one, front_of, in_whole, next_is_due, next_of, of_amount, split_at}
-use Founded.{taken_there, timely, within}
+use Rattle.audit_law.proofs.law_lemmas.Founded.{PaidAt, due_there, found_before, from_one, front_of, in_whole}
+use Rattle.audit_law.proofs.law_lemmas.Founded.{next_is_due, next_of, of_amount, split_at, taken_there, timely, within}
 use Rattle.audit_law.proofs.law_lemmas.Words
 use Words.{◌+◌, ◌∙◌, ◌∷◌, ◌≡◌, DeviceId, Gives, Happening, IsBefore, IsCaused, IsDue, IsDueIn, IsFounded, LinkId, List}
 use Words.{Network, NoteBody, Scenario, Some, [], adjustment_after, ahead, amount, ap, arith, inl, inr, key, members_in}

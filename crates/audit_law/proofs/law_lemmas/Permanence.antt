@@ -1,8 +1,9 @@
 -- Frames that are permanent: what is owed of them is due, and by what they are dropped.
 use Rattle.std.proofs.Common.{MatchBool}
 use Rattle.audit_law.proofs.law_lemmas.{Arriving.{IsPutting, puts}}
-use Rattle.audit_law.proofs.law_lemmas.Founded
-use Founded.{PaidAt, due_there, found_before, in_whole, next_is_due, next_of, split_at, timely, within}
+use Rattle.audit_law.proofs.law_lemmas.Founded.{PaidAt, due_there, found_before, in_whole, next_is_due, next_of}
+use Rattle.audit_law.proofs.law_lemmas.Founded.{split_at, timely, within}
+use Rattle.run_law.proofs.{control.Verdicts.{never_dropped, some_outcome}, runs.SameSteps.same_ripening}
 use Rattle.audit_law.proofs.law_lemmas.Words
 use Words.{◌&&◌, ◌*◌, ◌++◌, ◌+◌, ◌<◌, ◌∙◌, ◌∷◌, ◌≡◌, ◌⊎◌, Bool, DeviceId, Happening, IsBefore, IsCaused, IsDue, IsDueIn}
 use Words.{IsFounded, IsReach, IsSplit, LinkId, List, Network, None, NoteBody, Old, Option, Pcf, Reason, Scenario, Some}
@@ -14,7 +15,6 @@ use Rattle.audit_law.specs.law.{DebtLaws.PermanenceLaw}
 use Rattle.audit_law.specs.law.{Permanences.{IsDueByPermanence, OwesPermanence, TellsPermanence, permanence_record}}
 use Rattle.compression.specs.{Clusters.Point, declared.taken.Taken.Taken}
 use Rattle.drift_clock.proofs.Drifts.{one_reach}
-use Rattle.run_law.{proofs.{control.Verdicts.{never_dropped, some_outcome}, runs.SameSteps.same_ripening}}
 use Rattle.run_law.specs.{declared.{judgement.{Judgement.Judgement, Reason.TheVariants.{Cycle, Gate}}, steps.Ripe.Ripe}}
 use Rattle.run_law.specs.{records.Happenings.{frame_by, frame_from}, scenario.Devices.is_cm}
 use Rattle.run_law.specs.control.{Collections.{dispatch_value, is_number, point_fault, points_of, ripe_by_role}}

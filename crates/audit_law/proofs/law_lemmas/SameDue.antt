@@ -1,32 +1,30 @@
--- In a run no correction point is passed without a record, so an audit and a run have the same records due.
+-- No correction point is passed without a record, so an audit and a run have the same records due.
 use Rattle.std.{specs.{List.{filter_map, list_any}, Prelude.◌<ℤ◌}}
-use Rattle.std.proofs.{Common.{◌^◌, negsuc, unsigned_abs}}
+use Rattle.std.proofs.{Common.{◌^◌, arith, negsuc, unsigned_abs}}
 use Rattle.std.proofs.{lemmas.{Bool.{and_from, cases_Bool, eq-eqb, le-leb, ltb-true}, Int.by_lt_z}}
-use Rattle.audit_law.proofs.law_lemmas.{AllOwed.debt_law, Sound.sound_of_run, Steps.{none_more, reached_by, short_step}}
-use Rattle.audit_law.proofs.law_lemmas.Calm
-use Calm.{IsCalm, IsTimed, SaysIntegrating, calm, leaves, not_joined, stays_integrating, stays_or_leaves}
+use Rattle.audit_law.proofs.law_lemmas.{Owed.debt_law, Sound.sound_of_run, Steps.{none_more, reached_by, short_step}}
 use Rattle.audit_law.proofs.law_lemmas.Founded
 use Founded.{by_number, caused_in_audit, caused_in_run, cut_at, founded_at, in_behind, in_time, no_later, run_before}
 use Founded.{run_by, sorted, stays}
 use Rattle.audit_law.proofs.law_lemmas.Words
-use Words.{if◌then◌else◌, ◌&&◌, ◌*◌, ◌++◌, ◌+ℤ◌, ◌+◌, ◌-ℤ◌, ◌-◌, ◌<◌, ◌==◌, ◌||◌, ◌∙◌, ◌∷◌, ◌≡◌, ◌≤ℤ◌, ◌≤◌, AllBefore}
-use Words.{AsyncClique, Bool, ChangesState, ComesToPoint, Corrected, Debt, DeviceId, Happening, HasVerdict, Integrating}
-use Words.{IsCaused, IsClocked, IsDue, IsFounded, IsIn, IsOwed, IsPaid, IsReach, IsRun, Joining, List, None, NoneBefore}
-use Words.{NoteBody, Off, Option, Pays, Scenario, Some, Standing, State, Summarizes, SyncClique, Synchronised, Units}
-use Words.{Verdict, Why, [], adjustment_after, adjustment_before, after_last, amount, and_parts, and_right, ap}
-use Words.{append-nil, arith, behind_first, both_ways, cases_lt, changes_adjustment, correction_value, earlier}
+use Words.{if◌then◌else◌, ◌&&◌, ◌*◌, ◌++◌, ◌+ℤ◌, ◌+◌, ◌-ℤ◌, ◌-◌, ◌<◌, ◌==◌, ◌||◌, ◌∙◌, ◌∷◌, ◌≡◌, ◌≤ℤ◌, ◌≤◌, ◌⊎◌}
+use Words.{AllBefore, AsyncClique, Bool, ChangesState, ComesToPoint, Corrected, Debt, DeviceId, Happening, HasVerdict}
+use Words.{Integrating, IsCaused, IsClocked, IsDue, IsFounded, IsIn, IsOwed, IsPaid, IsReach, IsRun, Joining, List}
+use Words.{None, NoneBefore, NoteBody, Off, Option, Pays, Scenario, Some, Standing, State, Summarizes, SyncClique}
+use Words.{Synchronised, Units, Verdict, Why, [], adjustment_after, adjustment_before, after_last, amount, and_parts}
+use Words.{and_right, ap, append-nil, behind_first, both_ways, cases_lt, changes_adjustment, correction_value, earlier}
 use Words.{eqb-true, false, false_from_ne_true, filter, filter-append, fold, heard_since_point, in_right, inl, inr}
-use Words.{int_div_euclid, int_le, int_lt, integration_cycle, ints, is_broken, is_turned_on_at, last_or, le-ltb, nat_le}
-use Words.{nat_lt, natural, next_point, none_kept, not, numbered, numbered_front, numbered_in, option_map_or, parted}
-use Words.{place_of, plan_of, pos, recorded_cycle, refl, same_some, slice_get, standing_at, state_after, subst, suc}
-use Words.{sym, time_of, true, up_to, zero, ℕ, ℤ}
+use Words.{int_div_euclid, int_le, int_lt, integration_cycle, ints, is_broken, is_joined_by, is_turned_on_at, last_or}
+use Words.{le-ltb, nat_le, nat_lt, natural, next_point, none_kept, not, numbered, numbered_front, numbered_in}
+use Words.{option_map_or, parted, place_of, plan_of, pos, recorded_cycle, refl, same_some, slice_get, standing_at}
+use Words.{state_after, subst, suc, sym, time_of, true, up_to, zero, ℕ, ℤ}
 use Rattle.audit_law.specs.law.{Changes.{OwesChange, TellsChange}, CorrectionNumbers.points_come}
 use Rattle.audit_law.specs.law.{CorrectionPoints.{IsPointOf, OwesPoint}, SameRuns.SameRuns}
 use Rattle.audit_law.specs.law.{TracedEvents.{OwesEvent, TellsEvent}}
 use Rattle.net_plan.specs.declared.event.{Event.Event, What.TheVariants.On}
 use Rattle.run_law.proofs.{control.{Summaries.{summary_of, verdict_of}, Verdicts.cycle_stays}}
-use Rattle.run_law.proofs.{device.States.adjustment_kept, law.FirstDeliveries.in_at}
-use Rattle.run_law.proofs.{records.{Happenings.{fold_parts, soon}, Order.same_kept}, runs.Places.in_left}
+use Rattle.run_law.proofs.{device.States.{adjustment_kept, joined_changes}, law.FirstDeliveries.in_at}
+use Rattle.run_law.proofs.{records.Order.{fold_parts, same_kept, soon}, runs.Places.in_left}
 use Rattle.run_law.proofs.{scenario.{Decisions.at_integration, Devices.{correct_before, on_by as turned}}}
 use Rattle.run_law.specs.{device.{LocalClocks.{Reaches, had_come}, States.{cycle_in, state_before, state_with}}}
 use Rattle.run_law.specs.{runs.DueRecords.IsEventRecord, scenario.Scenarios.turns_on}
@@ -39,6 +37,74 @@ use Rattle.audit_law.specs.law.Owed as debts
 use Rattle.run_law.specs.declared.judgement.Why.TheVariants as whys
 use Rattle.run_law.specs.declared.note.NoteBody.TheVariants as notes
 use Rattle.run_law.specs.runs.DueRecords as runs
+
+-- ---- records behind the last change of a device's adjustment: they bring it to no state with a correction point
+
+-- ---- a record that does not change the adjustment
+
+not_joined : (device : DeviceId) (body : NoteBody) → changes_adjustment device body ≡ false → is_joined_by device body ≡ false
+not_joined device (notes.Corrected other cycle by adjustment) e = refl
+not_joined device body e = e
+
+-- ---- states
+
+-- the state has correction points
+abbrev pub IsTimed : State → Type 0
+IsTimed Off = ⊥
+IsTimed Integrating = ⊥
+IsTimed Joining = Unit {0}
+IsTimed Synchronised = Unit {0}
+
+-- the record leaves the device's state, or makes it integrating
+abbrev pub IsCalm : DeviceId → NoteBody → Type 0
+IsCalm device body = (old : State) → (state_with device old body ≡ old) ⊎ (state_with device old body ≡ Integrating)
+
+-- a state that the record says of the device is integrating
+abbrev pub SaysIntegrating : DeviceId → NoteBody → Type 0
+SaysIntegrating device (notes.State other state cause why) = device.0 ≡ other.0 → state ≡ Integrating
+SaysIntegrating device other = Unit {0}
+
+state_or : (b : Bool) (state old : State) → (b ≡ true → state ≡ Integrating) → ((if b then state else old) ≡ old) ⊎ ((if b then state else old) ≡ Integrating)
+state_or true state old says = inr (says refl)
+state_or false state old says = inl refl
+
+calm : (device : DeviceId) (body : NoteBody) → changes_adjustment device body ≡ false → SaysIntegrating device body → IsCalm device body
+calm device (notes.State other state cause why) e says old = state_or (device.0 == other.0) state old (λ b. says (eqb-true device.0 other.0 b))
+calm device (notes.Corrected other cycle by adjustment) e says old = inl refl
+calm device body e says old = inl (ap (λ b. if b then Joining else old) (not_joined device body e))
+
+-- a change of state that no change of the adjustment brings is to integrating
+leaves : (s : Scenario) (front : List Happening) (device : DeviceId) (t : ℕ) (state : State) (cause : ℕ) (why : Why)
+    → ((h : Happening) → numbered front cause ≡ Some h → time_of h ≡ t → changes_adjustment device h.note.body ≡ false)
+    → ChangesState s front device t state cause why → state ≡ Integrating
+leaves s front device t state cause whys.On quiet c = c.0
+leaves s front device t state cause whys.Frame quiet c =
+    let body = c.1.0.note.body in
+    absurd (both_ways (changes_adjustment device body) (quiet c.1.0 c.1.1.there c.1.1.same_time) (joined_changes device body c.1.2))
+leaves s front device t state cause whys.Correction quiet c = grind (arith, both_ways, changes_adjustment, eq-eqb)
+leaves s front device t state cause whys.SyncClique quiet c = c.0
+leaves s front device t state cause whys.AsyncClique quiet c = c.0
+
+-- ---- what calm records leave
+
+abbrev after : DeviceId → State → Happening → State
+after device old h = state_with device old h.note.body
+
+from_integrating : (device : DeviceId) (h : Happening) → IsCalm device h.note.body → after device Integrating h ≡ Integrating
+from_integrating device h is = elim (is Integrating) [ inl same ↦ same | inr same ↦ same ]
+
+stays_integrating : (device : DeviceId) (ys : List Happening) → ((h : Happening) → IsIn h ys → IsCalm device h.note.body)
+    → fold (after device) Integrating ys ≡ Integrating
+stays_integrating device [] each = refl
+stays_integrating device (y ∷ ys) each =
+    rw (from_integrating device y (each y (inl refl))) (stays_integrating device ys (λ h i. each h (inr i)))
+
+stays_or_leaves : (device : DeviceId) (old : State) (ys : List Happening) → ((h : Happening) → IsIn h ys → IsCalm device h.note.body)
+    → (fold (after device) old ys ≡ old) ⊎ (fold (after device) old ys ≡ Integrating)
+stays_or_leaves device old [] each = inl refl
+stays_or_leaves device old (y ∷ ys) each = grind (arith, fold, stays_integrating, (stays_or_leaves device old ys (λ h i. each h (inr i))))
+
+-- ---- in a run no correction point is passed without a record, so an audit and a run have the same records due
 
 -- ---- in a run no device passes a correction point without a record, but a joiner that of the cycle by whose frame it
 -- joined.

@@ -1,6 +1,7 @@
 -- Rows of places in ascending order.
 use Rattle.{audit_sweep.specs.records.places.Placing.{AreAscending, HasRecordAt}, std.specs.List.{Sorted.{IsPartitionPoint, IsPartitionedBy}, last_or}}
-use Rattle.run_law.{proofs.{records.Order.{before_is, is_there}, runs.Places.{chain, never_self}}, specs.records.Order.{IsBefore, IsIn, is_before}}
+use Rattle.run_law.{proofs.{records.Order.{before_is, is_there}, runs.Places.{chain, never_self}}}
+use Rattle.run_law.{specs.records.Order.{IsBefore, IsIn, is_before}}
 use Rattle.{run_law.specs.records.{Happenings.Happening, Ranks.place_of}, std.{proofs.{Common.{true, zero, ℕ}, lemmas.Bool.cases_lt}, specs.Prelude.{slice_get, take}}}
 use Rattle.std.proofs.Common.{◌++◌, ◌<◌, ◌∙◌, ◌∷◌, ◌≡◌, ◌≤◌, ◌⊎◌, List, None, Some, [], ap, arith, false, get_or, inl, inr, length, map, refl, subst, suc, sym}
 

@@ -1,7 +1,8 @@
 -- What pays the debts of changes of state.
-use Rattle.{audit_law.{proofs.law_lemmas.Changing.change_law, specs.law.DueRecords.ChangesState}, sync_state.specs.declared.state.State.State}
+use Rattle.audit_law.{proofs.law_lemmas.Founded.change_law, specs.law.DueRecords.ChangesState}
+use Rattle.audit_sweep.proofs.{Lacks.none_some, unpaid_lemmas.{Payers.payer_due, Words.{sym, time_of, true, ℕ}}}
+use Rattle.sync_state.specs.declared.state.State.{State}
 use Rattle.{audit_law.specs.law.Changes.{IsBrought, IsDueByChange, OwesChange, TellsChange}, run_law.specs.declared.judgement.Judgement.TheVariants.Integrates}
-use Rattle.audit_sweep.proofs.{PermanentFrames.none_some, unpaid_lemmas.{Payers.payer_due, Words.{sym, time_of, true, ℕ}}}
 use Rattle.audit_sweep.proofs.unpaid_lemmas.Words.{◌∙◌, ◌≡◌, ◌≤◌, DeviceId, Happening, IsDue, IsFounded, IsMarked, IsPaid, List, NoteBody, Paid, Pays, Scenario}
 use Rattle.audit_sweep.proofs.unpaid_lemmas.Words.{Some, ap, arith, cause_of, false, is_broken, numbered, numbered_within, paid_by, place_of, refl, same_some}
 use Rattle.{audit_sweep.specs.unpaid.Changing.HasChange, net_plan.specs.declared.event.What.TheVariants.On, tte_units.proofs.general_lemmas.Naturals.eqb_same}

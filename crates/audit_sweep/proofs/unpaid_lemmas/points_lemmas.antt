@@ -1,4 +1,3 @@
 pub mod Telling
 pub mod FirstUnpaid
-pub mod Fronts
 pub mod Words

@@ -22,7 +22,7 @@ use Rattle.lens_svg.specs.{declared.glance.Glance.Glance}
 use Rattle.lens_why.proofs.{Comings.comes_from_earlier, Cutting.{founded_of, note_numbered}}
 use Rattle.net_plan.specs.declared.{ids.VlId.VlId, network.Network.Network}
 use Rattle.run_law.proofs.{law.FirstDeliveries.{by_number, number_is, numbered_front, numbered_in, numbered_within}}
-use Rattle.run_law.proofs.{records.Happenings.as_many, runs.{NetworkRuns.{one_more, same_notes}, Places.in_right}}
+use Rattle.run_law.proofs.{records.Order.as_many, runs.{NetworkRuns.{one_more, same_notes}, Places.in_right}}
 use Rattle.run_law.specs.{declared.note.{Note.Note, NoteBody.NoteBody}, runs.{DueRecords.IsDue, Runs.IsFounded}}
 use Rattle.run_law.specs.{scenario.Scenarios.Scenario}
 use Rattle.run_law.specs.records.{Causes.{IsChain, cause_of, last_from}}

@@ -28,7 +28,7 @@ use Rattle.tte_forms.specs.{Answering.{Answer, ForOctets, Gives, GivesAnswer}, P
 use Rattle.tte_forms.specs.{networks.Accepting.{IsNetworkAnswer, MeansAccepted}}
 use Rattle.tte_forms.specs.declared.status.Status.{Status}
 use Rattle.tte_forms.specs.declared.status.Status.{TheVariants.{Done, NameRefused, OutOfMemory, ReadFault, WriteFault}}
-use Rattle.tte_reports.{proofs.{Reports.{files_safely, report_alone, report_one}, Sources.GivesFiles}}
+use Rattle.tte_reports.proofs.{Reports.{files_safely, report_alone, report_one}, Sources.GivesFiles}
 use Rattle.tte_reports.specs.{Answer.IsAuditStatus, Places.note_at}
 use Rattle.tte_reports.specs.{Reports.{AnswersFor, IsOneFor, IsReportAnswer, IsReportOf}, Safely.AuditsSafely}
 use Rattle.tte_units.specs.declared.units.Units.{Units}

@@ -16,7 +16,8 @@ use Rattle.lens.specs.draw.{Laws.HaveTitles, ReadingLaws.{PicturesAreOne, Titles
 use Rattle.lens.specs.draw.{Signs.{close_line, sign_line}}
 use Rattle.lens.specs.draw.Picture
 use Picture.{back_lines, front_lines, layer_lines, lines_from, mark_lines, picture_lines, some_line, windows_of}
-use Rattle.lens_svg.{proofs.{NoteTexts.note_plain, Painting.taken_all}}
+use Rattle.lens_svg.proofs.{NoteTexts.note_plain, Painting.taken_all}
+use Rattle.tte_reports.{proofs.Reports.report_well, specs.Reports.IsReportOf}
 use Rattle.lens_svg.specs.{Laws.{AreMarksOf, shown}, Layers.{lack_of, on_lane, on_mark, opening_of}, Layout.holds}
 use Rattle.lens_svg.specs.{Marking.{IsPlain, head_text, is_plain, sign_text}, Plan.Plan}
 use Rattle.lens_svg.specs.{Sketching.{begun, is_drawn, moment, plan_of}, Titles.{heading_line, title_line}, Views.View}
@@ -44,7 +45,6 @@ use Rattle.run_law.specs.records.{Ranks.{place_of, rank}}
 use Rattle.schedule_tables.specs.Rules.{KeepsRules}
 use Rattle.sync_state.specs.declared.state.State.{State, TheVariants.{Integrating, Joining, Off, Synchronised}}
 use Rattle.tte_audit.{proofs.RightEvents.only_end, specs.Report.{event_by, events_of, scenario_of}}
-use Rattle.tte_reports.{proofs.Reports.report_well, specs.Reports.IsReportOf}
 use Rattle.tte_units.specs.{Amount.amount, declared.units.Units.Units}
 use Rattle.lens.specs.declared.draw.putting.Layer.TheVariants as layers
 use Rattle.lens.specs.draw.Picture as pictures

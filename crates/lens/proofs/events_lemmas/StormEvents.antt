@@ -5,8 +5,10 @@ use Rattle.std.proofs.{lemmas.{Bool.Decides.nat_tests, Int.ints, List.{Elements.
 use Rattle.std.proofs.Common
 use Common.{◌%◌, ◌*◌, ◌++◌, ◌+◌, ◌<◌, ◌∙◌, ◌∷◌, ◌≡◌, ◌≢◌, ◌≤◌, List, None, Option, Some, [], ap, append_assoc, arith}
 use Common.{false, inl, inr, length, length-append, refl, subst, suc, sym, zero, ℕ}
-use Rattle.fault_hypothesis.proofs.storm_lemmas.{Masters.{master_within, some_device, some_link, uplink_within}}
-use Rattle.fault_hypothesis.proofs.storm_lemmas.{OneStorm.one_storm}
+use Rattle.fault_hypothesis.proofs.storm_lemmas.OneStorm.{master_within, one_storm, some_device, some_link}
+use Rattle.fault_hypothesis.proofs.storm_lemmas.OneStorm.{uplink_within}
+use Rattle.report_text.proofs.Visible.{is_lf, joined_short, line_unbroken, size, time_short, time_visible, what_short}
+use Rattle.report_text.proofs.Visible.{what_visible}
 use Rattle.fault_hypothesis.proofs.storm_lemmas.Storms
 use Storms.{front_of_storm, no_events, storm_number, storm_time, storms_within, time_in_run}
 use Rattle.fault_hypothesis.specs.{declared.storm.draw.StormDraw.StormDraw}
@@ -19,8 +21,6 @@ use Rattle.lens.specs.events.{Answer.{IsEventsAnswer, event_lines}, Laws.{Events
 use Rattle.net_plan.specs.{Belonging.IsOfNetwork, Places.link_at, Ranges.{IsInRange, IsLinkInRange}}
 use Rattle.net_plan.specs.{declared.{event.{Event.Event, What.What}, network.Network.Network, tables.Link.Link}}
 use Rattle.report_text.{specs.NoteLine.report_of}
-use Rattle.report_text.proofs.{Texts.{is_lf, line_unbroken}}
-use Rattle.report_text.proofs.{Visible.{joined_short, size, time_short, time_visible, what_short, what_visible}}
 use Rattle.run_law.specs.declared.note.Note.{Note}
 use Rattle.schedule_tables.specs.{Rules.KeepsRules, declared.rule.Rule.TheVariants.{DevicesDiffer, LinksDiffer}}
 use Rattle.trace_text.{proofs.EventsBack.{reads_back, text_joined}}

@@ -5,7 +5,8 @@ use Common.{◌*◌, ◌+◌, ◌-◌, ◌<◌, ◌∙◌, ◌≡◌, ◌≤◌,
 use Common.{true, ℕ, ℤ}
 use Rattle.std.proofs.lemmas.{Bool.{cases_lt, false≢true, le-leb, le-ltb, lt-leb, lt-ltb}, Int.ints}
 use Rattle.std.proofs.lemmas.{Option.slice_get_within}
-use Rattle.audit_devices.{proofs.clocks_lemmas.Reached.{come_reaches, reaches_come}}
+use Rattle.audit_devices.proofs.clocks_lemmas.Reached.{come_reaches, reaches_come}
+use Rattle.run_law.proofs.records.Order.{same_kept}
 use Rattle.audit_devices.specs.{Lasting.ShowsWithin, Showing.{Shown, Shows}}
 use Rattle.audit_devices.specs.{clocks.Finding.{CrossesAt, IsNextCrossing, NoneCrossed, value_in}}
 use Rattle.audit_devices.specs.{declared.clocks.finding.{Crossed.Crossed, Series.Series}}
@@ -21,7 +22,6 @@ use Rattle.net_plan.specs.{Belonging.HasDevice, Bounds.IsGreatest, Places.{devic
 use Rattle.net_plan.specs.{Ranges.{IsInRange, IsVlInRange}}
 use Rattle.net_plan.specs.declared.{ids.{DeviceId.DeviceId, VlId.VlId}, network.Network.Network}
 use Rattle.net_plan.specs.declared.{tables.{Device.Device, Row.Row}}
-use Rattle.run_law.{proofs.records.Order.same_kept}
 use Rattle.run_law.specs.{device.{LocalClocks.Reaches, States.state_after}, law.Safety.{IsWindowEnd, ReachesPlace}}
 use Rattle.run_law.specs.{records.Happenings.{Happening, earlier, time_of, up_to}}
 use Rattle.run_law.specs.{scenario.Scenarios.{Scenario, is_broken}}

@@ -15,7 +15,7 @@ use Rattle.net_plan.specs.{Ranges.{IsInRange, IsLinkInRange, IsRowInRange, IsVlI
 use Rattle.net_plan.specs.declared.{ids.{DeviceId.DeviceId, LinkId.LinkId}, network.Network.Network}
 use Rattle.net_plan.specs.declared.tables.{Device.Device, Link.Link}
 use Rattle.net_plan.specs.declared.tables.{Role.{Role, TheVariants.{Client, Cm, Master, Relay}}}
-use Rattle.schedule_checker.{proofs.{Elements.{all_of_each, each_of_all}, FirstBroken.same_rule, Shape.tree_of}}
+use Rattle.schedule_checker.proofs.{Elements.{all_of_each, each_of_all}, Shape.{same_rule, tree_of}}
 use Rattle.schedule_checker.{specs.Timing.errors_of}
 use Rattle.schedule_tables.specs.{Delays.{ScheduleFits, delay_on, pcf_port_time}, Numbers.number_of}
 use Rattle.schedule_tables.specs.{Rules.{IsKeptAt, KeepsBelow}}

@@ -1,7 +1,7 @@
 -- The dispatches of a cycle come half as far apart as those of the cycle before, but for the starts.
 use Rattle.precision_law.proofs.{block.Instants.{has_start, next_first, none_at_start, start_is}}
 use Rattle.precision_law.proofs.{law.Precision.{before_narrow, behind_of, later_end}, words.Laws.{state_left, widened}}
-use Rattle.sync_state.proofs.StateFacts.{up_state}
+use Rattle.sync_state.proofs.VerdictLemmas.{up_state}
 use Rattle.precision_law.proofs.words.Clocks.{adjustment_is_last, adjustment_stays, anchored_clocks_reach, anchored_clocks_show, before_of}
 use Rattle.precision_law.proofs.words.Clocks.{clocks_reach_sharply, device_of, earlier_before, frames_come_first, master_ends, never_some, over, passes}
 use Rattle.precision_law.proofs.words.Clocks.{reaches_whole, room, shared_clocks_halve, sizes_are, starts_stay_together, state_stays, steady}

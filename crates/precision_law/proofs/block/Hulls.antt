@@ -3,7 +3,9 @@ use Rattle.precision_law.proofs.words.Laws.{Follows, Hull, IsDispatch, IsInHull,
 use Rattle.precision_law.proofs.words.{Plans.{DeviceId, int_le-true}, Runs.{Happening, IsIn, NoteBody, in_filter, is_broken, time_of}}
 use Rattle.precision_law.proofs.words.Std.{◌∷◌, ◌≡◌, ◌≤ℤ◌, ◌≤◌, List, None, Option, Some, [], and_parts, ap, arith, clamps, eq-eqb, eqb-true, false, filter}
 use Rattle.precision_law.proofs.words.Std.{fold, inl, inr, int_le, ints, not, not-true, not_from_false, option_and_then, pos, refl, subst, suc, true, ℕ, ℤ}
-use Rattle.{run_law.proofs.records.{Members.in_kept, Order.has_passed}, std.proofs.lemmas.Option.none-some, tte_units.proofs.general_lemmas.Integers.int_le-is}
+use Rattle.std.proofs.lemmas.Option.{none-some}
+use Rattle.run_law.proofs.records.{Members.in_kept, Order.has_passed}
+use Rattle.tte_units.proofs.general_lemmas.Integers.{int_le-is}
 use Rattle.run_law.specs.declared.note.NoteBody.TheVariants as notes
 
 -- ---- widening

@@ -19,7 +19,7 @@ use Std.{if◌then◌else◌, ◌++◌, ◌+◌, ◌-ℤ◌, ◌<ℤ◌, ◌<◌
 use Std.{append-nil, append_assoc, arith, both_ways, eq-eqb, false, false_from_ne_true, filter, filter-append, fold}
 use Std.{fold-append, inl, inr, ints, last_or, lt-ltb, nat_lt, negsuc, option_map_or, pos, refl, subst, sym, true, ℕ, ℤ}
 use Rattle.run_law.proofs.{control.Verdicts.cycle_stays, device.States.{adjustment_kept, joined_changes}}
-use Rattle.run_law.proofs.{records.{Happenings.{from_earlier, is_earlier}, Members.in_kept}}
+use Rattle.run_law.proofs.{records.{Members.in_kept, Order.{from_earlier, is_earlier}}}
 use Rattle.tte_units.proofs.general_lemmas.Lists.{last_more}
 use Rattle.run_law.specs.declared.judgement.Why.TheVariants as whys
 use Rattle.run_law.specs.declared.note.NoteBody.TheVariants as notes

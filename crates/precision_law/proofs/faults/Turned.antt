@@ -1,5 +1,5 @@
 -- A device that has the common time is not just turned on.
-use Rattle.run_law.proofs.{control.Joined.looking_by, scenario.Devices.on_by}
+use Rattle.run_law.proofs.{control.Verdicts.looking_by, scenario.Devices.on_by}
 use Rattle.precision_law.proofs.words.Clocks.{Keeps, any_in, any_of_in, before_of, earlier_before, in_earlier, kept_by_all, kept_if, point_has_time}
 use Rattle.precision_law.proofs.words.{Clocks.same_device, Plans.{Device, DeviceId, Event, Integrating, Joining, Off, State, amount, device_at, state_at_start}}
 use Rattle.precision_law.proofs.words.{Laws.{AreBeforeCorrections, IsView, NoneTurnsOn, View, has_time, state_left}, Std.{true, zero, ℕ}}

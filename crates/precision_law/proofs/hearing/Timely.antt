@@ -12,7 +12,8 @@ use Rattle.precision_law.proofs.words.{Plans.{opened, paths_are_unique, point_of
 use Rattle.precision_law.proofs.words.Runs.{Happening, IsCaused, IsChain, IsIn, cause_of, channel_of, founded_at, frame_by}
 use Rattle.precision_law.proofs.words.Runs.{frame_from, in_left, is_cm, is_cm_role, numbered, numbered_front, numbered_in, same_some, time_of}
 use Rattle.precision_law.proofs.words.Std.{◌*◌, ◌+◌, ◌-◌, ◌∙◌, ◌∷◌, ◌≡◌, ◌≤◌, ◌⊎◌, List, Some, [], ap, arith, inl, inr, ints, length, mul-le-mul_left}
-use Rattle.{precision_law.proofs.words.Std.{option_and_then, option_map_or, pos, refl, subst, sym, true, ℕ, ℤ}, run_law.proofs.scenario.Devices.cm_role}
+use Rattle.precision_law.proofs.words.Std.{option_and_then, option_map_or, pos, refl, subst, sym, true, ℕ, ℤ}
+use Rattle.run_law.proofs.scenario.Devices.{cm_role}
 use Rattle.run_law.specs.declared.note.NoteBody.TheVariants as notes
 
 -- ---- chains of causes

@@ -23,7 +23,7 @@ use Rattle.precision_law.proofs.words.Std
 use Std.{◌*◌, ◌+ℤ◌, ◌+◌, ◌<ℤ◌, ◌<◌, ◌∙◌, ◌≡◌, ◌≤ℤ◌, ◌≤◌, ◌⊎◌, List, None, Option, Some, ap, arith, by_lt_z, cases_lt}
 use Std.{false, inl, inr, ints, le-leb, le-ltb, lt-leb, lt-ltb, nat_le, nat_lt, negsuc, option_map_or, pos, refl, subst}
 use Std.{suc, sym, true, zero, ℕ, ℤ}
-use Rattle.sync_state.proofs.{StateFacts.up_state, VerdictLemmas.by_points}
+use Rattle.sync_state.proofs.VerdictLemmas.{by_points, up_state}
 use Rattle.run_law.specs.declared.judgement.Why.TheVariants as whys
 use Rattle.run_law.specs.declared.note.NoteBody.TheVariants as notes
 

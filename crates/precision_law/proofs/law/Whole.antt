@@ -1,5 +1,7 @@
 -- The laws, from what each instant of a block brings.
-use Rattle.precision_law.{proofs.progress_lemmas.Mending.{mended_channels_come_in, mended_relays_come_in}, specs.Mending.{MendedChannelsComeIn, MendedRelaysComeIn}}
+use Rattle.precision_law.{specs.Mending.{MendedChannelsComeIn, MendedRelaysComeIn}}
+use Rattle.precision_law.proofs.progress_lemmas.Arriving.{AreBlocksKnown, end_systems_come_in, end_systems_come_in_soon}
+use Rattle.precision_law.proofs.progress_lemmas.Arriving.{mended_channels_come_in, mended_relays_come_in}
 use Rattle.precision_law.{specs.WorldTime.ClocksKeepWorldTime}
 use Rattle.precision_law.proofs.{block.{Corrections.blocks_go_so, Onward.{points_have_come, stands_on}}}
 use Rattle.precision_law.proofs.{emission.SoundMaster.sound_master_sends, hearing.InBlocks.heard_in_their_blocks}
@@ -9,7 +11,6 @@ use Rattle.precision_law.proofs.law.OnTime.{clocks_keep_the_span, clocks_keep_th
 use Rattle.precision_law.proofs.law.OnTime.{values_are_reached_on_time}
 use Rattle.precision_law.proofs.words.{Blocks.{none_turns_on, stands_at_start, three_have_good, time_is_kept}}
 use Rattle.precision_law.proofs.words.{Clocks.{hearings_are_of_frames, one_channel_is_sound, switches_are_good}}
-use Rattle.precision_law.proofs.progress_lemmas.Arriving.{AreBlocksKnown, end_systems_come_in, end_systems_come_in_soon}
 use Rattle.precision_law.proofs.words.Blocks.{FramesGoSo, bases_are_in_hulls, bases_are_near_hulls, blocks_cover, clocks_agree_in_blocks, clocks_stay_together}
 use Rattle.precision_law.proofs.words.Blocks.{emissions_are_of_dispatches, emissions_are_sharp, heard_frames_are_timely, hulls_are_narrow, joiners_come_in}
 use Rattle.precision_law.proofs.words.Laws.{BlocksGoSo, ClocksKeepTheSpan, ClocksKeepTheirCycles, ClocksStayTogether, DispatchesHalve}

@@ -2,7 +2,8 @@
 use Rattle.precision_law.proofs.{block.Onward.{hull_ordered, last_of}, clocks.Epochs.joins_state}
 use Rattle.precision_law.proofs.{emission.SoundMaster.cm_is}
 use Rattle.precision_law.proofs.{faults.Turned.{not_turned_on_then, on_not_turned_on, timed_not_off}}
-use Rattle.precision_law.proofs.{hearing.Received.{ComesDown, comes_down, firm_member, no_end_cm, sent_in_time}}
+use Rattle.precision_law.proofs.hearing.GoodFrames.{ComesDown, comes_down, firm_member, no_end_cm, sent_in_time}
+use Rattle.run_law.proofs.records.Order.{ahead}
 use Rattle.precision_law.proofs.{law.{OnTime.corrects_by, Precision.{block_ends, later_end}}}
 use Rattle.precision_law.proofs.{records.Times.{AreSorted, between, earlier_parts, in_between}}
 use Rattle.precision_law.proofs.{traffic_lemmas.spans.Spans.turned_on_by, trips.SoundChannel.sound_is_whole}
@@ -26,7 +27,6 @@ use Std.{if◌then◌else◌, ◌&&◌, ◌++◌, ◌+ℤ◌, ◌+◌, ◌<◌, 
 use Std.{[], and_parts, ap, arith, both_ways, eq-eqb, eqb-true, false, false_from_ne_true, filter-append, fold}
 use Std.{fold-append, inl, inr, ints, le-leb, lt-ltb, nat_lt, negsuc, option_map_or, pos, refl, subst, suc, sym, true}
 use Std.{ℕ, ℤ}
-use Rattle.run_law.proofs.records.Order.{ahead}
 use Rattle.net_plan.specs.declared.event.What.TheVariants as events
 use Rattle.run_law.specs.declared.judgement.Why.TheVariants as whys
 use Rattle.run_law.specs.declared.note.NoteBody.TheVariants as notes

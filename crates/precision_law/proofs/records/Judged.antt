@@ -1,5 +1,5 @@
 -- The records by which a frame that is permanent is judged.
-use Rattle.run_law.proofs.{control.Joined.earlier_before, records.Order.{all_kept, before_is}}
+use Rattle.run_law.proofs.{control.Verdicts.earlier_before, records.Order.{all_kept, before_is}}
 use Rattle.precision_law.proofs.words.Plans.{DeviceId, LinkId, Pcf, Units, amount}
 use Rattle.precision_law.proofs.words.{Runs.{AllBefore, Happening, before_permanence, earlier, is_before, place_of}, Std.{◌∷◌, ◌≡◌, List, [], ℕ}}
 

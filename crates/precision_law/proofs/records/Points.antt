@@ -18,7 +18,7 @@ use Std.{if◌then◌else◌, ◌++◌, ◌+◌, ◌<◌, ◌∙◌, ◌∷◌, 
 use Std.{[], ap, arith, cases_lt, false, filter, inl, inr, ints, last_or, pos, refl, subst, sym, true, unsigned_abs, ℕ}
 use Std.{ℤ}
 use Rattle.run_law.proofs.{device.States.reaches_by, law.FirstDeliveries.{next_due, next_note}}
-use Rattle.run_law.proofs.{records.{Happenings.{from_earlier, soon}, Order.{ahead, has_passed, time_before}}}
+use Rattle.run_law.proofs.records.Order.{ahead, from_earlier, has_passed, soon, time_before}
 use Rattle.tte_units.proofs.general_lemmas.Bools.{match_false}
 use Rattle.compression.specs.declared.taken.Taken.TheVariants as taken
 use Rattle.run_law.specs.declared.judgement.Judgement.TheVariants as judgements

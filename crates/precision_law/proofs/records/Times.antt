@@ -8,8 +8,8 @@ use Runs.{time_of}
 use Rattle.precision_law.proofs.words.Std
 use Std.{◌++◌, ◌+◌, ◌<◌, ◌∙◌, ◌∷◌, ◌≡◌, ◌≤◌, List, Option, Some, [], ap, append-nil, append_assoc, arith, cases_lt}
 use Std.{false, filter, filter-append, inl, inr, last_or, le-ltb, lt-ltb, nat_lt, not, refl, subst, sym, ℕ}
-use Rattle.run_law.proofs.records.{Happenings.{from_earlier, is_earlier, soon}, Members.in_kept}
-use Rattle.run_law.proofs.records.{Order.{all_kept, has_passed, time_before}}
+use Rattle.run_law.proofs.records.{Members.in_kept}
+use Rattle.run_law.proofs.records.{Order.{all_kept, from_earlier, has_passed, is_earlier, soon, time_before}}
 
 -- ---- the records of a run in the order of their times
 

@@ -5,7 +5,7 @@ use Rattle.precision_law.proofs.faults.{Masters.{good_is_correct, one_channel_is
 use Rattle.precision_law.proofs.faults.{Sound.{sound_switches_begin_on, sound_ways_are_whole}}
 use Rattle.precision_law.proofs.traffic_lemmas.{Words.{BringsBlocks, BringsChannels}}
 use Rattle.precision_law.proofs.traffic_lemmas.{delivery.{Delivering.owed_frames_come, Forwarding.Brings}}
-use Rattle.precision_law.proofs.traffic_lemmas.{ports.{Apart.ports_stay_apart, Gates.givings_keep_away}}
+use Rattle.precision_law.proofs.traffic_lemmas.{ports.Gates.{givings_keep_away, ports_stay_apart}}
 use Rattle.precision_law.proofs.traffic_lemmas.faults.GoodDevices
 use GoodDevices.{senders_are_broken, sound_switches_keep_time, timed_are_not_turned_on}
 use Rattle.precision_law.{proofs.traffic_lemmas.delivery.Owing.due_frames_are_owed, specs.traffic.Owing.{DueFramesAreOwed, DueFramesCome}}

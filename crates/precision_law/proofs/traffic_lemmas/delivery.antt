@@ -2,7 +2,6 @@
 pub mod Coming
 pub mod Faultless
 pub mod Taken
-pub mod Entering
 pub mod Forwarding
 pub mod Delivering
 pub mod Owing

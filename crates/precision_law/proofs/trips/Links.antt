@@ -18,7 +18,7 @@ use Rattle.precision_law.proofs.words.Std
 use Std.{if◌then◌else◌, ◌&&◌, ◌*◌, ◌+ℤ◌, ◌+◌, ◌-◌, ◌<ℤ◌, ◌<◌, ◌^◌, ◌∙◌, ◌∷◌, ◌≡◌, ◌≤◌, ◌⊎◌, Bool, List, None, Ok}
 use Std.{Option, Some, [], ap, arith, by_lt_z, false, inl, inr, ints, le-ltb, ltb-false, mul-le-mul_left, nat_lt, not}
 use Std.{option_and_then, option_map, option_map_or, refl, subst, sym, true, ℕ}
-use Rattle.run_law.{proofs.{law.FirstDeliveries.{given, next_note, sets_wire}, records.Order.ahead}}
+use Rattle.run_law.proofs.{law.FirstDeliveries.{given, next_note, sets_wire}, records.Order.ahead}
 use Rattle.run_law.{specs.declared.judgement.Reason.TheVariants.Off}
 use Rattle.tte_units.proofs.general_lemmas.Options.{mapped}
 use Rattle.run_law.specs.declared.note.NoteBody.TheVariants as notes

@@ -1,9 +1,9 @@
 -- What old devices have heard at their correction points, and that they correct their clocks there.
 use Rattle.precision_law.proofs.{block.Corrections.{IsByFrame, heard_late, is_by_frame, shared_by, turned}}
 use Rattle.precision_law.proofs.{trips.SoundChannel.sound_is_whole}
-use Rattle.precision_law.proofs.hearing.{Received.{IsSentInTime, cm_of_channel, firm_member, receives, sent_in_time}}
-use Rattle.precision_law.proofs.hearing.GoodFrames
-use GoodFrames.{IsAtPoint, heard_within, heard_within_by, is_since, not_integrating, same_sent, sooner, went_so}
+use Rattle.precision_law.proofs.hearing.GoodFrames.{IsAtPoint, IsSentInTime, cm_of_channel, firm_member, heard_within}
+use Rattle.precision_law.proofs.hearing.GoodFrames.{heard_within_by, is_since, not_integrating, receives, same_sent}
+use Rattle.precision_law.proofs.hearing.GoodFrames.{sent_in_time, sooner, went_so}
 use Rattle.precision_law.proofs.words.{Clocks.{HearsThis, any_is, hearing_of, hears_by, one_bad, sets_within}}
 use Rattle.precision_law.proofs.words.Blocks
 use Blocks.{FramesGoSo, IsBadPoint, IsGoodHearing, IsGoodPoint, IsSentOn, good_hearing, late_from, made_of}

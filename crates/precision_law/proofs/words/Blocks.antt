@@ -1,8 +1,8 @@
 -- What is proved of blocks, and is cited further on, passed on from one place. Declares nothing.
 pub use Rattle.compression.proofs.ClusterFacts.{ends_soon}
 pub use Rattle.run_law.proofs.device.States.{is_in as synchronised_is}
-pub use Rattle.run_law.proofs.records.Order.{contained, place_order}
-pub use Rattle.sync_state.proofs.StateFacts.{up_state as not_integrating}
+pub use Rattle.run_law.proofs.{control.Verdicts.looking_by, records.Order.{contained, place_order}}
+pub use Rattle.sync_state.proofs.VerdictLemmas.{up_state as not_integrating}
 pub use Rattle.tte_units.proofs.general_lemmas.Integers.{int_lt-from, int_lt-is}
 pub use Rattle.precision_law.proofs.block.{Halving.{shared_near, start_near}}
 pub use Rattle.precision_law.proofs.block.Instants.{FramesGoSo, HasCorrected, HasPoint, IsGoodHearing, IsLate, IsSentOn}
@@ -31,7 +31,6 @@ pub use Rattle.precision_law.proofs.records.RunViews.{hull_is_from_to, hull_lies
 pub use Rattle.precision_law.proofs.trips.{SoundChannel.{one_cm, sound_frames_go_down, sound_frames_go_up}}
 pub use Rattle.precision_law.proofs.trips.{Travels.{EndsSo, ends_so}}
 pub use Rattle.precision_law.proofs.block.Halving.{HasDispatched, IsReachedBy, has_dispatched, high_by, hulls_are_narrow, in_next, low_by, master_is_end}
-pub use Rattle.run_law.proofs.control.Joined.{looking_by}
 pub use Rattle.precision_law.proofs.faults.Turned.{none_turns_on, not_turned_on_then, turned_at}
 pub use Rattle.precision_law.proofs.hearing.Timely.{cm_of, heard_frames_are_timely}
 pub use Rattle.precision_law.proofs.sizes.Few.{few_cycles}

@@ -3,9 +3,10 @@ pub use Rattle.std.proofs.Common.{suc-mul as one_more}
 pub use Rattle.std.proofs.lemmas.Option.{none-some as never_some}
 pub use Rattle.net_plan.proofs.SameIds.{one_device as same_device}
 pub use Rattle.run_law.proofs.device.States.{joined_changes, reaches_by}
-pub use Rattle.run_law.proofs.records.Happenings.{from_earlier as in_earlier}
-pub use Rattle.run_law.proofs.records.Order.{all_of, any_in, contains, given_of as in_filter_map, has_passed as passes, in_any, is_given as made_in, same_kept}
-pub use Rattle.run_law.proofs.records.Order.{time_before as no_later}
+pub use Rattle.run_law.proofs.records.Order.{all_of, any_in, contains, from_earlier as in_earlier}
+pub use Rattle.run_law.proofs.records.Order.{given_of as in_filter_map, has_passed as passes, in_any}
+pub use Rattle.run_law.proofs.records.Order.{is_given as made_in, same_kept, time_before as no_later}
+pub use Rattle.sync_state.proofs.VerdictLemmas.{number_in as point_is}
 pub use Rattle.precision_law.proofs.clocks.Epochs.{Keeps, adjustment_is_last, adjustment_set, adjustment_stays}
 pub use Rattle.precision_law.proofs.clocks.Epochs.{clocks_have_reached, clocks_reach_sharply, fold_last, joiner_waits}
 pub use Rattle.precision_law.proofs.clocks.Epochs.{keeps, kept_by_all, kept_if, next_cycle_is_of_last, none_between}
@@ -35,7 +36,6 @@ pub use Rattle.precision_law.proofs.trips.Links.{frame_is, goes_over, leaves_at,
 pub use Rattle.precision_law.proofs.trips.Links.{taken_as, taken_sound, takes_at_most, trip_says}
 pub use Rattle.run_law.proofs.law.FirstDeliveries.{next_due, next_note}
 pub use Rattle.schedule_tables.proofs.Margins.{master_ends}
-pub use Rattle.sync_state.proofs.StateFacts.{number_in as point_is}
 pub use Rattle.tte_units.proofs.general_lemmas.{Integers.{int_le-is, whole as natural}, Options.some_of}
 pub use Rattle.precision_law.proofs.Plain.{any_is, any_of_in, cm_is_no_end, device_of, higher_before, le_by, lt_by, reached, some_if, synchronised_has_time}
 pub use Rattle.precision_law.proofs.block.Hulls.{has_before, in_hull, over, tested}

@@ -3,7 +3,8 @@ use Rattle.{net_plan.specs.declared.ids.DeviceId.DeviceId, run_law.specs.declare
 use Rattle.{net_plan.specs.declared.{ids.{LinkId.LinkId, VlId.VlId}, tables.Way.Way}, pcf_codec.specs.Fields.field, tte_units.specs.declared.units.Units.Units}
 use Rattle.{net_plan.specs.declared.{network.Network.Network, tables.Way.TheVariants.{Down, Up}}, run_law.specs.device.Standpoints.{Standpoint, standpoint}}
 use Rattle.{pcf_codec.specs.declared.refusal.PcfRefusal.PcfRefusal, run_law.specs.{records.Happenings.{Happening, with_clock}, runs.DueRecords.IsArrivedRecord}}
-use Rattle.{run_law.{proofs.control.Verdicts.none_first, specs.declared.steps.Arrival.Arrival}, tte_units.specs.{Amount.amount, declared.frames.pcf.Pcf.Pcf}}
+use Rattle.run_law.{proofs.control.Verdicts.none_first, specs.declared.steps.Arrival.Arrival}
+use Rattle.tte_units.specs.{Amount.amount, declared.frames.pcf.Pcf.Pcf}
 use Rattle.run_law.specs.control.Arrivals.{clock_on_arrival, control_arrival, frame_fault, frame_or_fault, is_cold_start, is_gate_shut, is_of_other_domain}
 use Rattle.run_law.specs.{control.Arrivals.{is_of_other_member, point_on_arrival}, scenario.{Devices.{is_end, is_parent_of, is_relay}, Scenarios.Scenario}}
 use Rattle.{run_law.specs.{control.Wires.{Signal, control, timed}, timed.Receptions.{arrival_of, last_taken}}, schedule_tables.specs.declared.entry.Entry.Entry}

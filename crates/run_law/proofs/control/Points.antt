@@ -1,6 +1,7 @@
 -- Correction points, and the points of frames that wait.
 use Rattle.{compression.proofs.ClusterFacts.{no_cluster as none_in}, run_law.proofs.Words.{◌≡◌, Contains, List, Some, State, [], refl, sym, ℕ, ℤ}}
-use Rattle.{compression.specs.Clusters.{AreClusters, Cluster}, sync_state.{proofs.StateFacts.number_in, specs.Standing.point_in}}
+use Rattle.compression.specs.Clusters.{AreClusters, Cluster}
+use Rattle.sync_state.{proofs.VerdictLemmas.number_in, specs.Standing.point_in}
 
 pub point_is : (state : State) (number cycle : ℕ) → point_in state number ≡ Some cycle → number ≡ cycle
 point_is state number cycle next = sym (number_in state number cycle next)

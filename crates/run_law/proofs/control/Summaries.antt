@@ -3,7 +3,7 @@ use Rattle.run_law.proofs.Words.{◌++◌, ◌∷◌, ◌≡◌, ◌⊎◌, A, B
 use Rattle.{run_law.proofs.Words.{subst, sym, true}, sync_state.specs.membership.{BestFrame.IsBetterOf, Hearing.Hearing}}
 use Rattle.run_law.proofs.scenario.Decisions.{decided_and, decided_less, decided_less_int, decided_or, decided_same}
 use Rattle.run_law.proofs.scenario.Decisions.{outnumbered, qualifies}
-use Rattle.sync_state.proofs.{StateFacts.deviates}
+use Rattle.sync_state.proofs.VerdictLemmas.{deviates}
 use Rattle.sync_state.proofs.membership_lemmas.SummaryLemmas.{hears_on_a, hears_on_b, hears_outside, same_hearing}
 use Rattle.sync_state.proofs.membership_lemmas.SummaryLemmas.{silence_summarizes}
 use Rattle.sync_state.specs.{Standing.{IsAtIntegration, Standing}, Verdicts.{HasVerdict, deviation_on}, correction.Correction.correction_of}

@@ -1,24 +1,37 @@
--- What a frame is judged as, and what it ripens to.
-use Rattle.compression.proofs.Times.{one_list_of_clusters}
-use Rattle.run_law.specs.{control.Collections.ripe_by_role, device.LocalClocks.changes_adjustment}
-use Rattle.{compression.specs.{Clusters.Point, Role.role}, run_law.specs.scenario.Devices.is_cm}
-use Rattle.{compression.specs.declared.taken.Taken.Taken, run_law.specs.control.Corrections.cycle_after, std.proofs.Common.{MatchBool, arith, cond}}
-use Rattle.run_law.proofs.Words.{◌≡◌, Bool, DeviceId, Happening, Integrates, Integrating, Joining, Judgement, List, Members, Network, None, NoteBody, Option}
-use Rattle.run_law.proofs.Words.{Pcf, Reason, Ripe, Some, State, Synchronised, false, observation_window, option_map, refl, ripe_as, true, ℕ, ℤ}
-use Rattle.run_law.specs.control.{Hearing.{heard_as, heard_by_schedule, heard_enough}, Permanence.{IsCollectedOrDropped, IsPermanenceOutcome}}
-use Rattle.{run_law.specs.declared.steps.Ripe.TheVariants.Within, sync_state.specs.declared.{plan.SyncPlan.SyncPlan, state.State.TheVariants.Off}}
-use Rattle.run_law.specs.declared.steps.Ripe.TheVariants as ripe
+-- What a frame is judged as, what it ripens to, and to whom it tells the time.
+use Rattle.std.proofs.{Common.{MatchBool, arith, cond, filter}}
+use Rattle.std.proofs.{lemmas.Bool.{both_ways, cases_Bool, false_from_ne_true, ltb-true}}
+use Rattle.compression.{proofs.Times.one_list_of_clusters}
+use Rattle.compression.{specs.{Clusters.Point, Role.role, declared.taken.Taken.Taken}}
+use Rattle.net_plan.proofs.SameIds.{same_device}
+use Rattle.run_law.proofs.{records.Order.before_is}
+use Rattle.run_law.proofs.Words
+use Words.{◌∙◌, ◌∷◌, ◌≡◌, Bool, DeviceId, Happening, Integrates, Integrating, IsCaused, Joining, Judgement, List}
+use Words.{Members, Network, None, NoteBody, Option, Pcf, Reason, Ripe, Scenario, Some, State, Synchronised, Units, []}
+use Words.{amount, earlier, eqb-true, false, inl, is_joined_by, nat_lt, observation_window, option_map, place_of, refl}
+use Words.{ripe_as, sym, time_of, true, ℕ, ℤ}
+use Rattle.run_law.specs.{declared.{judgement.Judgement.TheVariants.Ignored, steps.Ripe.TheVariants.Within}}
+use Rattle.run_law.specs.{records.{Order.is_before, Ranks.key}, scenario.Devices.{is_cm, plan_of}}
+use Rattle.run_law.specs.control.{Collections.ripe_by_role, Corrections.cycle_after}
+use Rattle.run_law.specs.control.{Hearing.{heard_as, heard_by_schedule, heard_enough}}
+use Rattle.run_law.specs.control.{Permanence.{IsCollectedOrDropped, IsPermanenceOutcome, before_permanence}}
+use Rattle.run_law.specs.device.{LocalClocks.changes_adjustment, States.{has_joined_at, state_at_hearing, state_before}}
+use Rattle.sync_state.{proofs.VerdictLemmas.before_hearing}
+use Rattle.sync_state.{specs.declared.{plan.SyncPlan.SyncPlan, state.State.TheVariants.Off}}
 use Rattle.compression.specs.declared.taken.Taken.TheVariants as takings
 use Rattle.run_law.specs.declared.judgement.Judgement.TheVariants as judgements
 use Rattle.run_law.specs.declared.note.NoteBody.TheVariants as notes
+use Rattle.run_law.specs.declared.steps.Ripe.TheVariants as ripe
 use Rattle.sync_state.specs.declared.state.State.TheVariants as states
+
+-- ---- what a frame is judged as, and what it ripens to
 
 -- a role in a collection is no integration
 pub role_not : (taken : Taken) → ripe.Integrates ≡ ripe_by_role taken → ⊥
 role_not takings.Opened e = cc
 role_not other e = cc
 
-pub collected_not : (network : Network) (points : List Point) (p : Point) (fault : Option Reason) → IsCollectedOrDropped network points p fault ripe.Integrates
+collected_not : (network : Network) (points : List Point) (p : Point) (fault : Option Reason) → IsCollectedOrDropped network points p fault ripe.Integrates
     → ⊥
 collected_not network points p None so = role_not so.taken so.becomes
 collected_not network points p (Some reason) so = cc
@@ -92,3 +105,48 @@ tells_by false e = absurd cc
 pub enough_not : (b : Bool) → ripe_as (heard_enough b) ≡ Within → ⊥
 enough_not true e = cc
 enough_not false e = cc
+
+-- ---- a frame tells the time only to a device that looks for it
+
+-- a filter that keeps all earlier records
+pub earlier_kept : (t : ℕ) (q : Happening → Bool) (hs : List Happening) → ((h : Happening) → nat_lt (time_of h) t ≡ true → q h ≡ true)
+    → earlier t (filter q hs) ≡ earlier t hs
+earlier_kept t q [] all = refl
+earlier_kept t q (h ∷ hs) all = grind (arith, cases_Bool, earlier, filter, nat_lt, time_of, false_from_ne_true, both_ways, (earlier_kept t q hs all))
+
+-- a place of the time is behind what is earlier
+pub earlier_before : (hs : List Happening) (t : ℕ) (more : List ℕ) → earlier t (filter (λ h. is_before (place_of h) (t ∷ more)) hs) ≡ earlier t hs
+earlier_before hs t more =
+    earlier_kept t (λ h. is_before (place_of h) (t ∷ more)) hs (λ h e. before_is (place_of h) (t ∷ more) (inl (ltb-true (time_of h) t e)))
+
+-- a device's state at a time is told by the records of earlier times
+pub state_by : (s : Scenario) (gs hs : List Happening) (device : DeviceId) (t : ℕ) → earlier t gs ≡ earlier t hs
+    → state_before s gs device t ≡ state_before s hs device t
+state_by s gs hs device t same = rw same
+
+outcome_looks : (b : Bool) (P : Type 0) (plan : SyncPlan) (precision : ℤ) (state : State) (adjustment point : ℤ) (cycle : ℕ) (members : Members) → (P → ⊥)
+    → MatchBool b P (ripe.Integrates ≡ ripe_as (heard_as plan precision state adjustment point cycle members)) → state ≡ Integrating
+outcome_looks true P plan precision state adjustment point cycle members not so = absurd (not so)
+outcome_looks false P plan precision state adjustment point cycle members not so = looking_ripe plan precision state adjustment point cycle members so
+
+looking : (n : Network) (device : DeviceId) (state : State) (adjustment : ℤ) (points : List Point) (frame : Pcf) (point : ℤ)
+    → IsPermanenceOutcome n device state adjustment points frame point ripe.Integrates → state ≡ Integrating
+looking n device state adjustment points frame point so =
+    outcome_looks (is_cm n device) _ (plan_of n device) (observation_window n) state adjustment point frame.cycle frame.members
+    (λ c. collected_not n points _ _ c) so
+
+-- a record by which a frame tells a device the time finds it integrating
+pub looking_by : (s : Scenario) (ps : List Happening) (time : Units) (device : DeviceId) (body : NoteBody) → is_joined_by device body ≡ true
+    → IsCaused s ps time body → state_before s ps device (amount time) ≡ Integrating
+looking_by s ps time device (notes.Permanent other link cause point Integrates) joined caused =
+    let same = sym (same_device device other (eqb-true device.0 other.0 joined)) in
+    let t = amount time in
+    let judged = before_permanence ps other t link cause caused.frame point in
+    let looks = looking s.network other (state_at_hearing s judged other t) _ _ caused.frame point.0 caused.becomes in
+    let before = before_hearing (has_joined_at judged other t) (state_before s judged other t) looks in
+    let there = sym (state_by s judged ps other t (earlier_before ps t (3 ∷ key caused.frame.members.0 (notes.Permanent other link cause point Ignored))))
+    ∙ before in
+    rw same at there
+looking_by s ps time device (notes.Compressed other opened at cycle members Integrates) joined caused =
+    grind (arith, same_device, eqb-true, amount, looking_ripe, observation_window, ripe_as, before_hearing)
+looking_by s ps time device other joined caused = absurd cc

@@ -1,6 +1,7 @@
 -- Places of which neither is before the other are one.
 use Rattle.std.proofs.Common.{◌↔◌, ◌∙◌, ◌∷◌, ◌≡◌, Bool, IsTrue, List, ap, false, inl, inr, not, refl, sym, true, ℕ}
-use Rattle.run_law.{proofs.{records.Order.{before_is, is_there}, runs.Places.{either_way, never_self}}, specs.records.Order.{IsBefore, is_before}}
+use Rattle.run_law.{proofs.{records.Order.{before_is, is_there}, runs.Places.{either_way, never_self}}}
+use Rattle.run_law.{specs.records.Order.{IsBefore, is_before}}
 
 pub not_true : (b : Bool) → not b ≡ true → b ≡ false
 not_true true e = absurd cc

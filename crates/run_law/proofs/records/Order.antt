@@ -1,12 +1,65 @@
--- Places one before another, and records in a list.
+-- Records, their numbers and places, and places one before another.
+use Rattle.std.{specs.List.{after_last, fold, list_any, prefix_len, suffix_len}}
+use Rattle.std.proofs.{Common.{◌||◌, All, arith, drop, filter, length-append, reverse, zero-add}}
+use Rattle.std.proofs.lemmas.Bool.{and_from, and_parts, cond-true, eq-eqb, lt-ltb, ltb-true, or_cases, or_left}
+use Rattle.std.proofs.lemmas.Bool.{or_right}
+use Rattle.std.proofs.lemmas.List.{Elements.{All-cons, All-head, All-nil, All-tail}, length-map, length-reverse}
+use Rattle.std.proofs.lemmas.List.{reverse-append}
 use Rattle.compression.proofs.Growth.{in_cases, in_none}
-use Rattle.run_law.{proofs.Words.{suc, sym, true, zero, ℕ}, specs.records.Order.is_before}
-use Rattle.run_law.proofs.Words.{◌&&◌, ◌++◌, ◌+◌, ◌-◌, ◌<◌, ◌==◌, ◌∙◌, ◌∷◌, ◌≡◌, ◌≤◌, ◌⊎◌, Bool, Contains, IsBefore, IsIn, List, None, Option, Some, [], ap}
-use Rattle.run_law.proofs.Words.{arith, cases_lt, cons_option, eqb-true, false, filter_map, if◌then◌else◌, inl, inr, length, nat_lt, not, refl, slice_get}
-use Rattle.{run_law.proofs.runs.Places.in_parts, std.proofs.lemmas.Bool.{and_from, and_parts, cond-true, eq-eqb, lt-ltb, ltb-true, or_cases, or_left, or_right}}
-use Rattle.std.proofs.{Common.{◌||◌, All, drop, filter, length-append, reverse, zero-add}, lemmas.List.Elements.{All-cons, All-head, All-nil, All-tail}}
-use Rattle.std.{proofs.lemmas.List.{length-reverse, reverse-append}, specs.List.{after_last, list_any, prefix_len, suffix_len}}
+use Rattle.run_law.{specs.records.Order.is_before}
+use Rattle.run_law.proofs.{runs.{NetworkRuns.{one_more, same_notes}, Places.{earlier_time, in_parts}}}
+use Rattle.run_law.proofs.Words
+use Words.{if◌then◌else◌, ◌&&◌, ◌++◌, ◌+◌, ◌-◌, ◌<◌, ◌==◌, ◌∙◌, ◌∷◌, ◌≡◌, ◌≤◌, ◌⊎◌, Bool, Contains, Happening, IsBefore}
+use Words.{IsIn, List, Network, None, Note, Option, Some, [], ap, append-nil, append_assoc, cases_lt, cons_option}
+use Words.{earlier, eqb-true, false, filter_map, happening, happenings, inl, inr, key, le-ltb, length, members_in}
+use Words.{nat_lt, not, numbered, place_of, rank, refl, slice_get, suc, sym, time_of, true, zero, ℕ}
 use Rattle.tte_units.proofs.general_lemmas.Lists.{all_turned}
+
+-- ---- records, their numbers and their places
+
+pub none_numbered : (number : ℕ) (g : Happening) → numbered [] number ≡ Some g → ⊥
+none_numbered zero g e = cc
+none_numbered (suc before) g e = cc
+
+-- a record is earlier exactly where its time is
+pub from_earlier : (t : ℕ) (hs : List Happening) (h : Happening) → IsIn h (earlier t hs) → IsIn h hs × (time_of h < t)
+from_earlier t [] h i = absurd i
+from_earlier t (x ∷ hs) h i =
+    elim (cases_lt (time_of x) t) [
+      | inl lt ↦ elim (rw (lt-ltb (time_of x) t lt) at i) [
+        | inl same ↦ (inl same, rw same lt)
+        | inr more ↦ let it = from_earlier t hs h more in (inr it.0, it.1)
+      ]
+      | inr ge ↦ let it =
+          from_earlier t hs h (rw (le-ltb (time_of x) t ge) at i) in (inr it.0, it.1)
+    ]
+
+pub is_earlier : (t : ℕ) (hs : List Happening) (h : Happening) → IsIn h hs → time_of h < t → IsIn h (earlier t hs)
+is_earlier t [] h i lt = i
+is_earlier t (x ∷ hs) h (inl same) lt =
+    let early : nat_lt (time_of x) t ≡ true = rw (sym same) (lt-ltb (time_of h) t lt) in
+    rw early (inl same)
+is_earlier t (x ∷ hs) h (inr i) lt =
+    elim (nat_lt (time_of x) t) as (λ b. IsIn h (if b then x ∷ earlier t hs else earlier t hs))
+    [ true ↦ inr (is_earlier t hs h i lt) | false ↦ is_earlier t hs h i lt ]
+
+-- there are as many records with their frames as records
+pub as_many : (network : Network) (ns : List Note) → length (happenings network ns) ≡ length ns
+as_many network ns = sym (length-map (happenings network ns) (λ h. h.note)) ∙ ap length (same_notes network ns)
+
+pub happenings_on : (network : Network) (notes rest : List Note) → (hs : List Happening) × (happenings network (notes ++ rest) ≡ happenings network notes ++ hs)
+happenings_on network notes [] = ([], ap (happenings network) (append-nil notes) ∙ sym (append-nil (happenings network notes)))
+happenings_on network notes (m ∷ rest) = grind (arith, happening, happenings, append_assoc, one_more, (happenings_on network (notes ++ m ∷ []) rest))
+
+-- and what is before the time is of an earlier one
+pub soon : (y : Happening) (u : ℕ) → IsBefore (place_of y) (u ∷ []) → time_of y < u
+soon y u b = earlier_time (time_of y) u (rank y.note.body ∷ key (members_in y) y.note.body) b
+
+pub fold_parts : {A : Type 0} (f : A → Happening → A) (a : A) (xs ys : List Happening) → fold f a (xs ++ ys) ≡ fold f (fold f a xs) ys
+fold_parts f a [] ys = refl
+fold_parts f a (x ∷ xs) ys = fold_parts f (f a x) xs ys
+
+-- ---- places one before another, and records in a list
 
 -- a place that is before another is of no later time
 pub time_before : (u t : ℕ) (ks ls : List ℕ) → IsBefore (u ∷ ks) (t ∷ ls) → u ≤ t

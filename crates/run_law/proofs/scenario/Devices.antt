@@ -1,13 +1,20 @@
--- Devices of a scenario.
-use Rattle.{net_plan.proofs.SameIds.alike, run_law.proofs.{Words.{sym, true, ℕ}, runs.Grow.in_two}, std.proofs.lemmas.Bool.{eq-eqb, le-leb}}
-use Rattle.{net_plan.specs.Places.{IsEndSystem, is_end_system}, std.proofs.Common.{filter, nat_le}, tte_units.proofs.general_lemmas.Options.opened}
-use Rattle.run_law.proofs.Words.{◌++◌, ◌==◌, ◌∙◌, ◌∷◌, ◌≡◌, ◌≤ℤ◌, ◌≤◌, Bool, Cm, DeviceId, Event, IsSomeAnd, IsWithinHypothesis, Link, LinkId, List}
-use Rattle.run_law.proofs.Words.{Network, None, Option, Role, Scenario, Some, What, [], amount, ap, append-nil, append_assoc, arith, cases_lt, device_at}
-use Rattle.run_law.proofs.Words.{eqb-true, false, if◌then◌else◌, inl, inr, ints, is_broken, is_master, is_parent_of, link_at, option_map_or, pos, refl}
-use Rattle.run_law.specs.scenario.{Devices.{IsParentOf, has_role, is_cm_role, is_end}, Hypothesis.{AreWithinHypothesis, breaks_at}, Scenarios.turns_on}
-use Rattle.std.specs.List.{list_any}
+-- Devices of a scenario, and the rates that its events set.
+use Rattle.std.{proofs.{Common.{filter, nat_le}, lemmas.Bool.{eq-eqb, le-leb}}, specs.List.list_any}
+use Rattle.drift_clock.specs.RateSteps.{RateStep}
+use Rattle.net_plan.{proofs.SameIds.alike, specs.Places.{IsEndSystem, is_end_system}}
+use Rattle.run_law.proofs.{runs.Grow.in_two}
+use Rattle.run_law.proofs.Words
+use Words.{if◌then◌else◌, ◌++◌, ◌==◌, ◌∙◌, ◌∷◌, ◌≡◌, ◌≤ℤ◌, ◌≤◌, Bool, Cm, DeviceId, Event, IsSomeAnd}
+use Words.{IsWithinHypothesis, Link, LinkId, List, Network, None, Option, Role, Scenario, Some, What, [], amount, ap}
+use Words.{append-nil, append_assoc, arith, cases_lt, device_at, eqb-true, false, inl, inr, ints, is_broken, is_master}
+use Words.{is_parent_of, link_at, option_map_or, pos, refl, subst, sym, true, unsigned_abs, ℕ}
+use Rattle.run_law.specs.scenario.{Devices.{IsParentOf, has_role, is_cm_role, is_end}}
+use Rattle.run_law.specs.scenario.{Hypothesis.{AreWithinHypothesis, breaks_at}, Rates.step_by, Scenarios.turns_on}
+use Rattle.tte_units.proofs.general_lemmas.Options.{opened}
 use Rattle.net_plan.specs.declared.event.What.TheVariants as events
 use Rattle.run_law.specs.declared.outside.Outside.TheVariants as outside
+
+-- ---- devices of a scenario
 
 -- the test of such an event
 pub on_by : (device : DeviceId) (what : What) → turns_on device what ≡ true → what ≡ events.On device
@@ -115,3 +122,44 @@ any_less q t later (x ∷ xs) le none =
 -- a device that is sound was so before
 pub correct_before : (s : Scenario) (device : DeviceId) (t later : ℕ) → t ≤ later → is_broken s device later ≡ false → is_broken s device t ≡ false
 correct_before s device t later le sound = any_less (λ e. breaks_at device.0 e.what) t later s.events le sound
+
+-- ---- the rates that events set: each is of its event's time, and slow where the event is within the hypothesis
+
+-- a rate that this sets is of a magnitude of at most rho
+abbrev pub IsSlow : ℕ → What → Type 0
+IsSlow rho (events.Rate device rate) = unsigned_abs rate.0 ≤ rho
+IsSlow rho other = Unit {0}
+
+module _ (network : Network) (before : List Event) (event : Event) where
+  pub slow_event : IsWithinHypothesis network before event → IsSlow network.rho event.what
+  slow_event within = of event.what refl
+    where
+      of : (what : What) → event.what ≡ what → IsSlow network.rho what
+      of (events.Rate device rate) same = elim (cases_lt network.rho (unsigned_abs rate.0)) [
+        | inl fast ↦ absurd (within outside.Rate (record { device = device; rate = rate; what = same; fast = fast }))
+        | inr slow ↦ slow
+      ]
+      of other same = tt
+
+  pub slow_what : (what : What) → event.what ≡ what → IsWithinHypothesis network before event
+      → IsSlow network.rho what
+  slow_what what same within = subst (IsSlow network.rho) same (slow_event within)
+
+-- what holds of the value, where there is one
+abbrev pub Holds : {X : Type 0} → Option X → (X → Type 0) → Type 0
+Holds None P = Unit {0}
+Holds (Some x) P = P x
+
+-- the step is of its event's time
+pub step_at : (device : DeviceId) (time : ℕ) (what : What) → Holds (step_by device time what) (λ s. s.at ≡ time)
+step_at device time (events.Rate other rate) = grind arith
+step_at device time other = tt
+
+-- the step is of this time, and its rate of at most rho
+pub record IsStepAt (rho time : ℕ) (step : RateStep) : Type 0 where
+  pub at : step.at ≡ time
+  pub slow : unsigned_abs step.rate ≤ rho
+
+pub step_is : (rho : ℕ) (device : DeviceId) (time : ℕ) (what : What) → IsSlow rho what → Holds (step_by device time what) (IsStepAt rho time)
+step_is rho device time (events.Rate other rate) slow = grind arith
+step_is rho device time other slow = tt

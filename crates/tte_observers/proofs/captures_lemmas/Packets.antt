@@ -1,21 +1,35 @@
--- The answer of `capture` for its source, packet by packet.
-use Rattle.std.{specs.{Io.KnownBytes.Appends, Prelude.{IfSome, None, Option, Some}}}
-use Rattle.std.proofs.{lemmas.{Bool.{cases_lt, le-ltb, lt-ltb}, List.append-nil}}
+-- The answer of `capture` for its source, packet by packet, and the lines of its packets.
+use Rattle.std.{specs.{Fmt.decimal, Io.KnownBytes.Appends, Prelude.{◌==◌, IfSome, None, Option, Some, codes, nat_le}}}
+use Rattle.std.proofs.{lemmas.{Bool.{Decides.nat_tests, and_parts, cases_lt, le-ltb, lt-ltb}, List.append-nil}}
 use Rattle.std.proofs.Common
-use Common.{◌++◌, ◌+◌, ◌-◌, ◌<◌, ◌∙◌, ◌∷◌, ◌≡◌, ◌≤◌, Err, List, Ok, Result, [], ap, append_assoc, arith, inl, inr}
-use Common.{length, refl, subst, suc, sym, ℕ}
+use Common.{◌*◌, ◌++◌, ◌+◌, ◌-◌, ◌<◌, ◌∙◌, ◌∷◌, ◌≡◌, ◌≤◌, Bool, Err, List, Ok, Result, [], ap, append_assoc, arith}
+use Common.{false, inl, inr, length, refl, subst, suc, sym, true, zero, ℕ}
+use Rattle.pcf_codec.{proofs.Spellings.is_spelling}
+use Rattle.pcf_codec.specs.{Decoding.decoded, EtherType.{HasPcfType, pcf_type}, Fields.field}
+use Rattle.pcf_codec.specs.{declared.refusal.PcfRefusal.PcfRefusal}
 use Rattle.tte_forms.proofs.{Octets.{for_read, for_too_many}}
 use Rattle.tte_forms.proofs.{Puts.{Ends-gives, PutsLines-fails, PutsLines-more, PutsLines-none}}
 use Rattle.tte_forms.proofs.{frames.Frames.{Gives-behind, behind}}
-use Rattle.tte_forms.specs.{Answering.{Answer, Answers, Ends, Gives, line_answer}, Putting.{PutsLines, Shown}}
+use Rattle.tte_forms.specs.{Answering.{Answer, Answers, Ends, Gives, line_answer, with_line}}
+use Rattle.tte_forms.specs.{Putting.{PutsLines, Shown}}
 use Rattle.tte_forms.specs.{declared.status.Status.{Status, TheVariants.{CaptureRefused, Done, TooLong, WriteFault}}}
+use Rattle.tte_forms.specs.{frames.FrameLine.refusal_text}
 use Rattle.tte_io.specs.{Faults.next_count, Told.AppendsFront}
-use Rattle.tte_observers.specs.captures.{CaptureLine.{packet_line, packet_refusal_line}}
-use Rattle.tte_observers.specs.captures.{pcap.{Layout.{head_length, stamp_length}, Reading.{opened, packet_at}}}
+use Rattle.tte_observers.{proofs.captures_lemmas.pcap_lemmas.{Heads.finds_head, Packets.{finds_packets, packet_stands}}}
 use Rattle.tte_observers.specs.captures.Answer.{capture_answer, capture_limit, found_answer, opened_answer}
 use Rattle.tte_observers.specs.captures.Answer.{packets_answer}
+use Rattle.tte_observers.specs.captures.CaptureLine
+use CaptureLine.{has_pcf_type, head_refusal_line, no_frame_words, packet_line, packet_refusal_line, words_of}
+use Rattle.tte_observers.specs.captures.Law
+use Law.{HasPackets, IsFile, IsJudged, ShowsOctets, ShowsPackets, StandFrom, packet_lines, refused_behind, whole_answer}
+use Rattle.tte_observers.specs.captures.pcap.{Layout.{IsHead, IsPacket, head_length, stamp_length}}
+use Rattle.tte_observers.specs.captures.pcap.{Reading.{opened, packet_at}, ReadingLaw.{HasHeadFault, HasPacketFault}}
 use Rattle.tte_observers.specs.declared.captures.pcap.{capture.{CaptureHead.CaptureHead, Packet.Packet}}
 use Rattle.tte_observers.specs.declared.captures.pcap.{refusal.CaptureRefusal.{CaptureRefusal, TheVariants.Header}}
+use Rattle.tte_units.specs.declared.frames.pcf.Pcf.{Pcf}
+use Rattle.tte_observers.specs.declared.captures.pcap.refusal.CaptureRefusal.TheVariants as reasons
+
+-- ---- the answer of `capture` for its source, packet by packet
 
 -- ---- the answer of `capture` for a source
 
@@ -31,7 +45,7 @@ head_whole file head is = elim (cases_lt (length file) head_length) [
   | inr size ↦ size
 ]
 
-pub capture_answer-fits : (file : List ℕ) → length file ≤ capture_limit → capture_answer file ≡ opened_answer file (opened file)
+capture_answer-fits : (file : List ℕ) → length file ≤ capture_limit → capture_answer file ≡ opened_answer file (opened file)
 unfolding capture_answer
 capture_answer-fits file short = rw (le-ltb capture_limit (length file) short) refl
 
@@ -59,7 +73,7 @@ answers-long left status old new long ends =
 abbrev pub answer_behind : ℕ → ℕ → CaptureHead → List ℕ → ℕ → Answer
 answer_behind n k head file to = packets_answer n (k + 1) head file to
 
-pub packets_next : (n k : ℕ) (head : CaptureHead) (file : List ℕ) (at : ℕ)
+packets_next : (n k : ℕ) (head : CaptureHead) (file : List ℕ) (at : ℕ)
     → packets_answer (suc n) k head file at ≡ found_answer k file (packet_at head file at)
     (answer_behind n k head file)
 unfolding packets_answer
@@ -136,3 +150,141 @@ module _ (k : ℕ) (head : CaptureHead) (file : List ℕ) where
   IsShown-refused at e status old {now} {new} s within is g =
       subst (λ a. Gives a status old new) (sym (decided at old now (Err e) s within is))
       (Gives-behind (line_answer CaptureRefused (packet_refusal_line k e)) status s.puts g)
+
+-- ---- the packets that stand in a file have their lines
+
+-- ---- octets
+
+module _ (octets : List ℕ) where
+  pub has_type : HasPcfType octets → has_pcf_type octets ≡ true
+  has_type (size, is) =
+      let long : nat_le 14 (length octets) ≡ true = grind (arith, nat_tests, size) in
+      let same : (field 12 2 octets == pcf_type) ≡ true = grind (arith, nat_tests, is) in
+      rw (long, same) refl
+
+  told_type : (b : Bool) → has_pcf_type octets ≡ b → (HasPcfType octets → ⊥) → has_pcf_type octets ≡ false
+  told_type false e other = e
+  told_type true e other =
+      let parts = and_parts (nat_le 14 (length octets)) (field 12 2 octets == pcf_type) e in
+      absurd (other (grind (arith, nat_tests, parts.0), grind (arith, nat_tests, parts.1)))
+
+  pub has_other_type : (HasPcfType octets → ⊥) → has_pcf_type octets ≡ false
+  has_other_type other = told_type (has_pcf_type octets) refl other
+
+  other_words : (r : Result Pcf PcfRefusal) → decoded octets ≡ r → (HasPcfType octets → ⊥)
+      → words_of octets r ≡ codes "other " ++ decimal (length octets)
+  other_words (Ok p) is other =
+      let s = is_spelling.read octets p is in absurd (other (omega (arith, s.size), s.ethertype))
+  other_words (Err e) is other = rw (has_other_type other) refl
+
+  refused_words : (e : PcfRefusal) → HasPcfType octets → no_frame_words octets e ≡ codes "refused " ++ refusal_text e
+  refused_words e type = rw (has_type type) refl
+
+pub shows_octets : ShowsOctets
+shows_octets = record {
+  control = λ octets p s. ap (words_of octets) (is_spelling.spelt octets p s);
+  refused = λ octets e type first. ap (words_of octets) (is_spelling.refused octets e first)
+      ∙ refused_words octets e type;
+  other = λ octets other. other_words octets (decoded octets) refl other;
+}
+
+-- ---- packets
+
+-- packets that stand one behind another need room
+takes_room : (head : CaptureHead) (file : List ℕ) (at : ℕ) (ps : List Packet) (to : ℕ) → StandFrom head file at ps to → at + 16 * length ps ≤ to
+takes_room head file at [] to s = omega (arith, s)
+takes_room head file at (p ∷ ps) to (i, s) = omega (arith, i.from, i.to, takes_room head file p.to ps to s)
+
+-- packets that stand one behind another have their lines
+packets_shown : (ps : List Packet) (n k : ℕ) (head : CaptureHead) (file : List ℕ) (at to : ℕ) → StandFrom head file at ps to
+    → packets_answer (length ps + n) k head file at ≡ behind (packet_lines k file ps)
+    (packets_answer n (k + length ps) head file to)
+packets_shown [] n k head file at to s =
+    let same : 0 + n ≡ n = omega arith in
+    let here : k + 0 ≡ k = omega arith in
+    rw (same, here, s) refl
+packets_shown (p ∷ ps) n k head file at to (i, s) =
+    let count : length (p ∷ ps) + n ≡ suc (length ps + n) = omega arith in
+    let behind_it : k + 1 + length ps ≡ k + length (p ∷ ps) = omega arith in
+    ap (λ m. packets_answer m k head file at) count
+    ∙ packets_next (length ps + n) k head file at
+    ∙ ap (λ r. found_answer k file r
+    (answer_behind (length ps + n) k head file)) (packet_stands head file at p i)
+    ∙ ap (with_line (packet_line k file p)) (packets_shown ps n (k + 1) head file p.to to s
+    ∙ ap (λ m. behind (packet_lines (k + 1) file ps) (packets_answer n m head file to)) behind_it)
+
+-- the answer for a file with a header, and packets up to a place
+shown_up_to : {file : List ℕ} {head : CaptureHead} (ps : List Packet) (at : ℕ)
+    (r : Result (Option Packet) CaptureRefusal) → IsFile file → IsHead file head
+    → StandFrom head file head_length ps at → at ≤ length file → packet_at head file at ≡ r
+    → capture_answer file ≡ behind (packet_lines 1 file ps)
+    (found_answer (1 + length ps) file r (answer_behind (length file - length ps - 1) (1 + length ps) head file))
+shown_up_to {file} {head} ps at r f h s within is =
+    let room = takes_room head file head_length ps at s in
+    let count : length file ≡ length ps + suc (length file - length ps - 1) = omega (arith, room, within) in
+    capture_answer-fits file f.short
+    ∙ ap (opened_answer file) ((finds_head.found file head f.octets).1 h)
+    ∙ ap (λ m. packets_answer m 1 head file head_length) count
+    ∙ packets_shown ps (suc (length file - length ps - 1)) 1 head file head_length at s
+    ∙ ap (behind (packet_lines 1 file ps)) (packets_next (length file - length ps - 1) (1 + length ps) head file at
+    ∙ ap (λ x. found_answer (1 + length ps) file x
+    (answer_behind (length file - length ps - 1) (1 + length ps) head file)) is)
+
+unopened : (file : List ℕ) (e : CaptureRefusal) → IsFile file → HasHeadFault file e → capture_answer file ≡ line_answer CaptureRefused (head_refusal_line e)
+unopened file e f h = capture_answer-fits file f.short
+    ∙ ap (opened_answer file) ((finds_head.refused file e f.octets).1 h)
+
+whole : (file : List ℕ) (head : CaptureHead) (ps : List Packet) → IsFile file → IsHead file head
+    → StandFrom head file head_length ps (length file) → capture_answer file ≡ whole_answer file ps
+whole file head ps f h s =
+    let within : length file ≤ length file = omega arith in
+    shown_up_to ps (length file) (Ok None) f h s within ((finds_packets.ended head file (length file) within).1 refl)
+    ∙ ap (λ (ls : List (List ℕ)). record { status = Done; lines = ls }) (append-nil (packet_lines 1 file ps))
+
+-- a fault stands within the file
+fault_within : (head : CaptureHead) (file : List ℕ) (at : ℕ) (e : CaptureRefusal) → HasPacketFault head file at e → at ≤ length file
+fault_within head file at (reasons.PacketLength n) (stamp, is, long) = omega (arith, stamp)
+fault_within head file at reasons.Cut (inl (more, short)) = omega (arith, more)
+fault_within head file at reasons.Cut (inr (small, stamp, short)) = omega (arith, stamp)
+fault_within head file at (reasons.Header n) h = absurd h
+fault_within head file at reasons.Magic h = absurd h
+fault_within head file at reasons.Version h = absurd h
+fault_within head file at reasons.LinkType h = absurd h
+
+refused : (file : List ℕ) (head : CaptureHead) (ps : List Packet) (at : ℕ) (e : CaptureRefusal) → IsFile file → IsHead file head
+    → StandFrom head file head_length ps at → HasPacketFault head file at e → capture_answer file ≡ refused_behind file ps e
+refused file head ps at e f h s bad =
+    let within = fault_within head file at e bad in
+    let number : 1 + length ps ≡ length ps + 1 = omega arith in
+    let line_behind : List Packet → List ℕ → Answer = λ qs line. record { status = CaptureRefused; lines = packet_lines 1 file qs ++ line ∷ [] } in
+    shown_up_to {file = file} {head = head} ps at (Err e) f h s within
+    ((finds_packets.refused head file at e within).1 bad)
+    ∙ ap (λ n. line_behind ps (packet_refusal_line n e)) number
+
+-- ---- each file is judged
+
+-- one more packet in front
+one_more : (head : CaptureHead) (file : List ℕ) (at : ℕ) (p : Packet) → IsPacket head file at p → HasPackets head file p.to → HasPackets head file at
+one_more head file at p i (ps, inl s) = (p ∷ ps, inl (i, s))
+one_more head file at p i (ps, inr (behind, e, s, bad)) = (p ∷ ps, inr (behind, e, (i, s), bad))
+
+packets_by : (turns : ℕ) (head : CaptureHead) (file : List ℕ) (at : ℕ) (r : Result (Option Packet) CaptureRefusal) → at ≤ length file
+    → length file < at + turns → packet_at head file at ≡ r → HasPackets head file at
+packets_by zero head file at r within few is = absurd (omega (arith, within, few))
+packets_by (suc n) head file at (Ok None) within few is = ([], inl ((finds_packets.ended head file at within).0 is))
+packets_by (suc n) head file at (Ok (Some p)) within few is =
+    let i = (finds_packets.found head file at p within).0 is in
+    let fewer : length file < p.to + n = omega (arith, i.from, i.to, few) in
+    one_more head file at p i (packets_by n head file p.to (packet_at head file p.to) i.whole fewer refl)
+packets_by (suc n) head file at (Err e) within few is = ([], inr (at, e, refl, (finds_packets.refused head file at e within).0 is))
+
+judged_by : {file : List ℕ} (r : Result CaptureHead CaptureRefusal) → IsFile file → opened file ≡ r → IsJudged file
+judged_by {file} (Ok head) f is =
+    let h = (finds_head.found file head f.octets).0 is in
+    let few : length file < head_length + length file = omega arith in
+    inr (head, h, packets_by (length file) head file head_length (packet_at head file head_length) h.size few refl)
+judged_by {file} (Err e) f is = inl (e, (finds_head.refused file e f.octets).0 is)
+
+pub shows_packets : ShowsPackets
+shows_packets =
+    record { each = λ file f. judged_by (opened file) f refl; unopened = unopened; whole = whole; refused = refused }

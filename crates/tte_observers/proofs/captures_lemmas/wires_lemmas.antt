@@ -5,5 +5,4 @@ pub mod Spelt
 pub mod Seen
 pub mod Given
 pub mod Along
-pub mod Safely
 pub mod Words

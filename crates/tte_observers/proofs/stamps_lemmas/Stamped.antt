@@ -2,13 +2,13 @@
 use Rattle.std.{proofs.Common.{Err, Ok, Result}, specs.Prelude.{IfErr, MatchResult}}
 use Rattle.drift_world.specs.Running.{behind_events}
 use Rattle.run_law.proofs.{runs.{NetworkRuns.run_is_one, Places.{in_left, in_right}}, scenario.Devices.within_front}
+use Rattle.tte_observers.proofs.stamps_lemmas.LineStamps
+use LineStamps.{AreUpToLast, MayFollow, admitted_follow, admitted_up_to_last, begun, hypothesis_up_to_last, last_grows}
+use LineStamps.{stamps_stay}
 use Rattle.tte_forms.{proofs.Puts.{PutFails-behind, PutsLines-append}, specs.Putting.PutFails}
 use Rattle.tte_io.specs.declared.ends.Sink.{Ghosts}
 use Rattle.tte_observers.{specs.stamps.Stamping.{PutsAll, PutsStamps, StopsStamps}}
 use Rattle.tte_observers.proofs.stamps_lemmas.{SameRecords.{IsUpTo, up_to_mark}}
-use Rattle.tte_observers.proofs.stamps_lemmas.{Staying.{AreUpToLast, MayFollow, stamps_stay}}
-use Rattle.tte_observers.proofs.stamps_lemmas.Ordered
-use Ordered.{admitted_follow, admitted_up_to_last, begun, hypothesis_up_to_last, last_grows}
 use Rattle.tte_observers.proofs.stamps_lemmas.Words
 use Words.{◌++◌, ◌+◌, ◌∙◌, ◌∷◌, ◌≡◌, ◌≤ℤ◌, ◌≤◌, Answer, AreAdmitted, AreFrom, AreRecordsBefore, AreRecordsSoFar, Event}
 use Words.{ExactWorld, IsIn, IsTraceAnswer, List, Network, None, Note, Option, PutsLines, PutsLines-none, Some, []}

@@ -1,8 +1,8 @@
 -- What `vote` puts are the votes in a run that goes well, in which two outvote the third.
 use Rattle.{drift_world.specs.Running.last_time, net_plan.specs.Ranges.IsInRange, tte_units.specs.Amount.amount}
-use Rattle.tte_observers.{proofs.votes_lemmas.{VoteLines.{outvoted, outvoted_before}, Words.{vote_lines, ℕ}}}
-use Rattle.tte_observers.{specs.votes.Safely.{IsNoVote, IsVotedRun, IsVotedToFault, TwoOutvote}}
+use Rattle.tte_observers.proofs.votes_lemmas.{VoteLines.{outvoted, outvoted_before}, Words.{vote_lines, ℕ}}
 use Rattle.tte_traces.proofs.Runs.{IsSafe, good_before, good_run, of_fault, of_whole, trace_safe}
+use Rattle.tte_observers.{specs.votes.Safely.{IsNoVote, IsVotedRun, IsVotedToFault, TwoOutvote}}
 use Rattle.tte_observers.proofs.votes_lemmas.Words.{Answer, IsVoteAnswer, List, MeansAccepted, Names, Network, [], append-nil, inl, inr, refl, subst, sym}
 
 -- an answer of `vote` for an accepted network is safe

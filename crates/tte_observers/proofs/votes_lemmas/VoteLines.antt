@@ -1,31 +1,360 @@
--- The lines of votes, one ballot after another, and what they tell of a sender that is outvoted.
-use Rattle.std.{specs.{Io.KnownBytes.Appends, Prelude.{OnErr, OnOk, option_and_then, option_map}}}
-use Rattle.std.proofs.{Common.{◌%◌, ◌*◌, ◌-◌, ◌/◌, Err, None, Ok, Result, append_assoc, cond, find, nat_lt, suc, zero}}
-use Rattle.std.proofs.{lemmas.{Bool.{cases_lt, false_from_ne_true, lt-ltb, ltb-true}, Option.slice_get_within}}
+-- The lines of votes along a run, and what they tell of a sender that is outvoted.
+use Rattle.std.{specs.{Io.KnownBytes.Appends, Prelude.{OnErr, OnOk, option_and_then, option_map, slice_get}}}
+use Rattle.std.proofs.Common
+use Common.{◌%◌, ◌*◌, ◌-◌, ◌/◌, ◌≢◌, Err, None, Ok, Result, append_assoc, cond, find, get_or, nat_lt, suc, zero}
+use Rattle.std.proofs.lemmas.{Bool.{cases_lt, false_from_ne_true, lt-ltb, ltb-true}, List.length-map}
+use Rattle.std.proofs.lemmas.{Option.{same_Some, slice_get_read, slice_get_within}}
 use Rattle.device_rules.specs.frames.traced.RecordOctets.{record_octets}
 use Rattle.drift_clock.specs.Segment.{fresh_segment, segment_reading, stepped_segment}
-use Rattle.net_plan.specs.{Belonging.device_name, Places.{device_at, is_end_system}, declared.tables.Device.Device}
+use Rattle.net_plan.{proofs.SameIds.same_vl}
+use Rattle.net_plan.specs.{Bearers.vl_names, Belonging.device_name, Places.{device_at, is_end_system}, Ranges.IsInRange}
+use Rattle.net_plan.specs.{declared.tables.Device.Device}
 use Rattle.precision_law.specs.traffic.safety.{Headline.IsEventOf, Under.scenario_of}
-use Rattle.run_law.{proofs.{records.Happenings.as_many, runs.{NetworkRuns.one_more, Places.{in_left, in_right}}}}
+use Rattle.run_law.{proofs.{records.Order.as_many, runs.{NetworkRuns.one_more, Places.{in_left, in_right}}}}
 use Rattle.run_law.specs.{law.Safety.{FramesAreDelivered, IsOwed}, records.{Happenings.happening, Order.IsIn}}
 use Rattle.run_law.specs.{scenario.Scenarios.Scenario}
-use Rattle.tte_forms.{proofs.Puts.{PutFails-behind, PutFails-more, PutsLines-append, PutsLines-fails, PutsLines-more}}
-use Rattle.tte_forms.{specs.Putting.PutFails}
+use Rattle.schedule_checker.specs.Refusals.{RefusalIsOne}
+use Rattle.trace_text.proofs.WordsBack.{place_found}
+use Rattle.tte_forms.{specs.{Answering.{ForOctets, line_answer}, Putting.PutFails, networks.Accepting.IsNetworkAnswer}}
+use Rattle.tte_forms.proofs.{frames.Frames.Gives-behind, networks.Answers.{accepted_alone, network_answer_one}}
+use Rattle.tte_forms.proofs.Puts
+use Puts.{PutFails-behind, PutFails-more, PutsLines-append, PutsLines-fails, PutsLines-more, answer_widened, one_given}
 use Rattle.tte_io.specs.{Faults.next_count, Told.AppendsFront, declared.ends.Sink.Ghosts}
 use Rattle.tte_observers.proofs.votes_lemmas.{law_lemmas.Outvoted.two_outvote_the_third}
 use Rattle.tte_observers.proofs.votes_lemmas.Words
-use Words.{if◌then◌else◌, ◌++◌, ◌+◌, ◌<◌, ◌^◌, ◌∙◌, ◌∷◌, ◌≡◌, ◌≤◌, Bool, DeviceId, Event, Happening, List, Network}
-use Words.{Note, Option, PutsLines, PutsLines-none, Shown, Some, VirtualLink, VlId, Voters, Votes, [], ap, append-nil}
-use Words.{arith, ballot_of, false, happenings, inl, inr, key_of, length, lines_at, refl, shown_by, subst, sym, true}
-use Words.{vote_lines, voted, ℕ}
-use Rattle.tte_observers.specs.{declared.votes.ballots.votes.KeptVotes.KeptVotes}
-use Rattle.tte_observers.specs.votes.{Putting.PutsAll, Safely.TwoOutvote}
+use Words.{if◌then◌else◌, ◌++◌, ◌+◌, ◌<◌, ◌^◌, ◌∙◌, ◌∷◌, ◌≡◌, ◌≤◌, ◌⊎◌, Answer, AreNamed, Bool, DeviceId, Done, Event}
+use Words.{Gives, GivesAnswer, GivesOne, Happening, IsTraceAnswer, IsVoteAnswer, List, MayThey, MeansAccepted}
+use Words.{NameRefused, Names, Network, Note, Option, PutsLines, PutsLines-none, ReadFault, Shown, Some, Status}
+use Words.{VirtualLink, VlId, VoteRefused, Voters, Votes, VotesEnd, WriteFault, [], ap, append-nil, arith, ballot_of}
+use Words.{false, fault_lines, fault_status, for_all, for_more, happenings, inl, inr, key_of, length, lines_at}
+use Words.{no_lines, refl, shown_by, subst, sym, true, vote_lines, voted, ℕ}
+use Rattle.tte_observers.specs.{declared.votes.{ballots.votes.KeptVotes.KeptVotes, voter.Voter.Voter}}
+use Rattle.tte_observers.specs.votes.{Ending.VoteEnds, Putting.PutsAll, Safely.TwoOutvote}
+use Rattle.tte_observers.specs.votes.{Streaming.{IsOfRun, VoteStops, VoteTakesLittle}}
 use Rattle.tte_observers.specs.votes.{VoteLines.{ballot_lines, is_cast, lines_before, lines_by_first, vote_line}}
-use Rattle.tte_observers.specs.votes.{ballots.Keeping.{AreOpenFrom, IsNext}, tmr.Vote.no_votes}
+use Rattle.tte_observers.specs.votes.{Voting.{SeesVotes, StopsVotes}, ballots.Keeping.{AreOpenFrom, IsNext}}
+use Rattle.tte_observers.specs.votes.{tmr.Vote.no_votes}
+use Rattle.tte_observers.specs.votes.Answer.{IsFirstUnknown, IsNamed, IsUnknown, IsVoteRefusal, IsVoteStatus, IsVoting}
+use Rattle.tte_observers.specs.votes.Answer.{name_line}
 use Rattle.tte_observers.specs.votes.law.{Ballots.{is_delivery, payload_in, payload_taken}}
-use Rattle.tte_observers.specs.votes.law.{Outvoting.{AreTwoOwed, sent_payload}}
+use Rattle.tte_observers.specs.votes.law.{Outvoting.{AreTwoOwed, sent_payload}, Voting.are_matches}
+use Rattle.tte_traces.proofs.{Answers.{IsFaultBehind, faulty_answer, faulty_is, trace_answer_one, whole_is}}
+use Rattle.tte_traces.proofs.{Given.all_done, Runs.trace_answers_exist}
+use Rattle.tte_traces.proofs.Ends.{done_no_read, fault_no_read, for_stopped, little_at, little_so_far, puts_shown}
+use Rattle.tte_traces.proofs.Ends.{trace_ended, trace_given, trace_stopped, writes_answer}
+use Rattle.tte_traces.specs.{Along.{IsAllAdmitted, PutsAlong}, Answer.IsRunStatus}
+use Rattle.tte_traces.specs.{Lines.{AreAdmitted, IsFault, behind_lines}, Report.{StopsLines, shown_as}, Taking.IsStopAt}
+use Rattle.tte_traces.specs.{declared.{fault.{TraceFault.TraceFault, TraceStop.TraceStop}, lines.Trace.Trace}}
 use Rattle.tte_units.proofs.general_lemmas.Options.{opened}
-use Rattle.world_drive.specs.exact.Worlds.{ExactWorld, StandsExact}
+use Rattle.world_drive.specs.{Driving.{DrivesAll, DrivesSoFar}, Observing.{Sees, Stops, Told, told_by}}
+use Rattle.world_drive.specs.{declared.observing.Cut.Cut}
+use Rattle.world_drive.specs.{exact.{Records.{AreAllRecords, AreRecordsSoFar}, Worlds.{ExactWorld, StandsExact}}}
+use Rattle.tte_io.specs.declared.ends.Sink as sinks
+use Rattle.tte_io.specs.declared.ends.Source as sources
+use Rattle.tte_traces.specs.declared.fault.TraceStop.TheVariants as ends
+use Rattle.world_drive.specs.declared.observing.Cut.TheVariants as cuts
+
+-- ---- the observer of `vote` puts nothing along the run, and the votes at its end
+
+-- ---- the observer of `vote` puts nothing along the run
+
+-- what it sees
+abbrev pub vote_sees : Sees Voter
+vote_sees network events notes instant old put it = SeesVotes network notes old put it
+
+abbrev pub vote_stops : Stops Voter
+vote_stops network events notes cut old put = StopsVotes old put
+
+-- the answers that it is for
+abbrev pub IsOwn : Voter → List ℕ → Network → Answer → Type 0
+IsOwn begun octets network a = IsTraceAnswer (vote_lines begun.votes.voters) octets network a
+
+none_along : (old put : Told) → put ≡ old → PutsLines [] (shown_as old) (shown_as put)
+none_along old put same = subst (λ t. PutsLines [] (shown_as old) (shown_as t)) (sym same) (PutsLines-none (shown_as old))
+
+none_stops : (cut : Cut) (old put : Told) → put ≡ old → StopsLines [] cut old put
+none_stops cuts.WriteFault old put same = inr (none_along old put same)
+none_stops cuts.OutOfMemory old put same = none_along old put same
+
+pub votes_along : (begun : Voter) → PutsAlong begun vote_sees vote_stops no_lines (IsOwn begun)
+votes_along begun = record {
+  at_first = λ network. refl;
+  so_far = λ network events notes old put o run seen. none_along old put seen.nothing;
+  all = λ network octets events notes old put o admitted run seen. none_along old put seen.nothing;
+  front = λ network octets events notes admitted run a is. (a.lines, refl);
+  short = λ network octets events next befallen notes cut old put at stops. ([], none_stops cut old put stops, λ a is. (a.lines, refl));
+}
+
+-- ---- how `vote` ends, where the drive came to its end or to a fault: the votes are put, and all is passed on
+
+-- ---- the answer that was given
+
+module _ (voters : Voters) (network : Network) (octets : List ℕ) (events : List Event) (notes : List Note) (status : Status) (old new : Shown) where
+  pub whole_given : IsAllAdmitted network octets events → AreAllRecords network events notes
+      → Gives (record { status = Done; lines = vote_lines voters network events notes }) status old new
+      → GivesOne (IsTraceAnswer (vote_lines voters) octets network) status old new
+  whole_given all records g =
+      let answer : Answer = record { status = Done; lines = vote_lines voters network events notes } in
+      let is : IsTraceAnswer (vote_lines voters) octets network answer = record {
+        events = events;
+        admitted = all.admitted;
+        is = inl (record { ended = all.ended; none_left = all.none_left; notes = notes; records = records; answer = refl });
+      } in
+      one_given (IsTraceAnswer (vote_lines voters) octets network) answer status old new is
+      (λ b i. whole_is (vote_lines voters) network octets events notes b all records i) g
+
+  pub fault_given : (fault : TraceFault) → IsFaultBehind network octets events fault → AreRecordsSoFar network events notes
+      → Gives (faulty_answer (vote_lines voters) network events notes fault) status old new
+      → GivesOne (IsTraceAnswer (vote_lines voters) octets network) status old new
+  fault_given fault b records g =
+      let answer = faulty_answer (vote_lines voters) network events notes fault in
+      let is : IsTraceAnswer (vote_lines voters) octets network answer = record {
+        events = events;
+        admitted = b.admitted;
+        is = inr (record { fault = fault; is = b.is; notes = notes; records = records; answer = refl });
+      } in
+      one_given (IsTraceAnswer (vote_lines voters) octets network) answer status old new is
+      (λ a i. faulty_is (vote_lines voters) network octets events notes fault a b records i) g
+
+-- ---- behind a drive by which nothing was put
+
+module _ {B K : Type 0} (source : sources.Ghosts B) (sink : sinks.Ghosts K) (begun : Voter) (network : Network) (first : B) (origin : Trace) (now : B)
+    (trace : Trace) (old put : K) where
+  -- what was put behind it is all that was put
+  all_of : (a : Answer) (status : Status) (new : K) → told_by sink put ≡ told_by sink old → Gives a status (shown_by sink put) (shown_by sink new)
+      → Gives a status (shown_by sink old) (shown_by sink new)
+  all_of a status new same g =
+      let none : PutsLines [] (shown_as (told_by sink old)) (shown_as (told_by sink put)) =
+      subst (λ t. PutsLines [] (shown_as (told_by sink old)) (shown_as t)) (sym same) (PutsLines-none (shown_as (told_by sink old))) in
+      Gives-behind a status (puts_shown sink [] old put none) g
+
+  abbrev Ends : Status → K → Type 0
+  Ends status new = VotesEnd begun.votes.voters network (source.left first) (source.left now) status (shown_by sink old) (shown_by sink new)
+
+  -- all events befell
+  pub ends_all : {X : Type 0} (world : ExactWorld) (it : Voter) (status : Status) (new : K)
+      → (d : DrivesAll sink (trace_ended source) vote_sees network first origin now trace world begun it old put)
+      → Gives (record { status = Done; lines = vote_lines begun.votes.voters network [] d.notes }) status (shown_by sink put) (shown_by sink new)
+      → (status ≡ Done) ⊎ ((status ≡ WriteFault) × X) → Ends status new
+  ends_all world it status new d g which =
+      let a : Answer = record { status = Done; lines = vote_lines begun.votes.voters network d.events d.notes } in
+      record {
+        general =
+            for_more (source.left first) (λ octets. AreAdmitted network octets d.events × (behind_lines (length d.events) octets ≡ []))
+            (λ octets. GivesOne (IsTraceAnswer (vote_lines begun.votes.voters) octets network) status (shown_by sink old) (shown_by sink new))
+            (λ octets e.
+            whole_given begun.votes.voters network octets d.events d.notes status (shown_by sink old) (shown_by sink new)
+            (record { admitted = e.0; ended = d.have_ended; none_left = e.1 }) d.records (all_of a status new d.sees.nothing g)) d.ended.some;
+        cut = λ is. absurd (done_no_read status which is);
+        little =
+            little_so_far source sink begun vote_sees vote_stops no_lines (IsOwn begun) (votes_along begun) network first origin now trace old put d.events
+            (shown_by sink new) (λ octets told. let e = d.ended.all octets told in (e.0, e.1, e.2)) d.ended.few d.so_far
+            (writes_answer a status g);
+      }
+
+  -- the trace has a fault
+  pub ends_fault : {X : Type 0} (it : Voter) (stop : TraceStop) (fault : TraceFault) (line : ℕ) (status : Status) (new : K)
+      → (d : DrivesSoFar sink (trace_stopped source sink) vote_sees network first origin stop now trace begun it old put) → stop ≡ ends.Fault fault
+      → line ≡ trace.lines + 1
+      → Gives (record { status = fault_status fault; lines = vote_lines begun.votes.voters network [] d.notes ++ fault_lines line fault }) status
+      (shown_by sink put) (shown_by sink new) → (status ≡ fault_status fault) ⊎ ((status ≡ WriteFault) × X) → Ends status new
+  ends_fault it stop fault line status new d is number g which =
+      let count : line ≡ length d.events + 1 = number ∙ ap (λ n. n + 1) d.stopped.lines in
+      let a = faulty_answer (vote_lines begun.votes.voters) network d.events d.notes fault in
+      let gives : Gives a status (shown_by sink put) (shown_by sink new) =
+      subst (λ (n : ℕ). Gives (record { status = fault_status fault; lines = vote_lines begun.votes.voters network [] d.notes ++ fault_lines n fault }) status
+      (shown_by sink put) (shown_by sink new)) count g in
+      record {
+        general =
+            for_stopped source sink begun vote_sees vote_stops no_lines (IsOwn begun) (votes_along begun) network first origin now trace old put it stop d
+            (λ octets. GivesOne (IsTraceAnswer (vote_lines begun.votes.voters) octets network) status (shown_by sink old) (shown_by sink new))
+            (λ octets admitted at.
+            let behind : IsFault network d.events (behind_lines (length d.events) octets) fault =
+            subst (IsStopAt network d.events (behind_lines (length d.events) octets)) is at in
+            fault_given begun.votes.voters network octets d.events d.notes status (shown_by sink old) (shown_by sink new) fault
+            (record { admitted = admitted; is = behind }) d.so_far (all_of a status new d.sees.nothing gives));
+        cut = λ read. absurd (fault_no_read fault status which read);
+        little =
+            little_at source sink begun vote_sees vote_stops no_lines (IsOwn begun) (votes_along begun) network first origin now trace old put it stop d
+            (shown_by sink new) (writes_answer a status gives);
+      }
+
+-- ---- the answer of `vote` is one, and valid input is answered to its end
+
+-- ---- the names
+
+named_one : (network : Network) {name : List ℕ} (vl other : VlId) → IsNamed network name vl
+    → IsNamed network name other → vl ≡ other
+named_one network {name} vl other p q =
+    let here = place_found (vl_names network.vl) name vl.0 p in
+    let there = place_found (vl_names network.vl) name other.0 q in
+    let same : vl.0 ≡ other.0 = cc in same_vl vl other same
+
+-- a word names one virtual link, or none
+not_both : (network : Network) {name : List ℕ} (vl : VlId) → IsNamed network name vl → IsUnknown network name → ⊥
+not_both network vl named none = none vl.0 named.bears
+
+abbrev the_voters : VlId → VlId → VlId → Voters
+the_voters a b c = record { first = a; second = b; third = c }
+
+module _ (network : Network) (names : Names) where
+  voters_one : {voters other : Voters} → AreNamed network names voters → AreNamed network names other → voters ≡ other
+  voters_one {voters} {other} p q =
+      ap (λ v. the_voters v voters.second voters.third)
+      (named_one network voters.first other.first p.first q.first)
+      ∙ ap (λ v. the_voters other.first v voters.third)
+      (named_one network voters.second other.second p.second q.second)
+      ∙ ap (λ v. the_voters other.first other.second v)
+      (named_one network voters.third other.third p.third q.third)
+
+  -- where all words name virtual links, none is unknown
+  all_known : {voters : Voters} (place : ℕ) → AreNamed network names voters → IsFirstUnknown network names place → ⊥
+  all_known {voters} place named (inl (is, none)) = not_both network voters.first named.first none
+  all_known {voters} place named (inr (inl (vl, is, one, none))) = not_both network voters.second named.second none
+  all_known {voters} place named (inr (inr (vl, other, is, one, two, none))) =
+      not_both network voters.third named.third none
+
+  -- the first unknown word stands at one place
+  unknown_one : (place other : ℕ) → IsFirstUnknown network names place → IsFirstUnknown network names other
+      → place ≡ other
+  unknown_one place other (inl p) (inl q) = p.0 ∙ sym q.0
+  unknown_one place other (inl p) (inr (inl q)) = absurd (not_both network q.0 q.2 p.1)
+  unknown_one place other (inl p) (inr (inr q)) = absurd (not_both network q.0 q.3 p.1)
+  unknown_one place other (inr (inl p)) (inl q) = absurd (not_both network p.0 p.2 q.1)
+  unknown_one place other (inr (inl p)) (inr (inl q)) = p.1 ∙ sym q.1
+  unknown_one place other (inr (inl p)) (inr (inr q)) = absurd (not_both network q.1 q.4 p.3)
+  unknown_one place other (inr (inr p)) (inl q) = absurd (not_both network p.0 p.3 q.1)
+  unknown_one place other (inr (inr p)) (inr (inl q)) = absurd (not_both network p.1 p.4 q.3)
+  unknown_one place other (inr (inr p)) (inr (inr q)) = p.2 ∙ sym q.2
+
+-- ---- the virtual links
+
+same_link : (network : Network) (vl : VlId) (a b : VirtualLink) → slice_get network.vl vl.0 ≡ Some a → slice_get network.vl vl.0 ≡ Some b → a ≡ b
+same_link network vl a b p q = same_Some a b (sym p ∙ q)
+
+-- they may vote, or they may not
+may_one : {network : Network} {voters : Voters} {may other : Bool} → MayThey network voters may
+    → MayThey network voters other → may ≡ other
+may_one {network} {voters} (a, b, c, p) (d, e, f, q) =
+    sym p.told
+    ∙ ap (λ x. are_matches x b c) (same_link network voters.first a d p.first q.first)
+    ∙ ap (λ x. are_matches d x c) (same_link network voters.second b e p.second q.second)
+    ∙ ap (λ x. are_matches d e x) (same_link network voters.third c f p.third q.third)
+    ∙ q.told
+
+module _ (network : Network) (names : Names) where
+  not_may : {voters other : Voters} → AreNamed network names voters → AreNamed network names other
+      → MayThey network voters true → MayThey network other false → ⊥
+  not_may p q may not =
+      let same = voters_one network names q p in
+      let no : true ≡ false = may_one may (subst (λ v. MayThey network v false) same not) in absurd cc
+
+  -- ---- the answer
+
+  refusal_one : (a b : Answer) → IsVoteRefusal names network a → IsVoteRefusal names network b → a ≡ b
+  refusal_one a b (inl p) (inl q) =
+      p.2 ∙ ap (λ n. line_answer NameRefused (name_line n)) (unknown_one network names p.0 q.0 p.1 q.1) ∙ sym q.2
+  refusal_one a b (inl p) (inr q) = absurd (all_known network names p.0 q.1 p.1)
+  refusal_one a b (inr p) (inl q) = absurd (all_known network names q.0 p.1 q.1)
+  refusal_one a b (inr p) (inr q) = p.3 ∙ sym q.3
+
+  -- where they vote there is no refusal
+  no_refusal : {voters : Voters} (a : Answer) → AreNamed network names voters → MayThey network voters true
+      → IsVoteRefusal names network a → ⊥
+  no_refusal a named may (inl p) = all_known network names p.0 named p.1
+  no_refusal a named may (inr p) = not_may named p.1 may p.2
+
+  voting_alone : {trace : List ℕ} {voters : Voters} {a : Answer} → AreNamed network names voters
+      → IsVoting names trace network a → IsTraceAnswer (vote_lines voters) trace network a
+  voting_alone {trace} {a} named p =
+      subst (λ v. IsTraceAnswer (vote_lines v) trace network a) (voters_one network names p.1 named) p.3
+
+vote_answer_one : (names : Names) (trace : List ℕ) (network : Network) (a b : Answer) → IsVoteAnswer names trace network a
+    → IsVoteAnswer names trace network b → a ≡ b
+vote_answer_one names trace network a b (inl p) (inl q) = refusal_one network names a b p q
+vote_answer_one names trace network a b (inl p) (inr q) = absurd (no_refusal network names a q.1 q.2 p)
+vote_answer_one names trace network a b (inr p) (inl q) = absurd (no_refusal network names b p.1 p.2 q)
+vote_answer_one names trace network a b (inr p) (inr q) =
+    trace_answer_one (vote_lines p.0) network trace a b p.3 (voting_alone network names p.1 q)
+
+-- the octets of a network file and of a trace have one answer
+pub vote_one : RefusalIsOne → (names : Names) {octets : List ℕ} (trace : List ℕ) (a b : Answer)
+    → IsNetworkAnswer (IsVoteAnswer names trace) octets a → IsNetworkAnswer (IsVoteAnswer names trace) octets b
+    → a ≡ b
+vote_one one names {octets} trace a b p q =
+    network_answer_one one (IsVoteAnswer names trace) octets (λ network accepted. vote_answer_one names trace network) a b p q
+
+done_of : {names : Names} {trace : List ℕ} {network : Network} {events : List Event} {voters : Voters} {a : Answer}
+    → AreNamed network names voters → MayThey network voters true → IsAllAdmitted network trace events
+    → IsVoteAnswer names trace network a → a.status ≡ Done
+done_of {names} {network} {a} named may all (inl p) = absurd (no_refusal network names a named may p)
+done_of {names} {trace} {network} {events} {voters} {a} named may all (inr p) =
+    all_done (vote_lines voters) trace network events a all (voting_alone network names named p)
+
+-- an accepted network under a trace that is admitted to its end is voted to its end, where the words name virtual links
+-- that may vote
+pub vote_done : {names : Names} {octets trace : List ℕ} {network : Network} {events : List Event} {voters : Voters}
+    → MeansAccepted octets network → AreNamed network names voters → MayThey network voters true
+    → IsAllAdmitted network trace events → (a : Answer) → IsNetworkAnswer (IsVoteAnswer names trace) octets a
+    → a.status ≡ Done
+vote_done {names} {octets} {trace} {network} m named may all a is =
+    done_of named may all (accepted_alone (IsVoteAnswer names trace) octets network m a is)
+
+-- ---- how `vote` ends
+
+-- a virtual link that is read is the network's
+pub vl_read : (xs ys : List VirtualLink) (i : ℕ) (x : VirtualLink) → xs ≡ ys → i < length ys → x ≡ get_or xs i x → slice_get ys i ≡ Some x
+vl_read xs ys i x same less at = slice_get_read ys (length ys) i x refl less (at ∙ ap (λ (zs : List VirtualLink). get_or zs i x) same)
+
+-- a virtual link that is named is one of the network's
+pub named_there : (network : Network) {name : List ℕ} (vl : VlId) → IsNamed network name vl → vl.0 < length network.vl
+named_there network {name} vl named =
+    let within = slice_get_within (vl_names network.vl) vl.0 name named.bears in
+    let many = length-map network.vl (λ (v : VirtualLink). v.name) in omega (arith, within, many)
+
+module _ (names : Names) (network : Network) {Unread : Type 0} (second left : Option (List ℕ)) (status : Status) (old new : Shown) where
+  -- an answer was given
+  pub general_of : IsInRange network → VoteEnds names network Unread second left status old new
+      → ForOctets second (λ trace. GivesAnswer (IsVoteAnswer names trace network) status old new)
+  general_of range (inl (a, is, given, not, unread)) =
+      for_all second (λ trace. GivesAnswer (IsVoteAnswer names trace network) status old new) (λ trace. inl (a, inl is, given))
+  general_of range (inr (voters, named, may, ends, of)) =
+      for_more second (λ trace. GivesAnswer (IsTraceAnswer (vote_lines voters) trace network) status old new)
+      (λ trace. GivesAnswer (IsVoteAnswer names trace network) status old new)
+      (λ trace h. answer_widened (IsTraceAnswer (vote_lines voters) trace network) (IsVoteAnswer names trace network) status old new
+      (λ a is. inr (voters, named, may, is)) h)
+      (trace_given (λ trace. IsTraceAnswer (vote_lines voters) trace network) second status old new
+      (λ trace. trace_answers_exist (vote_lines voters) network trace range) ends.general)
+
+  -- where a read failed, nothing was put
+  pub stops_of : (first : Option (List ℕ)) → ForOctets first (λ octets. MeansAccepted octets network) → status ≡ ReadFault
+      → VoteEnds names network Unread second left status old new → VoteStops first second left old new
+  stops_of first means is (inl (a, refused, given, not, unread)) = absurd (not is)
+  stops_of first means is (inr (voters, named, may, ends, of)) = let cut = ends.cut is in (cut.0, (network, means, cut.1))
+
+  -- little was taken of the trace, or it is unread
+  pub little_of : (first : Option (List ℕ)) → ForOctets first (λ octets. MeansAccepted octets network)
+      → VoteEnds names network Unread second left status old new → Unread ⊎ (IsOfRun status × VoteTakesLittle first second left old new)
+  little_of first means (inl (a, refused, given, not, unread)) = inl unread
+  little_of first means (inr (voters, named, may, ends, of)) = inr (of, (network, means, ends.little))
+
+-- ---- the statuses
+
+pub vote_status : (status : Status) → IsRunStatus status → IsVoteStatus status
+vote_status NameRefused is = tt
+vote_status VoteRefused is = tt
+vote_status other is = is
+
+pub of_run : (status : Status) → IsRunStatus status → IsOfRun status
+of_run status is = (λ same. subst IsRunStatus same is, λ same. subst IsRunStatus same is)
+
+-- a refusal is no failed read
+pub not_read : {PutFails : Type 0} (wanted status : Status) → (wanted ≡ ReadFault → ⊥) → (status ≡ wanted) ⊎ ((status ≡ WriteFault) × PutFails)
+    → status ≢ ReadFault
+not_read wanted status not (inl is) read = not (sym is ∙ read)
+not_read wanted status not (inr w) read = let is = w.0 in cc
+
+-- ---- the lines of votes, one ballot after another, and what they tell of a sender that is outvoted
 
 -- ---- the lines of votes by the places of their ballots
 

@@ -9,9 +9,10 @@ use Rattle.std.proofs.lemmas.List.{Elements.{All-append, All-cons, All-nil, All-
 use Rattle.std.proofs.lemmas.List.{append-nil, get_or_past}
 use Rattle.std.specs.{Int.{byte_at, bytes_high_first}, List.All}
 use Rattle.std.specs.{Prelude.{IfSome, IsSomeAnd, MatchOption, is_some, slice_index}}
-use Rattle.fault_hypothesis.proofs.storm_lemmas.{Ends.end_is_behind}
-use Rattle.fault_hypothesis.proofs.storm_lemmas.Masters
-use Masters.{IsLastBelow, last_of_all, master_found, master_uplink, next_master, next_other, some_link, some_master}
+use Rattle.fault_hypothesis.proofs.storm_lemmas.OneStorm
+use OneStorm.{IsLastBelow, end_is_behind, last_of_all, master_found, master_uplink, next_master, next_other, some_link}
+use OneStorm.{some_master}
+use Rattle.tte_traces.proofs.{Runs.all_records, Taken.holds_a_time, storms_lemmas.Summed.greatest_spread}
 use Rattle.fault_hypothesis.proofs.storm_lemmas.Storms
 use Storms.{broken_is_master, more_events, no_events, none_later, one_more, storms_within, time_in_run}
 use Rattle.fault_hypothesis.specs.{Watching.Watches}
@@ -33,7 +34,6 @@ use Rattle.run_law.specs.{scenario.{Faults.{Breaks, IsBroken}, Hypothesis.{AreWi
 use Rattle.schedule_tables.specs.Rules.{KeepsRules}
 use Rattle.trace_text.specs.Ranges.{IsEventInRange}
 use Rattle.tte_forms.specs.declared.status.Status.TheVariants.{Done}
-use Rattle.tte_traces.{proofs.{Runs.all_records, Taken.holds_a_time, storms_lemmas.Summed.greatest_spread}}
 use Rattle.tte_traces.specs.{declared.storms.{counting.Seen.Seen, events.StormEvents.StormEvents}}
 use Rattle.tte_traces.specs.storms.{Answer.exact_scenario, Counts.IsSeen, Laws.{FitsFrames, StormAnswersExist}}
 use Rattle.tte_traces.specs.storms.{Storms.{GivesStorm, HasStormed, IsStormTo, left_of}}

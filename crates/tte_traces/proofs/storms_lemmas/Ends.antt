@@ -1,5 +1,5 @@
 -- When a storm ends.
-use Rattle.fault_hypothesis.{proofs.storm_lemmas.{Ends.end_is_behind, Storms.storm_time}}
+use Rattle.fault_hypothesis.proofs.storm_lemmas.{OneStorm.end_is_behind, Storms.storm_time}
 use Rattle.fault_hypothesis.{specs.storm.Events.{AreStormEvents, time_of}}
 use Rattle.{net_plan.specs.declared.{event.{Event.Event, What.TheVariants.End}, network.Network.Network}, std.proofs.Common.{◌*◌, ◌∙◌, ◌≡◌, List, ap, refl, ℕ}}
 use Rattle.{run_law.specs.runs.DueRecords.EndsAt, tte_units.specs.declared.units.Units.Units, world_drive.proofs.exact_lemmas.Events.parted}

@@ -9,10 +9,10 @@ use Rattle.drift_clock.{proofs.ExactSegments.{exact_begins, exact_laws, exact_st
 use Rattle.drift_clock.{specs.Segment.{fresh_segment, segment_count, segment_reading, stepped_segment}}
 use Rattle.drift_world.proofs.Agreements.{reads_same}
 use Rattle.fault_hypothesis.{proofs.storm_lemmas.{OneStorm.one_storm, Storms.storms_within}, specs.storm.Events.IsStorm}
+use Rattle.precision_law.proofs.traffic_lemmas.existence_lemmas.decisions.Places.{is_synchronised}
 use Rattle.net_plan.specs.{Belonging.HasDevice, Ranges.IsInRange}
 use Rattle.net_plan.specs.{declared.{event.Event.Event, ids.DeviceId.DeviceId, network.Network.Network}}
 use Rattle.precision_law.{specs.traffic.safety.{Headline.IsWholeRun, Under.IsUnder}}
-use Rattle.precision_law.proofs.traffic_lemmas.{existence_lemmas.decisions.Places.is_synchronised}
 use Rattle.precision_law.proofs.traffic_lemmas.{safety_lemmas.Lawful.ended}
 use Rattle.run_law.proofs.{runs.{NetworkRuns.{one_more, run_is_one}, Places.{in_left, in_parts, in_right}}}
 use Rattle.run_law.proofs.{scenario.Decisions.{IsDecided, decided_and, decided_by, decided_false}}

@@ -6,7 +6,7 @@ use Rattle.run_law.specs.control.{Hearing.{heard_by_schedule, heard_enough, is_i
 use Rattle.run_law.specs.control.{Permanence.ripe_as}
 use Rattle.run_law.specs.machines.{Answers.{with_clique, with_corrected, with_done}}
 use Rattle.run_law.specs.machines.{Tasks.{IsDeedOf, IsUndone, IsWaiting}}
-use Rattle.sync_state.{proofs.StateFacts.{no_longer, no_point}}
+use Rattle.sync_state.proofs.VerdictLemmas.{no_longer, no_point}
 use Rattle.sync_state.{specs.{Calls.state_by, declared.plan.SyncPlan.SyncPlan, membership.Members.count_of}}
 use Rattle.tte_units.{proofs.general_lemmas.Integers.{int_le-from, int_le-is, int_lt-is}}
 use Rattle.tte_units.{specs.declared.frames.members.Members.Members}

@@ -1,16 +1,40 @@
--- What a device at the present instant has not done of what is due, it has still to do.
-use Rattle.std.proofs.Common.{◌<◌, Contains, negsuc, true}
-use Rattle.std.proofs.lemmas.{Bool.cases_eq, List.Elements.{Contains-append_left, Contains-push, Contains-push_cases}}
+-- What devices have still to do at an instant, and that none of it is before what a world has under way.
+use Rattle.std.proofs.{Common.{◌<◌, Contains, negsuc, true}}
+use Rattle.std.proofs.{lemmas.{Bool.cases_eq, List.Elements.{Contains-append_left, Contains-push, Contains-push_cases}}}
+use Rattle.net_plan.specs.declared.tables.Role.{Role}
+use Rattle.run_law.{proofs.law.FirstDeliveries.numbered_front}
+use Rattle.run_law.specs.{control.Corrections.standing_before, declared.judgement.Why.TheVariants.On}
+use Rattle.run_law.specs.{scenario.Devices.{has_role, start_of}}
+use Rattle.sync_state.specs.Standing.{state_at_start}
 use Rattle.tte_units.proofs.general_lemmas.Lists.{none_in}
-use Rattle.world_law.proofs.{acts.Acting.point_number, devices.Borne.by_last}
-use Rattle.world_law.proofs.{rows.{AtHand.{has_frame, value_is}, Dispatching.IsLawful}}
-use Rattle.world_law.proofs.{runs.Worlds.{dispatches_same, reaches_back, up_back}}
-use Rattle.world_law.proofs.Words.{◌-ℤ◌, ◌<ℤ◌, ◌∙◌, ◌∷◌, ◌≡◌, ◌≤ℤ◌, ◌≤◌, ◌⊎◌, ClockTask, Compressed, DeviceId, Dispatches, Emits, HadComeTo}
-use Rattle.world_law.proofs.Words.{Happening, HasDoneTask, IsActing, IsAtCorrection, IsIn, IsLeft, IsPending, Judgement, LinkId, List, Node, Reaches}
-use Rattle.world_law.proofs.Words.{RowId, Scenario, Sends, Some, Task, VlId, [], adjustment_before, ap, arith, changed_at, correcting}
-use Rattle.world_law.proofs.Words.{dispatching, doing, earlier, emitting, false, frames_taken, inl, inr, ints, is_broken, is_timed, never_both, next_point}
-use Rattle.world_law.proofs.Words.{plan_of, points_of, pos, reading_for, sending, state_before, sym, time_of, value_of, ℕ, ℤ}
-use Rattle.run_law.specs.control.Corrections.{standing_before}
+use Rattle.world_law.{specs.world.Moves.{NothingBefore, NothingComesBefore}}
+use Rattle.world_law.proofs.{acts.Acting.{IsUnmoved, point_number}, giving.GivenParts.no_later_breaks}
+use Rattle.world_law.proofs.{lists.{Lists.{behind_no, map_none}, Orders.cases_int}}
+use Rattle.world_law.proofs.{rows.{AtHand.{has_frame, value_is}, Dispatching.{IsLawful, dispatching_task, lawful}}}
+use Rattle.world_law.proofs.Words
+use Words.{if◌then◌else◌, ◌++◌, ◌+◌, ◌-ℤ◌, ◌<ℤ◌, ◌∙◌, ◌∷◌, ◌≡◌, ◌≤ℤ◌, ◌≤◌, ◌⊎◌, AreOfNetwork, Bool, ClockTask}
+use Words.{Compressed, Device, DeviceId, Dispatches, Emits, HadComeTo, Happening, HasDoneTask, HaveBefallen}
+use Words.{Integrating, IsActing, IsAtCorrection, IsBefore, IsDue, IsFounded, IsHeld, IsIn, IsKept, IsLeft, IsPending}
+use Words.{IsSendLost, Judgement, LinkId, List, Network, Node, None, Note, NoteBody, Off, Reaches, RowId, Scenario}
+use Words.{Sends, Some, Stands, State, Task, VlId, World, [], act_place, adjustment_before, after_last, ap, append-nil}
+use Words.{append_assoc, arith, before_later, by_number, cases_Bool, cases_lt, chain, changed_at, correcting, device_at}
+use Words.{dispatch_body, dispatching, doing, earlier, emitting, ends_stretch, false, filter, filter_map, frames_taken}
+use Words.{happenings, in_filter, in_left, in_parts, in_right, inl, inr, ints, is_accepted, is_at_source, is_broken}
+use Words.{is_cut, is_timed, is_turning, last_in, length, moves, nat_lt, never_both, next_cycle, next_point, numbered}
+use Words.{option_map_or, place_of, plan_of, point_by, point_in, points_of, pos, rank, reading_for, refl, sending}
+use Words.{slice_get_within, state_after, state_before, state_with, subst, sym, task_place, time_of, value_of, way_from}
+use Words.{ℕ, ℤ}
+use Rattle.world_law.proofs.devices.{Standing.{IsPast, IsQuiet, IsWorked, are_past, at_rest, by_last, quiet_rest}}
+use Rattle.world_law.proofs.devices.{Unmoved.keeps_state, Working.came_sooner}
+use Rattle.world_law.proofs.runs.{Agreement.in_earlier}
+use Rattle.world_law.proofs.runs.{Foremost.{NoActBefore, acting_task, none_but_acts, not_on_after}}
+use Rattle.world_law.proofs.runs.{TaskPlaces.{acts_before, placed_so}}
+use Rattle.world_law.proofs.runs.Worlds
+use Worlds.{dispatches_same, earlier_still, frame_source, of_high_rank, reaches_back, settled_of, up_back}
+use Rattle.run_law.specs.declared.note.NoteBody.TheVariants as kinds
+use Rattle.run_law.specs.declared.note.NoteBody.TheVariants as notes
+
+-- ---- what a device at the present instant has not done of what is due, it has still to do
 
 -- ---- a list has a thing or not
 
@@ -212,3 +236,321 @@ came_not {s} {js} {hs} {now} {device} w same (IsActing.dispatches link cause vl 
     had_not w
     (rw (sym (value_is (record { 0 = d.place }) cycle d.row)) at (reaches_back s hs js now device same d.reached))
     x.0 x.1 x.2 x.3
+
+-- ---- acts and dispatches of devices: told apart by their cause, and none before what a world has under way
+
+-- ---- a dispatch is told apart from other losses by its cause
+
+pub same_some : {x y : Happening} → Some x ≡ Some y → x ≡ y
+same_some e = cc
+
+none_some : {x : Happening} → None ≡ Some x → ⊥
+none_some e = cc
+
+-- an event of the instant is the cause of no dispatch
+pub send_apart : {s : Scenario} (hs coming : List Happening) {js : List Happening} {device : DeviceId} {now : ℕ}
+    {link other : LinkId} {cause : ℕ} {vl : VlId} {cycle : ℕ} → IsFounded place_of (IsDue s) hs
+    → ((z : Happening) → IsIn z coming → time_of z ≡ now)
+    → ((h : Happening) → numbered js cause ≡ Some h → numbered (hs ++ coming) cause ≡ Some h)
+    → IsSendLost s js device now link cause → Dispatches s (hs ++ coming) device now other cause vl cycle → ⊥
+send_apart {s} hs coming {device} {now} founded of_now on lost d =
+    let event = on lost.event lost.is.there in
+    let all = hs ++ coming in
+    let same : earlier now all ≡ earlier now hs = earlier_still now hs coming (λ z i. let at = of_now z i in
+    omega arith) in
+    elim d.at_hand [
+      | inl sender ↦ none_some (subst (λ n. numbered all n ≡ Some lost.event) sender.1 event)
+      | inr took ↦ elim (last_in None (filter (λ h. is_accepted device d.entry.row.vl h.note.body) (earlier now all)) took.1.taken took.1.last) [
+        | inl none ↦ none_some none
+        | inr i ↦
+            let inside = subst (λ l. IsIn took.1.taken l) same
+            (in_filter (λ h. is_accepted device d.entry.row.vl h.note.body) (earlier now all) took.1.taken i) in
+            let lt : time_of took.1.taken < now = in_earlier now hs took.1.taken inside in
+            let there : IsIn took.1.taken hs = in_filter (λ h. Rattle.std.specs.Prelude.nat_lt (time_of h) now) hs took.1.taken inside in
+            let it = subst (λ n. numbered all n ≡ Some took.1.taken) (sym took.1.number)
+            (numbered_front hs coming took.1.taken.note.number took.1.taken (by_number s hs took.1.taken founded there)) in
+            let same : lost.event ≡ took.1.taken = same_some (sym event ∙ it) in
+            let at = lost.is.same_time in
+            let times : time_of lost.event ≡ time_of took.1.taken = ap time_of same in
+            omega arith
+      ]
+    ]
+
+module _ (s : Scenario) (device : DeviceId) (now : ℕ) (link : LinkId) (cause : ℕ) (vl : VlId) (cycle : ℕ) where
+  -- what a record that tells of a dispatch says
+  pub dispatch_told : {body : NoteBody} → body ≡ dispatch_body s device now link cause vl cycle
+      → (body ≡ kinds.Lost device link cause) ⊎ (body ≡ kinds.TtSent device link cause vl cycle)
+  dispatch_told e = grind (arith, cases_Bool, is_cut, way_from)
+
+  -- the record of a dispatch stands behind all others of the acts
+  pub dispatch_late : 9 ≤ rank (dispatch_body s device now link cause vl cycle)
+  dispatch_late =
+      elim (is_cut s link (way_from s.network device link) now) as (λ b. 9 ≤ rank
+      (if b then kinds.Lost device link cause
+      else kinds.TtSent device link cause vl cycle)) [ true ↦ omega arith | false ↦ omega arith ]
+
+-- ---- where nothing that a world has under way is before a place, and nothing to come, no act of a device that is not worked off
+-- is before it.
+
+-- ---- records behind the acts of their instant, which leave the device at rest, do not change its points
+
+unmoved_stretch : (device : DeviceId) (body : NoteBody) → moves device body ≡ false → ends_stretch device body ≡ false
+unmoved_stretch device (notes.State other state cause On) e = refl
+unmoved_stretch device (notes.State other state cause why) e = e
+unmoved_stretch device (notes.Corrected other cycle by adjustment) e = refl
+unmoved_stretch device other e = e
+
+pub turning_stretch : (device : DeviceId) (body : NoteBody) → is_turning device body ≡ true → ends_stretch device body ≡ false
+turning_stretch device (notes.State other Integrating cause On) e = refl
+turning_stretch device other e = absurd cc
+
+quiet_stretch : (device : DeviceId) (body : NoteBody) → IsQuiet device body → ends_stretch device body ≡ false
+quiet_stretch device body (inl e) = unmoved_stretch device body e
+quiet_stretch device body (inr e) = turning_stretch device body e
+
+pub points_same : (zs hs : List Happening) (device : DeviceId) → ((z : Happening) → IsIn z zs → IsQuiet device z.note.body × (4 ≤ rank z.note.body))
+    → points_of (hs ++ zs) device ≡ points_of hs device
+points_same [] hs device quiet = rw (append-nil hs)
+points_same (z ∷ zs) hs device quiet =
+    grind (
+      arith,
+      point_by,
+      ends_stretch,
+      points_of,
+      append_assoc,
+      filter_map,
+      behind_no,
+      quiet_stretch,
+      map_none,
+      after_last,
+      of_high_rank,
+      (points_same zs (hs ++ z ∷ []) device (λ y i. quiet y (inr i))),
+    )
+
+-- ---- a device that the network does not have does nothing
+
+no_device : (network : Network) (device : DeviceId) (is : Device) → length network.device ≤ device.0 → device_at network device ≡ Some is → ⊥
+no_device network device is le there = let lt = slice_get_within network.device device.0 is there in omega arith
+
+no_role : (network : Network) (kind : Role → Bool) (device : DeviceId) → length network.device ≤ device.0 → has_role network kind device ≡ true → ⊥
+no_role network kind device le = grind (arith, device_at, option_map_or, no_device)
+
+off_of_none : (network : Network) (device : DeviceId) → length network.device ≤ device.0 → state_at_start (start_of network device) ≡ Off
+off_of_none network device le = grind (arith, device_at, no_device)
+
+never_moved : (device : DeviceId) (old : State) (hs : List Happening) → ((h : Happening) → IsIn h hs → moves device h.note.body ≡ false)
+    → Rattle.std.specs.Prelude.fold (λ state h. state_with device state h.note.body) old hs ≡ old
+never_moved device old [] still = refl
+never_moved device old (h ∷ hs) still =
+    rw (keeps_state device old h.note.body (still h (inl refl))) (never_moved device old hs (λ g i. still g (inr i)))
+
+module _ {s : Scenario} {hs : List Happening} (device : DeviceId) (t : ℕ) where
+  state_of_none : length s.network.device ≤ device.0 → AreOfNetwork s hs → state_before s hs device t ≡ Off
+  state_of_none le known = grind (arith, state_after, earlier, never_moved, in_filter, nat_lt, time_of, off_of_none)
+
+  pub none_acts : {task : Task} → length s.network.device ≤ device.0 → AreOfNetwork s hs
+      → IsActing s hs t device task → ⊥
+  none_acts le known (IsActing.sends cycle d) = no_role s.network _ device le d.master
+  none_acts le known (IsActing.emits sent verdict e) = no_role s.network _ device le e.cm
+  none_acts le known (IsActing.corrects cycle c) =
+      let none =
+      sym (ap (λ z. point_in z (next_cycle s hs device t)) (state_of_none le known)) ∙ c.next in cc
+  none_acts le known (IsActing.dispatches link cause vl cycle d) =
+      let bad = sym (state_of_none le known) ∙ d.up.synchronised in cc
+
+  -- ---- nor does a broken one
+
+  pub broken_acts : {task : Task} → is_broken s device t ≡ true → IsActing s hs t device task → ⊥
+  broken_acts broken (IsActing.sends cycle d) = let bad = sym broken ∙ d.up.correct in cc
+  broken_acts broken (IsActing.emits sent verdict e) = let bad = sym broken ∙ e.correct in cc
+  broken_acts broken (IsActing.corrects cycle c) = let bad = sym broken ∙ c.correct in cc
+  broken_acts broken (IsActing.dispatches link cause vl cycle d) =
+      let bad = sym broken ∙ d.up.correct in cc
+
+  -- ---- and one that looks for the common time acts only by emissions
+
+  looking_acts : {task : Task} → state_before s hs device t ≡ Integrating → IsActing s hs t device task
+      → (sent : Compressed) × (verdict : Judgement) × Emits s hs device t sent verdict
+  looking_acts looking (IsActing.emits sent verdict e) = (sent, verdict, e)
+  looking_acts looking (IsActing.sends cycle d) =
+      absurd (cc)
+  looking_acts looking (IsActing.corrects cycle c) =
+      absurd (cc)
+  looking_acts looking (IsActing.dispatches link cause vl cycle d) =
+      absurd (cc)
+
+-- ---- a device that is kept
+
+-- what is looked at: a task of the device is not due before the place
+abbrev IsIdleBefore : Scenario → DeviceId → ℕ → Node → List ℕ → Type 0
+IsIdleBefore s device now node p =
+    (t : ℕ) → now ≤ t → (task : Task) → IsPending s.network device node task → reading_for s.network node task ≤ℤ pos (s.reading device t)
+    → IsBefore (task_place s.network t device task) p → ⊥
+
+-- and what is to come is behind all acts of the instant that are before it; and where what stands at its source is to come,
+-- no place that is not worked off is before it
+pub record IsBehind (coming : List Happening) (frontier : List ℕ) (now : ℕ) (p : List ℕ) : Type 0 where
+  pub of_now : (z : Happening) → IsIn z coming → time_of z ≡ now
+  pub late : (z : Happening) → IsIn z coming → (device : DeviceId) → IsBefore (act_place now device) p → 4 ≤ rank z.note.body
+  pub none : (t : ℕ) (device : DeviceId) → now < t → IsBefore (act_place t device) p → coming ≡ []
+  pub lone : (z : Happening) → IsIn z coming → rank z.note.body ≡ 4 → (w : List ℕ) → (IsBefore w frontier → ⊥)
+      → IsBefore w p → ⊥
+
+-- how it is at the present instant
+pub present : {M : Type 0} {stands : M → Network → DeviceId → Node → Type 0} {s : Scenario}
+    {hs coming : List Happening} {frontier : List ℕ} {now : ℕ} {device : DeviceId} {machine : M}
+    (k : IsKept stands s hs coming frontier now device machine) → k.up ≡ now
+    → IsPresent s (hs ++ coming) now device k.node
+present {s} {hs} {coming} {device} k up =
+    record { left = rw up at k.left; sound = k.sound }
+
+pub kept_no_act : {M : Type 0} {stands : M → Network → DeviceId → Node → Type 0} {s : Scenario}
+    {hs coming : List Happening} {frontier p : List ℕ} {now t : ℕ} {device : DeviceId} {machine : M}
+    (k : IsKept stands s hs coming frontier now device machine) {task : Task} → IsLawful s (hs ++ coming) device
+    → IsBehind coming frontier now p → IsPast hs now → (IsBefore (now ∷ 2 ∷ []) p → IsWorked hs frontier now)
+    → HaveBefallen s frontier now → ((q : List ℕ) → IsBefore q frontier → IsBefore q ((now + 1) ∷ [])) → now ≤ t
+    → IsIdleBefore s device now k.node p → IsActing s hs t device task
+    → (IsBefore (task_place s.network t device task) frontier → ⊥) → IsBefore (task_place s.network t device task) p → ⊥
+kept_no_act {M} {stands} {s} {hs} {coming} {frontier} {p} {now} {t} {device} {machine} k {task} law behind_it
+    past worked befallen later le idle a not b =
+    elim (cases_lt now t) [
+      | inr ge ↦ let same : t ≡ now =
+          omega arith in at_present (rw same at a)
+          (rw same at not)
+          (rw same at b)
+      | inl lt ↦
+          let empty = behind_it.none t device lt (acts_before s.network t device task p b) in
+          let k0 : (x : IsKept stands s hs [] frontier now device machine)
+          × (x.node ≡ k.node) = rw (sym empty) (k, refl)
+          in
+          let idle0 : IsIdleBefore s device now k0.0.node p = rw k0.1 idle in
+          let law0 : IsLawful s hs device = rw (ap (λ (l : List Happening). hs ++ l) empty ∙ append-nil hs) at law in
+          afterwards lt k0.0 idle0 law0
+    ]
+  where
+    at_present : IsActing s hs now device task → (IsBefore (task_place s.network now device task) frontier → ⊥)
+        → IsBefore (task_place s.network now device task) p → ⊥
+    at_present a not b =
+        let js = hs ++ coming in
+        let past_all : (h : Happening) → IsIn h js → time_of h ≤ now = λ h i. elim (in_parts h hs coming i) [
+          | inl given ↦ past.past h given
+          | inr fresh ↦ omega arith
+        ] in
+        let same = earlier_still now hs coming (λ z i. omega arith) in
+        elim k.acted [
+          | inl yet ↦
+              let points = points_same coming hs device
+              (λ z i. (
+                quiet_rest s device now z.note.body (k.still yet.0 z (in_right z hs coming i) (behind_it.of_now z i)),
+                behind_it.late z i device (acts_before s.network now device task p b),
+              )) in
+              let w = present k yet.0 in
+              elim (done_or k.node task) [
+                | inr undone ↦
+                    let due = act_due w (record { taken = k.taken; past = past_all; lawful = law }) (sym same)
+                    (sym points) a undone in
+                    idle now (omega arith) task due.0 due.1 b
+                | inl did ↦
+                    came_not w (sym same) a
+                    (rw yet.0 at (came_sooner now k.worked task did not))
+              ]
+          | inr over ↦ elim (k.told over.0) [
+            | inl out ↦ not (out.all task a)
+            | inr (inr joining) ↦ behind_it.lone joining.by joining.there joining.sent (task_place s.network now device task) not b
+            | inr (inl just) ↦
+                let e = looking_acts device now (rw (sym same) just.looking) a in
+                cc
+          ]
+        ]
+
+    afterwards : now < t → (k0 : IsKept stands s hs [] frontier now device machine)
+        → IsIdleBefore s device now k0.node p → IsLawful s hs device → ⊥
+    afterwards lt k0 idle0 law0 =
+        let sooner : (k : ℕ) (ws : List ℕ) → IsBefore (now ∷ k ∷ ws) p = λ k ws. chain (now ∷ k ∷ ws) (task_place s.network t device task) p (inl lt) b in
+        let rest = at_rest k0 befallen past (worked (sooner 2 []))
+        (record { later = later; falls = law0.steady.never_falls })
+        (λ other pending. elim (cases_int (pos (s.reading device now)) (reading_for s.network k0.node other)) [
+          | inl less ↦ less
+          | inr ge ↦
+              let at = placed_so s.network now device other in
+              absurd (idle0 now (omega arith) other pending ge (rw at.is (sooner at.rank (device.0 ∷ at.rest))))
+        ]) in
+        let u : IsUnmoved s hs device rest.from t = record {
+          le = omega arith;
+          still = λ h i from before. rest.still h i from;
+          not_on = rest.off;
+          not_on_later = not_on_after t device befallen lt;
+          not_broken = no_later_breaks s frontier now t device befallen le
+              ∙ sym (no_later_breaks s frontier now rest.from device befallen rest.le);
+          never_falls = law0.steady.never_falls;
+        } in
+        let taken = k0.taken ∙ (rw (append-nil hs)) in
+        let due = acting_task u rest.left rest.done rest.sent
+        (λ link cause vl cycle d. dispatching_task u rest.left rest.done law0
+        (λ h i. omega arith) taken d) a in
+        idle0 t le due.0 due.1 due.2 (rw due.3 b)
+
+-- ---- all devices
+
+behind_of : (coming : List Happening) (frontier : List ℕ) (now : ℕ) (p : List ℕ)
+    → ((z : Happening) → IsIn z coming → time_of z ≡ now)
+    → ((z : Happening) → IsIn z coming → is_at_source z.note.body ≡ true → IsBefore (place_of z) frontier)
+    → ((z : Happening) → IsIn z coming → IsBefore (place_of z) p → ⊥) → IsBehind coming frontier now p
+behind_of coming frontier now p of worked after = record {
+  of_now = of;
+  late = λ z i device b. elim (cases_lt (rank z.note.body) 4) [
+    | inr ge ↦ ge
+    | inl low ↦ absurd (after z i (chain (place_of z) (act_place now device) p (inr (of z i, inl (omega arith))) b))
+  ];
+  none = λ t device lt b. from t device lt b coming of after;
+  lone = λ z i four w not b. after z i
+      (chain (place_of z) w p (before_later (place_of z) w frontier (worked z i (frame_source z.note.body four)) not)
+      b);
+}
+  where
+    from : (t : ℕ) (device : DeviceId) → now < t → IsBefore (act_place t device) p → (l : List Happening) → ((z : Happening) → IsIn z l → time_of z ≡ now)
+        → ((z : Happening) → IsIn z l → IsBefore (place_of z) p → ⊥) → l ≡ []
+    from t device lt b [] of_l seen = refl
+    from t device lt b (z ∷ l) of_l seen =
+        let at = of_l z (inl refl) in absurd (seen z (inl refl)
+        (chain (place_of z) (act_place t device) p (inl (omega arith)) b))
+
+held_no_act : {M : Type 0} {stands : M → Network → DeviceId → Node → Type 0} {s : Scenario}
+    {hs coming : List Happening} {frontier p : List ℕ} {now t : ℕ} {device : DeviceId} {machine : M} {task : Task}
+    → IsHeld stands s hs coming frontier now device machine → IsLawful s (hs ++ coming) device
+    → IsBehind coming frontier now p → IsPast hs now → (IsBefore (now ∷ 2 ∷ []) p → IsWorked hs frontier now)
+    → HaveBefallen s frontier now → ((q : List ℕ) → IsBefore q frontier → IsBefore q ((now + 1) ∷ [])) → now ≤ t
+    → ((node : Node) → stands machine s.network device node → IsIdleBefore s device now node p)
+    → IsActing s hs t device task → (IsBefore (task_place s.network t device task) frontier → ⊥)
+    → IsBefore (task_place s.network t device task) p → ⊥
+held_no_act (inl k) law behind_it past worked befallen later le idle a not b =
+    kept_no_act k law behind_it past worked befallen later le (idle k.node k.is) a not b
+held_no_act {s} {hs} {frontier} {now} {t} {device} (inr k) law behind_it past worked befallen later le idle a not b =
+    broken_acts device t (no_later_breaks s frontier now t device befallen le ∙ k.broken) a
+
+module _ {C M : Type 0} (reading : C → ℕ → ℕ) (stands : M → Network → DeviceId → Node → Type 0) where
+  no_acts : {s : Scenario} {world : World C M} {notes : List Note} {p : List ℕ}
+      (old : Stands reading stands s world notes) → ((z : Happening) → IsIn z world.settled → IsBefore (place_of z) p
+      → ⊥) → NothingBefore stands s world p → NoActBefore s (happenings s.network notes) old.frontier p
+  no_acts {s} {world} {notes} {p} old after none t device task a not b =
+      let hs = happenings s.network notes in
+      let over : (q : List ℕ) → IsBefore q (world.now ∷ []) → IsBefore q old.frontier =
+      λ q x. old.of_now q x in
+      let le : world.now ≤ t = elim (cases_lt t
+      world.now) [ inl lt ↦ absurd (not (over (task_place s.network t device task) (inl lt))) | inr ge ↦ ge ] in
+      elim (cases_lt device.0 (length s.network.device)) [
+        | inl lt ↦
+            let m = old.devices device lt in
+            held_no_act m.2 (lawful reading stands s world notes old device)
+            (behind_of world.settled old.frontier world.now p old.are.of_now (settled_of old.are).worked after)
+            (are_past old)
+            (λ two. elim (cases_Bool world.pending) [ inr told ↦ old.untold.done told | inl open_ ↦ absurd (none.befell open_ two) ]) old.befallen old.not_later le
+            (λ node is u from other pending due before. none.acting device m.0 node other m.1 is pending u from due
+            before) a not b
+        | inr ge ↦ none_acts device t ge
+            (record { unmoved = λ d far h i. old.known.unmoved d far h (in_left h hs world.settled i); never_on = old.known.never_on }) a
+      ]
+
+  pub nothing_comes_before : NothingComesBefore reading stands
+  nothing_comes_before s world notes p old after none w source not b =
+      none_but_acts old none (no_acts old after none) source not b

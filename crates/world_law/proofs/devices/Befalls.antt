@@ -1,5 +1,6 @@
 -- An event that does not turn a device on, and does not break it, leaves it as it was.
-use Rattle.{run_law.specs.machines.Answers.node_turned_on, world_law.{proofs.runs.Agreement.{heard_same, local_same, next_same}, specs.device.Left.IsCounted}}
+use Rattle.run_law.specs.machines.Answers.{node_turned_on}
+use Rattle.world_law.{proofs.runs.Agreement.{heard_same, local_same, next_same}, specs.device.Left.IsCounted}
 use Rattle.world_law.proofs.Words.{◌∙◌, ◌≡◌, ◌≤◌, Agree, DeviceId, Event, Happening, IsIn, IsLeft, List, Network, Node, arith, earlier}
 use Rattle.world_law.proofs.Words.{false, is_broken, is_timed, is_turned_on_at, refl, scenario, state_after, time_of, true, ℕ}
 

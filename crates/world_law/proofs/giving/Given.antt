@@ -2,8 +2,8 @@
 use Rattle.run_law.proofs.{law.FirstDeliveries.numbered_next, runs.NetworkRuns.one_more}
 use Rattle.world_law.proofs.{lists.Lists.behind_yes, rows.AtHand.frames_by_others}
 use Rattle.world_law.proofs.devices.{Working.worked_on}
-use Rattle.world_law.proofs.devices.Borne
-use Borne.{adjustments_plain, changes_at_plain, filter_plain, plains_parts, states_plain, told_by_others}
+use Rattle.world_law.proofs.devices.Standing
+use Standing.{adjustments_plain, changes_at_plain, filter_plain, plains_parts, states_plain, told_by_others}
 use Rattle.world_law.proofs.runs.{Foremost.{StandsOver, over_of}, TaskPlaces.acts_before}
 use Rattle.world_law.proofs.runs.Worlds.{AreSettled, acting_back, arrives_later, arriving_more, departing_more}
 use Rattle.world_law.proofs.runs.Worlds.{earlier_still, first_is_next, gives_rank, length_is, no_higher, none_pending}

@@ -4,8 +4,7 @@ use Rattle.world_law.proofs.Words.{◌++◌, ◌∙◌, ◌∷◌, ◌≡◌, �
 use Rattle.world_law.proofs.Words.{Scenario, [], ap, append_assoc, arith, behind, cases_Bool, chain, false, in_right, inl, inr, is_at_source, key}
 use Rattle.world_law.proofs.Words.{members_in, never_self, place_of, rank, refl, subst, sym, time_of, ℕ}
 use Rattle.world_law.proofs.giving.GivenParts.{IsGiving, all_over, beyond, up_to_place, worked_by_then}
-use Rattle.world_law.proofs.{runs.Worlds.{at_least, first_before, own_here}}
-use Rattle.world_law.proofs.putting.{Near.{AreFrom, own_source}}
+use Rattle.world_law.proofs.{putting.Near.{AreFrom, own_source}, runs.Worlds.{at_least, first_before, own_here}}
 use Rattle.world_law.proofs.putting.{Placing.{AreOne, IsBehindIt, due_given, own_given, same_place}, PutIn.own_time}
 use Rattle.world_law.specs.world.World.{IsDueAs}
 

@@ -1,13 +1,13 @@
 -- What is still due stands behind what a device did, and an emission behind its cluster's opening.
 use Rattle.std.proofs.{Common.{◌*ℤ◌, Contains}, lemmas.List.Elements.{Contains-append_right, recursion_from_All}}
 use Rattle.compression.proofs.{ClusterFacts.ends_soon, Collectors.AreClusters-unique, Times.{first_end, open_beyond}}
+use Rattle.sync_state.proofs.VerdictLemmas.{integrating_point}
 use Rattle.compression.proofs.Growth
 use Growth.{all_at, beyond-all, counts, end_of-least, firsts-start, held-start, in_cases, in_head, in_none}
 use Rattle.compression.specs.{Clusters.{beyond, cluster_of, end_of, firsts, has_master, of_cycle_within}}
 use Rattle.compression.specs.{Emission.compressed, Middle.{last_but_one, middle_of, relative}}
 use Rattle.run_law.specs.machines.{Answers.with_done, Tasks.{IsFirstTask, IsWaiting, order_of}}
 use Rattle.schedule_tables.specs.{Dispatches.dispatch_order, declared.rule.Rule.TheVariants.ScheduleStart}
-use Rattle.sync_state.proofs.StateFacts.{integrating_point}
 use Rattle.tte_units.{specs.Mean.mean_of}
 use Rattle.tte_units.proofs.{Means.mean_of-floor}
 use Rattle.tte_units.proofs.{general_lemmas.{Integers.{whole, whole as natural}, Options.same_next}}

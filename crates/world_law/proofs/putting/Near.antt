@@ -1,31 +1,75 @@
 -- Records that tell the same up to a source leave devices, and what is due, the same.
-use Rattle.run_law.specs.control.Corrections.{standing_before}
+use Rattle.run_law.specs.{control.Corrections.standing_before, device.States.is_off, records.Happenings.octets_by}
 use Rattle.sync_state.specs.membership.Summary.{Summarizes}
 use Rattle.world_law.{specs.world.World.{IsDueAs, IsOut}}
-use Rattle.world_law.proofs.{giving.GivenParts.same_permanent, rows.AtHand.{IsNoTaking, taken_parts, taken_same}}
+use Rattle.world_law.proofs.{giving.GivenParts.same_permanent}
+use Rattle.world_law.proofs.{putting.{Idle.{drop_one, fold_skip, numbered_prefix}, Numberless.timed_by, PutIn.at_place}}
+use Rattle.world_law.proofs.{rows.AtHand.{IsNoTaking, taken_parts, taken_same}}
 use Rattle.world_law.proofs.Words
-use Words.{◌&&◌, ◌++◌, ◌<◌, ◌==◌, ◌||◌, ◌∙◌, ◌∷◌, ◌≡◌, ◌≤◌, ◌⊎◌, AreOfNetwork, Arrival, ArrivesAs, BecomesPermanent}
-use Words.{Bool, ChangesState, ComesToCorrection, Compressed, Departs, Departure, DeviceId, Dispatches, Emits}
-use Words.{Happening, HasTurnedOn, IsActing, IsAtRest, IsBefore, IsCaused, IsDropped, IsDue, IsForward, IsFounded}
-use Words.{IsHeld, IsIn, IsJoiningNow, IsKept, IsLeft, IsLost, IsOwnSource, IsSendLost, IsSource, Judgement, LinkId}
-use Words.{List, Network, Node, None, NoteBody, Pcf, Reason, Ripe, Scenario, Signal, Some, State, Units, Verdict, VlId}
-use Words.{Why, [], adjustment_after, adjustment_at_hearing, adjustment_with, amount, and_right, ap, append_assoc}
-use Words.{arith, arrival_of, bears_on, before_permanence, borne, by_number, cases_lt, cases_order, cause_of, chain}
-use Words.{changed_at, control, correcting, cycle_in, dispatching, doing, earlier, emitting, eq-eqb, eqb-true, false}
-use Words.{false_from_ne_true, filter, filter-append, frames_taken, heard_as, heard_since, in_filter, in_left, in_parts}
-use Words.{in_right, inl, inr, is_accepted, is_at_source, is_before, is_joined_by, is_taken_before, last_in, last_taken}
-use Words.{le-ltb, length, list_any, local_before, members_in, moves, nat_le, nat_lt, next_point, not, numbered}
-use Words.{numbered_within, observation_window, place_of, plan_of, points_of, rank, refl, sending, state_after}
-use Words.{state_at_hearing, state_before, state_with, subst, sym, taken_by, task_place, time_of, timed, true, up_to, ℕ}
+use Words.{if◌then◌else◌, ◌&&◌, ◌++◌, ◌<◌, ◌==◌, ◌||◌, ◌∙◌, ◌∷◌, ◌≡◌, ◌≤◌, ◌⊎◌, AreOfNetwork, Arrival, ArrivesAs}
+use Words.{BecomesPermanent, Bool, ChangesState, ComesToCorrection, Compressed, Departs, Departure, DeviceId}
+use Words.{Dispatches, Emits, Happening, HasTurnedOn, Integrating, IsActing, IsAtRest, IsBefore, IsCaused, IsDropped}
+use Words.{IsDue, IsForward, IsFounded, IsHeld, IsIn, IsJoiningNow, IsKept, IsLeft, IsLost, IsOwnSource, IsSendLost}
+use Words.{IsSource, Judgement, LinkId, List, Network, Node, None, Note, NoteBody, Pcf, Reason, Ripe, Scenario, Send}
+use Words.{Signal, Some, Standpoint, State, Units, Verdict, VlId, Why, [], adjustment_after, adjustment_at_hearing}
+use Words.{adjustment_with, amount, and_right, ap, append_assoc, arith, arrival_of, bears_on, before_permanence, borne}
+use Words.{by_number, cases_lt, cases_order, cause_of, chain, changed_at, control, correcting, cycle_in, dispatching}
+use Words.{doing, earlier, emitting, eq-eqb, eqb-true, false, false_from_ne_true, filter, filter-append, frame_by}
+use Words.{frames_taken, happening, heard_as, heard_since, in_filter, in_left, in_parts, in_right, inl, inr}
+use Words.{is_accepted, is_at_source, is_before, is_broken, is_joined_by, is_taken_before, is_turned_on_at, last_in}
+use Words.{last_taken, le-ltb, length, list_any, local_before, members_in, moves, nat_le, nat_lt, next_point, not}
+use Words.{numbered, numbered_within, observation_window, place_of, plan_of, points_of, rank, refl, sending}
+use Words.{state_after, state_at_hearing, state_before, state_with, subst, sym, taken_by, task_place, time_of, timed}
+use Words.{true, up_to, ℕ}
 use Rattle.world_law.proofs.devices.{Unmoved.{joins_no_other, keeps_adjustment, keeps_state}, Working.worked_on}
-use Rattle.world_law.proofs.devices.Borne.{TellAlike, heard_alike, left_alike, moves_no_other, points_alike, tell_alike}
-use Rattle.world_law.proofs.putting.{Alike.{happening_alike, standpoint_in}}
-use Rattle.world_law.proofs.putting.{Idle.{drop_one, fold_skip, numbered_prefix}, Numberless.timed_by, PutIn.at_place}
+use Rattle.world_law.proofs.devices.Standing
+use Standing.{TellAlike, heard_alike, left_alike, moves_no_other, points_alike, tell_alike}
 use Rattle.world_law.proofs.runs.Worlds
 use Worlds.{arrival_of_it, arrives_later, departure_of_it, dispatches_back, dispatches_same, earlier_still, gives_rank}
 use Worlds.{numbered_parts, point_of_it, reaches_back, ripening_of_it, standing_in, up_back}
 use Rattle.run_law.specs.declared.judgement.Why.TheVariants as whys
 use Rattle.run_law.specs.declared.note.NoteBody.TheVariants as notes
+
+-- ---- what a record says of its frame and octets is told by the records that are given
+
+abbrev pub standpoint_in : Scenario → DeviceId → ℕ → List Happening → Standpoint
+standpoint_in s device t w = record {
+  takes_part = not (is_off (if is_turned_on_at s device t then Integrating else state_after s w device)) && not (is_broken s device t);
+  state = if is_turned_on_at s device t then Integrating else state_after s w device;
+  reading = s.reading device t;
+  adjustment = (adjustment_after s w device).0;
+}
+
+-- ---- its frame
+
+module _ (network : Network) (known : ℕ) (js gs : List Happening) where
+  pub frame_alike : (body : NoteBody) → ((n : ℕ) → n ≤ known → numbered js n ≡ numbered gs n) → cause_of body ≤ known
+      → frame_by network js body ≡ frame_by network gs body
+  frame_alike (notes.Event line (Send link octets)) given le = refl
+  frame_alike (notes.Left device link cause clock) given le =
+      rw (given cause le)
+  frame_alike (notes.Arrived device link cause clock) given le =
+      rw (given cause le)
+  frame_alike (notes.Permanent device link cause point verdict) given le =
+      rw (given cause le)
+  frame_alike other given le = refl
+
+  pub octets_alike : (body : NoteBody) → ((n : ℕ) → n ≤ known → numbered js n ≡ numbered gs n)
+      → cause_of body ≤ known → octets_by network js body ≡ octets_by network gs body
+  octets_alike (notes.Event line (Send link octets)) given le = refl
+  octets_alike (notes.TtSent device link cause vl cycle) given le =
+      rw (given cause le)
+  octets_alike (notes.Accepted device link cause vl cycle) given le =
+      rw (given cause le)
+  octets_alike (notes.Delivered device link cause vl cycle) given le =
+      rw (given cause le)
+  octets_alike other given le = refl
+
+pub happening_alike : (network : Network) (known : ℕ) (js gs : List Happening) (note : Note) → ((n : ℕ) → n ≤ known → numbered js n ≡ numbered gs n)
+    → cause_of note.body ≤ known → happening network js note ≡ happening network gs note
+happening_alike network known js gs note given le = grind (arith, frame_alike, frame_by, octets_alike)
+
+-- ---- records that tell the same up to a source leave devices, and what is due, the same
 
 -- ---- a device on which a record does not bear stands with it as without it
 

@@ -1,6 +1,6 @@
 -- What is due at the time of a record does not rest on its number.
 use Rattle.std.proofs.Common.{arith}
-use Rattle.world_law.proofs.devices.Borne.{adjustments_plain, earlier_plain, filter_plain, states_plain}
+use Rattle.world_law.proofs.devices.Standing.{adjustments_plain, earlier_plain, filter_plain, states_plain}
 use Rattle.world_law.proofs.Words.{◌&&◌, ◌==◌, ◌||◌, ◌∷◌, ◌≡◌, Bool, DeviceId, Happening, LinkId, List, None, Option, Scenario}
 use Rattle.world_law.proofs.Words.{Some, Standpoint, VlId, [], adjustment_at_hearing, ap, earlier, filter, has_joined_at}
 use Rattle.world_law.proofs.Words.{is_joined_by, is_taken_before, is_turned_on_at, last_or, last_taken, list_any, nat_lt, option_and_then, plain}

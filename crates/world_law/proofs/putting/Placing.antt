@@ -2,7 +2,13 @@
 use Rattle.net_plan.specs.declared.event.What.TheVariants.{End}
 use Rattle.run_law.specs.records.Happenings.{frame_by, happening, octets_by}
 use Rattle.world_law.{specs.{device.Plain.with_number, world.{Moves.{IsPutIn, settled_as}, World.IsDueAs}}}
-use Rattle.world_law.proofs.{devices.Borne.{heard_plain, plains_parts, points_plain}, giving.GivenParts.up_to_place}
+use Rattle.world_law.proofs.{devices.Standing.{heard_plain, plains_parts, points_plain}, giving.GivenParts.up_to_place}
+use Rattle.world_law.proofs.{runs.Worlds.{AreSettled, at_least, earlier_still, numbered_parts, own_here}}
+use Rattle.world_law.proofs.putting.{Idle.{drop_one, numbered_prefix}}
+use Rattle.world_law.proofs.putting.Near.{AreFrom, AreNear, AsFollower, IsAsideOf, IsPlaced, IsThere, caused_near}
+use Rattle.world_law.proofs.putting.Near.{changes_given, due_aside, follower_or_not, happening_alike, hears, in_placed}
+use Rattle.world_law.proofs.putting.Near.{is_follower, is_following, known_near, near_back, not_is, own_aside, own_near}
+use Rattle.world_law.proofs.putting.Near.{own_source, two_placed}
 use Rattle.world_law.proofs.Words
 use Words.{◌++◌, ◌+◌, ◌<◌, ◌∙◌, ◌∷◌, ◌≡◌, ◌≤◌, ◌⊎◌, AllBefore, ChangesState, DeviceId, Happening, IsBefore, IsCaused}
 use Words.{IsDue, IsForward, IsFounded, IsIn, IsOwnSource, IsSource, LinkId, List, Network, NoneBefore, Note, NoteBody}
@@ -11,16 +17,10 @@ use Words.{before_behind, behind, both_ways, cases_Bool, cases_lt, cases_order, 
 use Words.{false, in_left, in_parts, in_right, inl, inr, ints, is_at_source, is_before, is_joined_by, is_taken_before}
 use Words.{key, length, length-append, members_in, never_self, numbered, numbered_within, parted, place_of, plain}
 use Words.{plains, rank, refl, rows_place, slice_get, subst, suc, sym, time_of, true, units_of, zero, ℕ}
-use Rattle.world_law.proofs.putting.{Alike.happening_alike, Idle.{drop_one, numbered_prefix}}
 use Rattle.world_law.proofs.putting.{Moving.{IsAllOfIt, IsMoving, not_far, off_source, stays}}
 use Rattle.world_law.proofs.putting.{Numberless.{hearing_adjustment_plain, hearing_state_plain, last_taken_plain}}
 use Rattle.world_law.proofs.putting.{PutIn.{own_time, split_three, split_two}}
-use Rattle.world_law.proofs.putting.Near
-use Near.{AreFrom, AreNear, AsFollower, IsAsideOf, IsPlaced, IsThere, caused_near, changes_given, due_aside}
-use Near.{follower_or_not, hears, in_placed, is_follower, is_following, known_near, near_back, not_is, own_aside}
-use Near.{own_near, own_source, two_placed}
 use Rattle.world_law.proofs.runs.{TaskPlaces.second}
-use Rattle.world_law.proofs.runs.{Worlds.{AreSettled, at_least, earlier_still, numbered_parts, own_here}}
 use Rattle.run_law.specs.declared.judgement.Why.TheVariants as whys
 use Rattle.run_law.specs.declared.note.NoteBody.TheVariants as notes
 

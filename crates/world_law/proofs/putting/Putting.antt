@@ -5,8 +5,9 @@ use Rattle.run_law.{proofs.law.FirstDeliveries.{numbered_front, numbered_next}}
 use Rattle.run_law.{specs.{records.Causes.device_of, timed.Receptions.comes_before}}
 use Rattle.tte_units.proofs.general_lemmas.Naturals.{unequal}
 use Rattle.world_law.{specs.world.World.IsDueAs}
-use Rattle.world_law.proofs.{devices.Borne.moves_no_other, giving.GivenParts.some_same, rows.AtHand.idle_taking}
-use Rattle.world_law.proofs.{runs.Worlds.{AreSettled, at_least, earlier_still, own_here}}
+use Rattle.world_law.proofs.{devices.Standing.moves_no_other, giving.GivenParts.some_same}
+use Rattle.world_law.proofs.{putting.{Near.{frames_aside, hears, held_aside, known_aside, known_cause}, PutIn.own_time}}
+use Rattle.world_law.proofs.{rows.AtHand.idle_taking, runs.Worlds.{AreSettled, at_least, earlier_still, own_here}}
 use Rattle.world_law.proofs.Words
 use Words.{◌&&◌, ◌++◌, ◌+◌, ◌<◌, ◌==◌, ◌||◌, ◌∙◌, ◌∷◌, ◌≡◌, ◌≤◌, ◌⊎◌, AllBefore, AreOfNetwork, Bool, ChangesState}
 use Words.{DeviceId, Happening, IsBefore, IsDue, IsFounded, IsHeld, IsIn, IsOfThisTime, IsOwnSource, IsSource, Joining}
@@ -16,7 +17,6 @@ use Words.{cases_lt, cases_order, cause_of, eqb-true, false, false_from_ne_true,
 use Words.{is_at_source, is_joined_by, is_taken_before, key, le-ltb, length, members_in, nat_lt, never_self, numbered}
 use Words.{parted, place_of, rank, refl, rows_place, state_before, subst, suc, sym, time_of, true, ℕ}
 use Rattle.world_law.proofs.putting.{Idle.{IsIdle, idle_bears, idle_rank}, Moving.{IsAllOfIt, IsMoving, off_source}}
-use Rattle.world_law.proofs.putting.{Near.{frames_aside, hears, held_aside, known_aside, known_cause}, PutIn.own_time}
 use Rattle.world_law.proofs.putting.Placing
 use Placing.{AsState, IsCarried, IsPlacing, IsShownPair, IsWell, before_it, change_of, due_of, hears_source}
 use Placing.{least_of_own, numbered_here, pair_put, placed_well, record_of, settled_by, seven, well_of}

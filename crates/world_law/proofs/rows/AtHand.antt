@@ -4,7 +4,9 @@ use Rattle.std.proofs.{Common.{◌%◌, ◌/◌}, Math.Nat.{div-add-mod, mod-lt,
 use Rattle.std.proofs.{lemmas.{Bool.{cases_eq, leb-true, not-false, or_parts}, Grind.flat_map-append}}
 use Rattle.net_plan.proofs.SameIds.{one_link}
 use Rattle.pcf_codec.specs.{Fields.field, declared.refusal.PcfRefusal.PcfRefusal}
-use Rattle.run_law.{proofs.{control.Verdicts.none_first, scenario.Ways.one_way}}
+use Rattle.run_law.proofs.{control.Verdicts.none_first, scenario.Ways.one_way}
+use Rattle.world_law.proofs.{devices.Standing.{adjustments_plain, earlier_plain, in_order}}
+use Rattle.world_law.proofs.{runs.{FoundedAs.{AreFoundedAs, IsFoundedAs, founded_as}, Worlds.earlier_still}}
 use Rattle.run_law.specs.{control.Arrivals.{frame_fault, frame_or_fault}}
 use Rattle.run_law.specs.{device.Standpoints.{clock_of, cycle_at, natural, offset_in_cycle}}
 use Rattle.run_law.specs.{machines.{Nodes.last_taken_frame, Tasks.HasFrame}}
@@ -18,9 +20,7 @@ use Rattle.schedule_tables.specs.{declared.rule.Rule.TheVariants.{Forwarding, Wi
 use Rattle.tte_units.proofs.general_lemmas.{Bools.turned, Integers.{not_less, whole as not_negative}}
 use Rattle.tte_units.proofs.general_lemmas.{Lists.{find_at, last_if, last_more}, Naturals.same_heads}
 use Rattle.world_law.{specs.device.Takings.taken_in}
-use Rattle.world_law.proofs.{devices.{Borne.{adjustments_plain, earlier_plain}, Standing.in_order}}
 use Rattle.world_law.proofs.{putting.Idle.{IsIdle, drop_one}}
-use Rattle.world_law.proofs.{runs.{FoundedAs.{AreFoundedAs, IsFoundedAs, founded_as}, Worlds.earlier_still}}
 use Rattle.world_law.proofs.Words
 use Words.{if◌then◌else◌, ◌*◌, ◌++◌, ◌+ℤ◌, ◌+◌, ◌-ℤ◌, ◌-◌, ◌<ℤ◌, ◌<◌, ◌==◌, ◌∙◌, ◌∷◌, ◌≡◌, ◌≤ℤ◌, ◌≤◌, ◌⊎◌, Arrival}
 use Words.{ArrivesAs, Bool, DeviceId, Down, Entry, Happening, HasAtHand, IsCaused, IsEntry, IsIn, IsInRange, IsSteady}

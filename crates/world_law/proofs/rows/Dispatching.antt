@@ -6,7 +6,7 @@ use Rattle.schedule_tables.{proofs.{Margins.{begun_below, occur_together}, SlotL
 use Rattle.schedule_tables.{specs.{Delays.pcf_port_time, Entries.source_by}}
 use Rattle.world_law.proofs.{Words.{option_map_or, place_of, pos, refl, sym, task_place, time_of, true, value_of}}
 use Rattle.world_law.proofs.{acts.Acting.{IsUnmoved, comes_so, undone_so}, devices.Unmoved.{not_turned_on, state_still}}
-use Rattle.world_law.proofs.{frames.Masters.ends_differ, putting.PutIn.split_two}
+use Rattle.world_law.proofs.{frames.Proper.ends_differ, putting.PutIn.split_two}
 use Rattle.world_law.proofs.rows.AtHand.{IsReaching, ShowsAt, at_hand, cycles_apart, has_frame, row_ends, shows_at}
 use Rattle.world_law.proofs.rows.AtHand.{value_is}
 use Rattle.std.proofs.Common.{IsSomeAnd}

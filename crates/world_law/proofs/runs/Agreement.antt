@@ -1,18 +1,31 @@
--- What is due at a time is so in each scenario that agrees up to then.
-use Rattle.sync_state.specs.{membership.Summary.Summarizes}
-use Rattle.std.{proofs.lemmas.Bool.le-leb}
-use Rattle.run_law.{proofs.records.Order.in_drop, specs.{control.Corrections.standing_before, scenario.{Scenarios.{last_set, turns_on}}}}
-use Rattle.world_law.proofs.Words.{◌&&◌, ◌<◌, ◌==◌, ◌||◌, ◌∙◌, ◌∷◌, ◌≡◌, ◌≤◌, Agree, Bool, ComesToCorrection, DeviceId, Event}
-use Rattle.world_law.proofs.Words.{Happening, IfSome, IsIn, IsReach, List, Network, None, Option, Reaches, Sends, Some, Verdict, What}
-use Rattle.world_law.proofs.Words.{[], adjustment_before, after_last, amount, and_parts, ap, arith, both_ways, cases_Bool, cases_lt, changed_at}
-use Rattle.world_law.proofs.Words.{changes_adjustment, correction_value, earlier, eqb-true, false_from_ne_true, filter, filter_map, has_cleared}
-use Rattle.world_law.proofs.Words.{heard_since, hearing_by, if◌then◌else◌, in_filter, inl, inr, int_le, int_lt, ints, is_broken, is_integration_cycle}
-use Rattle.world_law.proofs.Words.{is_turned_on_at, last_or, le-ltb, list_any, local_at_change, lt-ltb, nat_le, nat_lt, next_cycle, next_point, not}
-use Rattle.world_law.proofs.Words.{option_map_or, pos, recorded_cycle, refl, same_kept, scenario, state_before, subst, sym, time_of, true, ℕ, ℤ}
+-- What is due at a time, and what causes it, is so in each scenario that agrees up to then.
+use Rattle.std.proofs.lemmas.Bool.{le-leb}
+use Rattle.run_law.{proofs.{law.FirstDeliveries.numbered_in, records.Order.in_drop}}
+use Rattle.run_law.specs.{control.{Corrections.standing_before, Leaving.departure}}
+use Rattle.run_law.specs.scenario.{Scenarios.{last_set, turns_on}}
+use Rattle.run_law.specs.scenario.{Ways.{cut_set, delay_at, hold_at, hold_set, wire_of, wire_set}}
+use Rattle.sync_state.specs.membership.Summary.{Summarizes}
+use Rattle.world_law.proofs.Words
+use Words.{if◌then◌else◌, ◌&&◌, ◌<◌, ◌==◌, ◌||◌, ◌∙◌, ◌∷◌, ◌≡◌, ◌≤◌, Agree, Arrival, Arrives, ArrivesAs}
+use Words.{BecomesPermanent, Bool, ChangesState, ComesToCorrection, Compressed, Departs, Departure, DeviceId}
+use Words.{Dispatches, Emits, Event, Happening, IfSome, IsArrivedRecord, IsCaused, IsDropped, IsIn, IsLost, IsReach}
+use Words.{Judgement, LinkId, List, Network, None, NoteBody, Option, Pcf, Reaches, Reason, Ripe, Send, Sends, Signal}
+use Words.{Some, State, Units, Up, Verdict, VlId, Way, What, Why, [], adjustment_at_hearing, adjustment_before}
+use Words.{after_last, amount, and_parts, ap, arith, arrival_of, before_permanence, both_ways, cases_Bool, cases_lt}
+use Words.{changed_at, changes_adjustment, control, correction_value, earlier, eqb-true, false, false_from_ne_true}
+use Words.{filter, filter_map, has_cleared, heard_as, heard_since, hearing_by, in_filter, inl, inr, int_le, int_lt}
+use Words.{ints, is_broken, is_cut, is_integration_cycle, is_turned_on_at, last_or, last_taken, launched, le-ltb}
+use Words.{list_any, local_at_change, lt-ltb, nat_le, nat_lt, next_cycle, next_point, not, numbered, observation_window}
+use Words.{option_map_or, plan_of, pos, recorded_cycle, refl, same_kept, scenario, standpoint, state_at_hearing}
+use Words.{state_before, subst, sym, time_of, timed, timed_arrival, true, way_from, ℕ, ℤ}
+use Rattle.run_law.specs.declared.judgement.Why.TheVariants as whys
+use Rattle.run_law.specs.declared.note.NoteBody.TheVariants as notes
+
+-- ---- what is due at a time is so in each scenario that agrees up to then
 
 -- ---- the events
 
-pub setting_same : {V : Type 0} {n : Network} {f g : DeviceId → ℕ → ℕ} {events more : List Event} {t : ℕ} (u : ℕ)
+setting_same : {V : Type 0} {n : Network} {f g : DeviceId → ℕ → ℕ} {events more : List Event} {t : ℕ} (u : ℕ)
     (setting : What → Option V) (initial : V) → Agree n f g events more t → u ≤ t
     → last_set (scenario n f events) setting initial u ≡ last_set (scenario n g more) setting initial u
 setting_same u setting initial a le =
@@ -40,7 +53,7 @@ module _ (n : Network) (f g : DeviceId → ℕ → ℕ) (events more : List Even
       λ x yes_it. at_time (turns_on device x.what) (amount x.time) u yes_it in
       any_kept p q events keeps ∙ ap (list_any p) (a.befell u le) ∙ sym (any_kept p q more keeps)
 
-  pub state_same : (hs : List Happening) {t : ℕ} (u : ℕ) (device : DeviceId) → Agree n f g events more t → u ≤ t
+  state_same : (hs : List Happening) {t : ℕ} (u : ℕ) (device : DeviceId) → Agree n f g events more t → u ≤ t
       → state_before (scenario n f events) hs device u ≡ state_before (scenario n g more) hs device u
   state_same hs u device a le =
       rw (turned_on_same u device a le)
@@ -113,7 +126,7 @@ module _ (n : Network) (f g : DeviceId → ℕ → ℕ) (events more : List Even
     not_before = λ x after lt. rw (a.reads device x (omega (arith, ints, lt, le))) at (r.not_before x after lt);
   }
 
-  pub reaches_same : {hs : List Happening} {t u : ℕ} {device : DeviceId} {v : ℤ} → Agree n f g events more t → u ≤ t
+  reaches_same : {hs : List Happening} {t u : ℕ} {device : DeviceId} {v : ℤ} → Agree n f g events more t → u ≤ t
       → Reaches (scenario n f events) hs device v u → Reaches (scenario n g more) hs device v u
   reaches_same {hs} {u} {device} {v} a le r = record {
     below = rw (local_same hs u device a le) at r.below;
@@ -128,11 +141,11 @@ module _ {n : Network} {f g : DeviceId → ℕ → ℕ} {events more : List Even
 
   -- ---- what is due
 
-  pub sends_same : {cycle : ℕ} → Agree n f g events more t → u ≤ t → Sends (scenario n f events) hs device u cycle
+  sends_same : {cycle : ℕ} → Agree n f g events more t → u ≤ t → Sends (scenario n f events) hs device u cycle
       → Sends (scenario n g more) hs device u cycle
   sends_same a le d = grind (arith, state_same, broken_same, reaches_same)
 
-  pub comes_same : {cycle : ℕ} {verdict : Verdict} → Agree n f g events more t → u ≤ t
+  comes_same : {cycle : ℕ} {verdict : Verdict} → Agree n f g events more t → u ≤ t
       → ((h : Happening) → IsIn h hs → time_of h ≤ t) → ComesToCorrection
       (scenario n f events) hs device u cycle verdict → ComesToCorrection
       (scenario n g more) hs device u cycle verdict
@@ -146,3 +159,202 @@ module _ {n : Network} {f g : DeviceId → ℕ → ℕ} {events more : List Even
         heard = subst (Summarizes d.summary) (heard_same n f g events more hs t u device a le all) d.heard;
         comes = rw same at d.comes;
       }
+
+-- ---- what causes a record at a time causes it in each scenario that agrees up to then
+
+-- no record of the list is later than the time
+abbrev pub AreUpTo : ℕ → List Happening → Type 0
+AreUpTo t hs = (h : Happening) → IsIn h hs → time_of h ≤ t
+
+sooner : (t : ℕ) (hs : List Happening) (number : ℕ) (h : Happening) → AreUpTo t hs → numbered hs number ≡ Some h → time_of h ≤ t
+sooner t hs number h all there = all h (numbered_in hs number h there)
+
+-- ---- ways
+
+module _ (n : Network) (f g : DeviceId → ℕ → ℕ) (events more : List Event) (t u : ℕ) where
+  cut_same : (link : LinkId) (way : Way) → Agree n f g events more t → u ≤ t
+      → is_cut (scenario n f events) link way u ≡ is_cut (scenario n g more) link way u
+  cut_same link way a le = setting_same u (cut_set link way) false a le
+
+  pub hold_same : (link : LinkId) (way : Way) → Agree n f g events more t → u ≤ t
+      → hold_at (scenario n f events) link way u ≡ hold_at (scenario n g more) link way u
+  hold_same link way a le = setting_same u (hold_set link way) 0 a le
+
+  delay_same : (link : LinkId) (way : Way) → Agree n f g events more t → u ≤ t
+      → delay_at (scenario n f events) link way u ≡ delay_at (scenario n g more) link way u
+  delay_same link way a le = setting_same u (wire_set link way) (wire_of n link) a le
+
+  launched_same : (h : Happening) (body : NoteBody) → Agree n f g events more t → u ≤ t
+      → launched (scenario n f events) h u body ≡ launched (scenario n g more) h u body
+  launched_same h (notes.Event line (Send link octets)) a le =
+      rw (cut_same link Up a le)
+  launched_same h (notes.Left device link cause clock) a le = refl
+  launched_same h (notes.TtSent device link cause vl cycle) a le = refl
+  launched_same h other a le = refl
+
+pub arrives_same : {n : Network} {f g : DeviceId → ℕ → ℕ} {events more : List Event} {t : ℕ} (h : Happening)
+    (device : DeviceId) (link : LinkId) (at : ℕ) (signal : Signal) → Agree n f g events more t → time_of h ≤ t
+    → Arrives (scenario n f events) h device link at signal → Arrives (scenario n g more) h device link at signal
+arrives_same h device link at signal a le x = grind (arith, launched_same, time_of, delay_same)
+
+-- ---- what arrives
+
+module _ (n : Network) (f g : DeviceId → ℕ → ℕ) (events more : List Event) (hs : List Happening) (t u : ℕ)
+    (device : DeviceId) where
+  standpoint_same : Agree n f g events more t → u ≤ t → standpoint (scenario n f events) hs device u
+      ≡ standpoint (scenario n g more) hs device u
+  standpoint_same a le =
+      grind (arith, not, adjustment_before, scenario, is_broken, state_same, state_before, broken_same)
+
+  judged_same : (link : LinkId) (cause : ℕ) (signal : Signal) → Agree n f g events more t → u ≤ t
+      → arrival_of (scenario n f events) hs device u link cause signal
+      ≡ arrival_of (scenario n g more) hs device u link cause signal
+  judged_same link cause (control frame) a le =
+      rw (standpoint_same a le)
+  judged_same link cause (timed octets) a le =
+      ap (λ p. timed_arrival n device link p octets (last_taken hs device u link cause))
+      (standpoint_same a le)
+
+module _ (n : Network) (f g : DeviceId → ℕ → ℕ) (events more : List Event) (hs : List Happening) (t u : ℕ)
+    (device : DeviceId) where
+  arrival_same : {link : LinkId} {cause : ℕ} {is : Arrival} → Agree n f g events more t → u ≤ t → AreUpTo t hs
+      → ArrivesAs (scenario n f events) hs device u link cause is
+      → ArrivesAs (scenario n g more) hs device u link cause is
+  arrival_same a le all x = grind (arith, arrives_same, sooner, judged_same)
+
+  -- ---- what ripens
+
+  hearing_state_same : Agree n f g events more t → u ≤ t
+      → state_at_hearing (scenario n f events) hs device u ≡ state_at_hearing (scenario n g more) hs device u
+  hearing_state_same a le =
+      rw (state_same n f g events more hs u device a le)
+
+module _ {n : Network} {f g : DeviceId → ℕ → ℕ} {events more : List Event} {hs : List Happening} {t u : ℕ}
+    {device : DeviceId} where
+  ripens_same : {link : LinkId} {cause : ℕ} {point : Units} {is : Ripe} → Agree n f g events more t → u ≤ t
+      → AreUpTo t hs → BecomesPermanent (scenario n f events) hs device u link cause point is
+      → BecomesPermanent (scenario n g more) hs device u link cause point is
+  ripens_same {link} {cause} {point} {is} a le all x =
+      let p = x.permanent in
+      record {
+        frame = x.frame;
+        permanent = record {
+          arrival = p.arrival;
+          there = p.there;
+          from = p.from;
+          clock = p.clock;
+          arrived = p.arrived;
+          of_frame = p.of_frame;
+          waits = p.waits;
+          at_point =
+              p.at_point ∙ (rw (a.reads device (time_of p.arrival) (sooner t hs cause p.arrival all p.there)));
+          reached = reach_same n f g events more u device a le p.reached;
+          correct = sym (broken_same u device a le) ∙ p.correct;
+        };
+        becomes =
+            let judged = before_permanence hs device u link cause x.frame point in
+            rw (hearing_state_same n f g events more judged t u device a le) at x.becomes;
+      }
+
+  emits_same : {sent : Compressed} {verdict : Judgement} → Agree n f g events more t → u ≤ t
+      → Emits (scenario n f events) hs device u sent verdict → Emits (scenario n g more) hs device u sent verdict
+  emits_same a le x =
+      grind (arith, broken_same, reach_same, heard_as, plan_of, observation_window, adjustment_at_hearing, scenario, hearing_state_same)
+
+-- ---- what leaves, and what is dispatched
+
+departure_same : {n : Network} {f g : DeviceId → ℕ → ℕ} {events more : List Event} {t : ℕ} (given u : ℕ)
+    (device : DeviceId) (link : LinkId) (frame : Pcf) → Agree n f g events more t → given ≤ t → u ≤ t
+    → departure (scenario n f events) device link frame given u
+    ≡ departure (scenario n g more) device link frame given u
+departure_same given u device link frame a from le = grind (arith, nat_lt, amount, is_cut, scenario, way_from, cut_same)
+
+module _ (n : Network) (f g : DeviceId → ℕ → ℕ) (events more : List Event) (hs : List Happening) (t u : ℕ)
+    (device : DeviceId) where
+  departs_same : {link : LinkId} {cause : ℕ} {is : Departure} → Agree n f g events more t → u ≤ t → AreUpTo t hs
+      → Departs (scenario n f events) hs device u link cause is
+      → Departs (scenario n g more) hs device u link cause is
+  departs_same a le all x = grind (arith, sooner, time_of, hold_same, way_from, broken_same, departure_same)
+
+  dispatches_same : {link : LinkId} {cause : ℕ} {vl : VlId} {cycle : ℕ} → Agree n f g events more t → u ≤ t
+      → Dispatches (scenario n f events) hs device u link cause vl cycle
+      → Dispatches (scenario n g more) hs device u link cause vl cycle
+  dispatches_same a le x = grind (arith, state_same, broken_same, reaches_same)
+
+  changes_same : (state : State) (cause : ℕ) (why : Why) → Agree n f g events more t → u ≤ t → AreUpTo t hs
+      → ChangesState (scenario n f events) hs device u state cause why
+      → ChangesState (scenario n g more) hs device u state cause why
+  changes_same state cause whys.On a le all c = (c.0, sym (broken_same u device a le) ∙ c.1, c.2)
+  changes_same state cause whys.Frame a le all c = c
+  changes_same state cause whys.Correction a le all c =
+      (c.0, sym (state_same n f g events more hs u device a le) ∙ c.1, c.2)
+  changes_same state cause whys.SyncClique a le all c =
+      (c.0, c.1, (c.2.0, comes_same hs u device a le all c.2.1))
+  changes_same state cause whys.AsyncClique a le all c =
+      (c.0, c.1, (c.2.0, comes_same hs u device a le all c.2.1))
+
+  lost_same : {link : LinkId} {cause : ℕ} → Agree n f g events more t → u ≤ t → AreUpTo t hs
+      → IsLost (scenario n f events) hs device u link cause → IsLost (scenario n g more) hs device u link cause
+  lost_same a le all (inl d) = inl (departs_same a le all d)
+  lost_same {link} a le all (inr (inl d)) =
+      inr (inl (d.0, d.1, dispatches_same a le d.2, sym (cut_same n f g events more t u link _ a le) ∙ d.3))
+  lost_same a le all (inr (inr l)) = grind (arith, cut_same)
+
+  dropped_same : {link : LinkId} {cause : ℕ} (reason : Reason) → Agree n f g events more t → u ≤ t → AreUpTo t hs
+      → IsDropped (scenario n f events) hs device u link cause reason
+      → IsDropped (scenario n g more) hs device u link cause reason
+  dropped_same reason a le all (inl x) = inl (arrival_same n f g events more hs t u device a le all x)
+  dropped_same reason a le all (inr (inl x)) =
+      inr (inl (x.0, ripens_same a le all x.1))
+  dropped_same reason a le all (inr (inr x)) =
+      inr (inr (departs_same a le all x.0, x.1))
+
+  arrived_same : {link : LinkId} {cause clock : ℕ} → Agree n f g events more t → u ≤ t → AreUpTo t hs
+      → IsArrivedRecord (scenario n f events) hs device u link cause clock
+      → IsArrivedRecord (scenario n g more) hs device u link cause clock
+  arrived_same a le all x = record {
+    frame = x.frame;
+    point = x.point;
+    way = x.way;
+    taken = elim x.taken [
+      | inl w ↦ inl (arrival_same n f g events more hs t u device a le all w)
+      | inr (inl p) ↦ inr (inl (arrival_same n f g events more hs t u device a le all p))
+      | inr (inr b) ↦ inr (inr (arrival_same n f g events more hs t u device a le all b))
+    ];
+    shows = x.shows;
+  }
+
+-- it is no record of an event, nor of a clock
+abbrev pub IsOwn : NoteBody → Type 0
+IsOwn (notes.Event line what) = ⊥
+IsOwn (notes.Clock device reading adjustment state) = ⊥
+IsOwn other = Unit {0}
+
+module _ {n : Network} {f g : DeviceId → ℕ → ℕ} {events more : List Event} (hs : List Happening) {t : ℕ}
+    (time : Units) where
+  -- what causes a record, but of an event and of a clock, up to the time, causes it in each scenario that agrees
+  pub caused_same : (body : NoteBody) → Agree n f g events more t → amount time ≤ t → AreUpTo t hs → IsOwn body
+      → IsCaused (scenario n f events) hs time body → IsCaused (scenario n g more) hs time body
+  caused_same (notes.Event line what) a le all it c = absurd it
+  caused_same (notes.Clock device reading adjustment state) a le all it c = absurd it
+  caused_same (notes.Arrived device link cause clock) a le all it c =
+      arrived_same n f g events more hs t _ device a le all c
+  caused_same (notes.Permanent device link cause point verdict) a le all it c =
+      ripens_same a le all c
+  caused_same (notes.Compressed device opened at cycle members verdict) a le all it c =
+      emits_same a le c
+  caused_same (notes.Sent device cycle) a le all it c = sends_same hs _ device a le c
+  caused_same (notes.Corrected device cycle by adjustment) a le all it c =
+      record { corrected = comes_same hs _ device a le all c.corrected; sum = c.sum }
+  caused_same (notes.State device state cause why) a le all it c =
+      changes_same n f g events more hs t _ device state cause why a le all c
+  caused_same (notes.Left device link cause clock) a le all it c =
+      departs_same n f g events more hs t _ device a le all c
+  caused_same (notes.Lost device link cause) a le all it c = lost_same n f g events more hs t _ device a le all c
+  caused_same (notes.TtSent device link cause vl cycle) a le all it c = grind (arith, dispatches_same, cut_same)
+  caused_same (notes.Accepted device link cause vl cycle) a le all it c =
+      arrival_same n f g events more hs t _ device a le all c
+  caused_same (notes.Delivered device link cause vl cycle) a le all it c =
+      arrival_same n f g events more hs t _ device a le all c
+  caused_same (notes.Dropped device link cause reason) a le all it c =
+      dropped_same n f g events more hs t _ device reason a le all c

@@ -1,25 +1,33 @@
--- No source is before what a world has under way, also while one is worked off and its record not given.
-use Rattle.std.{proofs.Common.◌↔◌, specs.Prelude.unsigned_abs}
+-- No source is before what a world has under way, and runs up to an event stay under what comes behind it.
+use Rattle.std.{proofs.{Common.◌↔◌, lemmas.List.Elements.Contains-append_cases}}
+use Rattle.std.{specs.{List.Contains, Prelude.unsigned_abs}}
 use Rattle.drift_clock.proofs.Drifts.{one_reach}
-use Rattle.net_plan.specs.Ranges.{IsInRange}
+use Rattle.net_plan.specs.{Ranges.IsInRange, declared.event.What.TheVariants.End}
 use Rattle.run_law.{proofs.law.FirstDeliveries.numbered_in}
 use Rattle.run_law.{specs.{runs.DueRecords.EndsAt, scenario.Scenarios.{is_broken, turns_on}}}
 use Rattle.schedule_tables.specs.Rules.{KeepsRules}
 use Rattle.tte_units.specs.declared.units.Units.{Units}
 use Rattle.world_law.proofs.{acts.Acting.{IsUnmoved, correcting_task, emitting_task, sending_task}}
 use Rattle.world_law.proofs.{giving.GivenParts.{in_get, no_later_breaks, some_same}}
-use Rattle.world_law.proofs.{runs.Worlds.{AreSettled, arrives_later, coming_of, run_to, settled_of}}
 use Rattle.world_law.proofs.Words
-use Words.{◌&&◌, ◌++◌, ◌+◌, ◌<◌, ◌==◌, ◌^◌, ◌∙◌, ◌∷◌, ◌≡◌, ◌≤ℤ◌, ◌≤◌, AreAtPorts, AreOfNetwork, AreOnWires, AreWaiting}
-use Words.{Bool, DeviceId, Dispatches, Happening, HasDone, HasSent, HasTaskAt, HaveBefallen, IsActing, IsAtRest}
-use Words.{IsBefore, IsForward, IsHeld, IsIn, IsLeft, IsScenarioRun, IsSource, LinkId, List, Network, Node, Note}
-use Words.{NoteBody, Scenario, Some, Stands, Task, VlId, Waiting, World, [], amount, ap, arith, behind, both_ways}
-use Words.{cases_Bool, cases_lt, chain, clock_place, dispatching, doing, eqb-true, false, false_from_ne_true}
-use Words.{happenings, inl, inr, is_turned_on_at, length, list_any, moves, numbers_end, place_of, pos, refl, ripe_place}
-use Words.{slice_get, slice_get_within, sym, task_place, time_of, true, ℕ}
-use Rattle.world_law.specs.{device.Ready.IsSteady, source.Sources.IsRipening}
+use Words.{◌&&◌, ◌++◌, ◌+◌, ◌-◌, ◌<◌, ◌==◌, ◌^◌, ◌∙◌, ◌∷◌, ◌≡◌, ◌≤ℤ◌, ◌≤◌, ◌⊎◌, AllBefore, AreAtPorts, AreOfNetwork}
+use Words.{AreOnWires, AreWaiting, Bool, DeviceId, Dispatches, Event, Happening, HasDone, HasSent, HasTaskAt}
+use Words.{HaveBefallen, IsActing, IsAtRest, IsBefore, IsCaused, IsDue, IsEventRecord, IsForward, IsHeld, IsIn, IsLeft}
+use Words.{IsScenarioRun, IsSource, LinkId, List, Network, Node, Note, NoteBody, Scenario, Some, Stands, Task, VlId}
+use Words.{Waiting, What, World, [], amount, ap, arith, behind, both_ways, cases_Bool, cases_lt, chain, clock_place}
+use Words.{dispatching, doing, eqb-true, false, false_from_ne_true, happenings, in_front, in_right, inl, inr}
+use Words.{is_turned_on_at, key, length, list_any, members_in, moves, numbers_end, place_of, pos, rank, refl}
+use Words.{ripe_place, scenario, slice_get, slice_get_within, subst, suc, sym, task_place, time_of, true, zero, ℕ}
+use Rattle.world_law.proofs.runs.{Agreement.caused_same}
+use Rattle.world_law.proofs.runs.Worlds
+use Worlds.{AreSettled, agree_back, arrives_later, clock_cause, coming_of, earlier_by_rank, event_cause, event_place}
+use Worlds.{kinds, run_to, settled_of, up_to_it}
+use Rattle.world_law.specs.{device.Ready.IsSteady}
+use Rattle.world_law.specs.{source.{Applying.{MayFollow, RunStaysUnderMore, place_of_event}, Sources.IsRipening}}
 use Rattle.world_law.specs.world.{Moves.{NothingBefore, StandsAt}}
 use Rattle.world_law.specs.world.{World.{AreStored, AreUntold, AreWays, IsClockOf, IsWaitingFor}}
+
+-- ---- no source is before what a world has under way, also while one is worked off and its record not given
 
 -- ---- where nothing that a world has under way is before a place, no source that is not worked off is, but for acts
 
@@ -265,3 +273,107 @@ module _ {C M : Type 0} {reading : C → ℕ → ℕ} {stands : M → Network �
     },
     refl,
   )
+
+-- ---- a run up to the record of an event is the same under this event and those behind it
+
+-- what stands in two lists behind each other stands in one of them
+get_parts : {X : Type 0} (xs ys : List X) (x : X) (i : ℕ) → slice_get (xs ++ ys) i ≡ Some x
+    → (slice_get xs i ≡ Some x) ⊎ ((length xs ≤ i) × (slice_get ys (i - length xs) ≡ Some x))
+get_parts [] ys x i e =
+    let same : i ≡ i - 0 = omega arith in inr (omega arith, rw same at e)
+get_parts (z ∷ xs) ys x zero e = inl e
+get_parts (z ∷ xs) ys x (suc i) e = grind (arith, length, slice_get, (get_parts xs ys x i e))
+
+-- an event's record that is before that of the next event is one of those before
+old_event : (events others : List Event) (event : Event) (y : Happening) {line : ℕ} {what : What}
+    → ((i : ℕ) (e : Event) → slice_get (event ∷ others) i ≡ Some e → amount event.time ≤ amount e.time)
+    → IsEventRecord (events ++ event ∷ others) y.note.time line what
+    → IsBefore (time_of y ∷ 1 ∷ line ∷ []) (place_of_event events event) → IsEventRecord events y.note.time line what
+old_event events others event y order r b = grind (arith, get_parts, length, time_of, amount)
+
+contains_get : {X : Type 0} (xs : List X) (x : X) → Contains xs x → (i : ℕ) × (slice_get xs i ≡ Some x)
+contains_get [] x there = absurd (omega (arith, there.1))
+contains_get (y ∷ ys) x (zero, lt, e) = (0, ap Some e)
+contains_get (y ∷ ys) x (suc i, lt, e) = let more = contains_get ys x (i, omega arith, e) in (suc more.0, more.1)
+
+-- a clock's record is that of the end, which is none of the events before, and no later event is before its time
+no_clock : (events others : List Event) (event : Event) (time : Units) → ((time : Units) → EndsAt events time → ⊥)
+    → ((i : ℕ) (e : Event) → slice_get (event ∷ others) i ≡ Some e → amount event.time ≤ amount e.time)
+    → EndsAt (events ++ event ∷ others) time → amount time < amount event.time → ⊥
+no_clock events others event time running order ends lt =
+    elim (Contains-append_cases events (event ∷ others) (record { time = time; what = End }) ends) [
+      | inl old ↦ running time old
+      | inr new ↦ let there = contains_get (event ∷ others) _ new in let late = order there.0 _ there.1 in omega arith
+    ]
+
+module _ {n : Network} {f g : DeviceId → ℕ → ℕ} {events others : List Event} {event : Event} {mark : List ℕ}
+    (may : MayFollow n f g events event others mark) {ps : List Happening} {y : Happening}
+    (here : IsBefore (place_of y) mark) where
+  due_on : AllBefore place_of ps (place_of y) → IsDue (scenario n f events) ps y
+      → IsDue (scenario n g (events ++ event ∷ others)) ps y
+  due_on before due = record {
+    number = due.number;
+    same = due.same;
+    begun = due.begun;
+    cause = elim (kinds y.note.body) [
+      | inl it ↦
+          let found = event_cause (scenario n f events) ps y.note.time y.note.body it due.cause in
+          let r = found.3 in
+          let still : IsEventRecord (events ++ event ∷ others) y.note.time found.0 found.1 = record {
+            event = r.event;
+            before = r.before;
+            line_is = r.line_is;
+            is = in_front events (event ∷ others) r.before r.event r.is;
+            at = r.at;
+            same = r.same;
+          } in
+          subst (IsCaused (scenario n g (events ++ event ∷ others)) ps y.note.time) (sym found.2) still
+      | inr (inl clock) ↦ absurd (may.running y.note.time
+          (clock_cause (scenario n f events) ps y.note.time y.note.body clock due.cause))
+      | inr (inr own) ↦
+          let lt = earlier_by_rank (time_of y) (rank y.note.body) (amount event.time) (length events + 1)
+          (key (members_in y) y.note.body) own.1
+          (may.sooner (place_of y) here) in
+          caused_same ps y.note.time y.note.body
+          (may.agree (time_of y) lt) (omega arith)
+          (up_to_it ps y before) own.0 due.cause
+    ];
+  }
+
+  due_back : AllBefore place_of ps (place_of y) → IsDue (scenario n g (events ++ event ∷ others)) ps y
+      → IsDue (scenario n f events) ps y
+  due_back before due = record {
+    number = due.number;
+    same = due.same;
+    begun = due.begun;
+    cause = elim (kinds y.note.body) [
+      | inl it ↦
+          let found = event_cause (scenario n g (events ++ event ∷ others)) ps y.note.time y.note.body it due.cause in
+          let at = event_place y found.0 found.1 found.2 in
+          let old = old_event events others event y may.in_order found.3
+          (subst (λ p. IsBefore p (place_of_event events event)) at (may.sooner (place_of y) here)) in
+          subst (IsCaused (scenario n f events) ps y.note.time) (sym found.2) old
+      | inr (inl clock) ↦
+          let lt = earlier_by_rank (time_of y) (rank y.note.body) (amount event.time) (length events + 1)
+          (key (members_in y) y.note.body)
+          (omega arith) (may.sooner (place_of y) here) in
+          absurd (no_clock events others event y.note.time may.running may.in_order
+          (clock_cause (scenario n g (events ++ event ∷ others)) ps y.note.time y.note.body clock due.cause) lt)
+      | inr (inr own) ↦
+          let lt = earlier_by_rank (time_of y) (rank y.note.body) (amount event.time) (length events + 1)
+          (key (members_in y) y.note.body) own.1
+          (may.sooner (place_of y) here) in
+          caused_same ps y.note.time y.note.body
+          (agree_back (may.agree (time_of y) lt)) (omega arith) (up_to_it ps y before) own.0 due.cause
+    ];
+  }
+
+pub run_stays_under_more : RunStaysUnderMore
+run_stays_under_more n f g events event others mark ns may run = record {
+  founded = λ ps qs y e.
+      let was = run.founded ps qs y e in
+      (was.0, due_on may (run.within y (rw e (in_right y ps (y ∷ qs) (inl refl)))) was.0 was.1);
+  full = λ ps qs y e before rest due lt.
+      run.full ps qs y e before rest (due_back may lt before due) lt;
+  within = run.within;
+}

@@ -1,11 +1,13 @@
 -- A world and its run: what it gives next is the next record, and all that is due has a source.
-use Rattle.std.proofs.lemmas.List.Elements.{Contains-push_cases}
+use Rattle.std.proofs.{Common.arith, lemmas.List.Elements.Contains-push_cases}
 use Rattle.run_law.proofs.{law.FirstDeliveries.at_length, records.Order.time_before}
 use Rattle.run_law.proofs.{runs.{Grow.{grow, move_mark}, NetworkRuns.{one_more, run_goes_on, same_notes}}}
-use Rattle.run_law.specs.{records.Happenings.frame_from, runs.{DueRecords.EndsAt, Runs.IsRun}, scenario.Ways.hold_at}
+use Rattle.run_law.specs.{records.Happenings.frame_from}
+use Rattle.run_law.specs.{runs.{DueRecords.EndsAt, Runs.{IsNextOf, IsRun, NothingDueUpTo}}, scenario.Ways.hold_at}
 use Rattle.run_law.specs.{timed.Dispatching.IsUp}
 use Rattle.tte_units.proofs.general_lemmas.Lists.{pushed}
 use Rattle.world_law.proofs.{devices.Unmoved.earlier_no, lists.Lists.{behind_no, behind_yes, map_none}}
+use Rattle.world_law.proofs.{runs.{Agreement.{AreUpTo, IsOwn, caused_same}, TaskPlaces.placed_so}}
 use Rattle.world_law.proofs.Words
 use Words.{if◌then◌else◌, ◌++◌, ◌+◌, ◌<◌, ◌∙◌, ◌∷◌, ◌≡◌, ◌≤◌, ◌⊎◌, Agree, AllBefore, AreComing, Arrival, Arrives}
 use Words.{ArrivesAs, BecomesPermanent, Bool, ChangesState, ComesToCorrection, Departs, Departure, DeviceId, Dispatches}
@@ -13,21 +15,50 @@ use Words.{Emits, Event, Gives, Happening, Integrating, IsActing, IsArrivedRecor
 use Words.{IsDropped, IsDue, IsEventRecord, IsForward, IsIn, IsLost, IsOfThisTime, IsOwnSource, IsScenarioRun, IsSource}
 use Words.{IsWorkedOff, LinkId, List, Network, NoSourceBefore, None, NoneBefore, Note, NoteBody, Reaches, Reason, Ripe}
 use Words.{Scenario, Signal, Some, Standing, State, Task, Units, Verdict, What, Why, [], adjustment_after}
-use Words.{adjustment_at_hearing, after_last, amount, ap, append-nil, append_assoc, arith, before_behind, before_later}
+use Words.{adjustment_at_hearing, after_last, amount, ap, append-nil, append_assoc, before_behind, before_later}
 use Words.{before_or_not, behind, both_ways, cases_Bool, cases_lt, chain, correcting, dispatching, doing, earlier}
 use Words.{emitting, ends_stretch, false, filter, filter-append, frame_by, happening, happenings, heard_as, in_front}
 use Words.{in_right, inl, inr, integration_cycle, ints, is_accepted, is_at_source, is_turned_on_at, key, last_or}
 use Words.{length, length-map, members_in, nat_lt, never_self, no_cluster, numbered, observation_window, option_map_or}
 use Words.{parted, place_of, plan_of, point_by, points_of, rank, refl, scenario, sending, slice_get, slice_get_within}
 use Words.{state_after, state_at_hearing, subst, suc, sym, time_of, true, way_from, zero, ℕ, ℤ}
-use Rattle.world_law.proofs.runs.{Next.{is_next, none_due}, SameCauses.{AreUpTo, IsOwn, caused_same}}
-use Rattle.world_law.proofs.runs.{TaskPlaces.placed_so}
 use Rattle.world_law.specs.{device.Told.next_in}
 use Rattle.world_law.specs.{world.World.{AreUntold, Befell, FirstSettledIsNext, IsDueAs, NothingSettledIsAll, note_of}}
 use Rattle.world_law.specs.source.{Applying.{IsEventBody, MayBefall, RunGoesOnByEvent, note_of_event, place_of_event}}
 use Rattle.world_law.specs.source.{Next.NoneDueBefore, Sources.{IsArriving, IsDeparting, IsRipening, IsSourced}}
 use Rattle.run_law.specs.declared.judgement.Why.TheVariants as whys
 use Rattle.run_law.specs.declared.note.NoteBody.TheVariants as notes
+
+-- ---- what is next in a run: the first of what is due behind all of it
+
+behind_mark : {N : Type 0} (place : N → List ℕ) (IsDue : List N → N → Type 0) (mark : List ℕ) {ns : List N} (p : List ℕ)
+    → AllBefore place ns mark
+    → NoneDueBefore place IsDue mark ns p
+    → (ps qs : List N) (y : N) → ns ≡ ps ++ qs → AllBefore place ps (place y) → NoneBefore place qs (place y) → IsDue ps y → IsBefore (place y) p
+    → (IsBefore (place y) mark → ⊥) → ⊥
+behind_mark {N} place IsDue mark p within none ps [] y e before rest due here not =
+    none y (rw (sym (append-nil ps) ∙ sym e) at due) not here
+behind_mark {N} place IsDue mark p within none ps (q ∷ qs) y e before rest due here not =
+    rest q (inl refl) (before_later (place q) (place y) mark (within q (rw e (in_right q ps (q ∷ qs) (inl refl)))) not)
+
+-- where none that is due behind the mark is before the place, none is due up to it
+pub none_due : {N : Type 0} (place : N → List ℕ) (IsDue : List N → N → Type 0) (mark : List ℕ) (ns : List N) (p : List ℕ) → AllBefore place ns mark
+    → NoneDueBefore place IsDue mark ns p → NothingDueUpTo place IsDue mark ns p
+none_due {N} place IsDue mark ns p within none = record {
+  gap = λ ps qs y e before rest due here.
+      elim (before_or_not (place y) mark) [
+        | inl lt ↦ lt
+        | inr not ↦ absurd (behind_mark place IsDue mark p within none ps qs y e before rest due here not)
+      ];
+}
+
+-- a record that is due behind the mark is next, where none is due before it
+is_next : {N : Type 0} {place : N → List ℕ} (IsDue : List N → N → Type 0) {mark : List ℕ} {ns : List N} (x : N)
+    → IsRun place IsDue mark ns → (IsBefore (place x) mark → ⊥) → IsDue ns x
+    → NoneDueBefore place IsDue mark ns (place x) → IsNextOf place IsDue mark ns x
+is_next IsDue x run not due none = grind (arith, before_later, none_due)
+
+-- ---- a world and its run: what it gives next is the next record, and all that is due has a source
 
 -- ---- a run goes on by the record of an event
 

@@ -1,4 +1,3 @@
 -- What comes of the events of an instant is settled.
 pub mod EventRecords
-pub mod Bodies
 pub mod Befell

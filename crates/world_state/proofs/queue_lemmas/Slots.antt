@@ -12,7 +12,7 @@ use Rattle.std.specs.{BinaryHeap.{IsUpperBound, KeepsHeap, PopsGreatest}}
 use Rattle.std.specs.{List.{AllByRecursion, IsDistinct, Sorted.IsPermutation, cons_option, filter_map}}
 use Rattle.std.specs.{Option.{option_copied, option_map, unwrap_or}, Ordering.{is_lt, nat_cmp, ordering_then}}
 use Rattle.std.specs.{Prelude.IfSome, declared.cmp.{Ordering.{Ordering, TheVariants.{Equal, Less}}, Reverse.Reverse}}
-use Rattle.run_law.{proofs.{records.Order.{contains, given_of, is_given}, runs.Places.in_parts}}
+use Rattle.run_law.proofs.{records.Order.{contains, given_of, is_given}, runs.Places.in_parts}
 use Rattle.run_law.{specs.records.Order.{IsBefore, IsIn}}
 use Rattle.slab.specs.Slab.{Slab, Updates, get}
 use Rattle.tte_units.proofs.general_lemmas.Naturals.{flips}

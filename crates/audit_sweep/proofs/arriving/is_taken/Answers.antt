@@ -1,4 +1,4 @@
-use Rattle.audit_sweep.proofs.{Comings.{comes, taken, takes}, Words.scenario_under}
+use Rattle.audit_sweep.proofs.{Lacks.{comes, taken, takes}, Words.scenario_under}
 use Rattle.audit_sweep.proofs.arriving.is_taken.Goals as goal
 
 pub returns-in-Some : goal.returns-in-Some

@@ -1,4 +1,4 @@
-use Rattle.audit_sweep.proofs.{Comings.coming, Words.scenario_under}
+use Rattle.audit_sweep.proofs.{Lacks.coming, Words.scenario_under}
 use Rattle.audit_sweep.proofs.arriving.signal.Goals as goal
 
 pub returns-in-Some : goal.returns-in-Some

@@ -1,5 +1,5 @@
 use Rattle.{audit_devices.specs.Keeping.records_before, sync_state.specs.membership.Summary.Summarizes}
-use Rattle.audit_sweep.proofs.{Hearings.{heard_before_corrections, unchanged_before}}
+use Rattle.audit_sweep.proofs.Lacks.{heard_before_corrections, unchanged_before}
 use Rattle.audit_sweep.proofs.{Words.{◌∷◌, [], refl, scenario_under, subst}}
 use Rattle.audit_sweep.proofs.clocks.heard.Goals as goal
 

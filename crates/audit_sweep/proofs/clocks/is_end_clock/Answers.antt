@@ -1,4 +1,6 @@
-use Rattle.{audit_devices.specs.Showing.Shows, run_law.{proofs.records.Order.all_kept, specs.records.Happenings.up_to}, std.proofs.lemmas.Bool.le-leb}
+use Rattle.std.proofs.lemmas.Bool.{le-leb}
+use Rattle.audit_devices.specs.Showing.{Shows}
+use Rattle.run_law.{proofs.records.Order.all_kept, specs.records.Happenings.up_to}
 use Rattle.audit_sweep.proofs.Words.{◌∙◌, ◌≡◌, Happening, amount, ap, clock_reading, refl, scenario_under, subst, sym, time_of}
 use Rattle.std.specs.Prelude.{nat_le}
 use Rattle.audit_sweep.proofs.clocks.is_end_clock.Goals as goal

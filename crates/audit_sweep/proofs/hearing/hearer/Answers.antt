@@ -1,6 +1,6 @@
 use Rattle.std.{proofs.{Common.rules, lemmas.Int.to_z-of_z}, specs.Int.w128}
-use Rattle.audit_devices.proofs.Steps.{hearing_adjustment}
-use Rattle.audit_sweep.proofs.{Hearings.{none_later, only_joined}, Words.{◌∙◌, refl, scenario_under, subst, sym}}
+use Rattle.audit_devices.proofs.Kept.{hearing_adjustment}
+use Rattle.audit_sweep.proofs.{Lacks.{none_later, only_joined}, Words.{◌∙◌, refl, scenario_under, subst, sym}}
 use Rattle.device_rules.specs.Widths.{IsWide}
 use Rattle.audit_sweep.proofs.hearing.hearer.Goals as goal
 

@@ -1,5 +1,6 @@
-use Rattle.{audit_devices.specs.stretches.Points.HasPoints, run_law.{proofs.control.Joined.earlier_before, specs.declared.note.NoteBody.TheVariants.Permanent}}
-use Rattle.audit_sweep.proofs.{Hearings.heard_before}
+use Rattle.audit_devices.specs.stretches.Points.{HasPoints}
+use Rattle.audit_sweep.proofs.Lacks.{heard_before}
+use Rattle.run_law.{proofs.control.Verdicts.earlier_before, specs.declared.note.NoteBody.TheVariants.Permanent}
 use Rattle.audit_sweep.proofs.{Words.{◌∷◌, ◌≡◌, arith, key, points_of, refl, scenario_under, subst, sym, true}}
 use Rattle.run_law.specs.{control.Permanence.{IsJudgedBy, before_permanence}, declared.judgement.Judgement.TheVariants.Ignored, scenario.Devices.is_cm}
 use Rattle.audit_sweep.proofs.hearing.ripening.Goals as goal

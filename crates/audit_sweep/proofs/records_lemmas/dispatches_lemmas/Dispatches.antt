@@ -8,7 +8,7 @@ use Rattle.std.proofs.lemmas.{Bool.{and_parts, cases_lt, eq-eqb, eqb-true, false
 use Rattle.std.proofs.lemmas.{Nat.{div-add-mod', mod-mul-add}, Option.{same_Some, slice_get_past, slice_get_within}}
 use Rattle.std.specs.{List.last_or, Option.option_map_or}
 use Rattle.std.specs.{Prelude.{◌&&◌, ◌==◌, ◌||◌, is_some, not, option_and_then, option_map}}
-use Rattle.audit_devices.{proofs.clocks_lemmas.Reached.{come_reaches, reaches_come}}
+use Rattle.audit_devices.proofs.clocks_lemmas.Reached.{come_reaches, reaches_come}
 use Rattle.audit_devices.specs.{Showing.{IsSteady, Shown, Shows}, Taking.{taken_at, taken_by, taking_of}}
 use Rattle.audit_devices.specs.{clocks.Finding.{CrossesAt, IsNextOrNone, NoneCrossed, value_in}}
 use Rattle.audit_devices.specs.{declared.{clocks.finding.{Crossed.Crossed, Series.Series}, taking.Taking.Taking}}

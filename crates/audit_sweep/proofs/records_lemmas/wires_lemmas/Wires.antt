@@ -23,7 +23,7 @@ use Rattle.net_plan.specs.declared.{event.Event.Event, ids.{DeviceId.DeviceId, L
 use Rattle.net_plan.specs.declared.{tables.{Link.Link, Way.{TheVariants.Up, Way}}}
 use Rattle.pcf_codec.specs.{Decoding.decoded, EtherType.pcf_type, Fields.field, declared.refusal.PcfRefusal.PcfRefusal}
 use Rattle.run_law.proofs.{law.FirstDeliveries.{last_is, sets_wire}, runs.Places.parted}
-use Rattle.run_law.proofs.{scenario.Devices.{end_is, parent_shown, shown_parent}}
+use Rattle.run_law.proofs.scenario.Devices.{end_is, parent_shown, shown_parent}
 use Rattle.run_law.specs.{device.Standpoints.{Standpoint, standpoint}}
 use Rattle.run_law.specs.{timed.{Arrivals.{row_fault, taken_or_fault}, Receptions.{arrival_of, last_taken}}}
 use Rattle.run_law.specs.control.{Leaving.{Departs, Departure, Gives, Passes, departure}, Losses.IsSendLost}

@@ -1,4 +1,5 @@
-use Rattle.{audit_sweep.proofs.PermanentFrames.{clock_found, from_arrival, none_some}, drift_clock.specs.{Reach.IsReach, transparent.Points.point_of}}
+use Rattle.audit_sweep.proofs.Lacks.{clock_found, from_arrival, none_some}
+use Rattle.drift_clock.specs.{Reach.IsReach, transparent.Points.point_of}
 use Rattle.audit_sweep.proofs.Words.{◌∙◌, ◌≡◌, Happening, KeptRecord, Some, ap, clock_reading, numbered, one, pos, refl, subst, sym, time_of, ℕ}
 use Rattle.{audit_sweep.specs.Ripenings.waiting_clock, std.proofs.lemmas.Bool.both_ways}
 use Rattle.audit_sweep.proofs.ripening.permanent_frame.Goals as goal

@@ -5,11 +5,11 @@ use Rattle.std.proofs.Common
 use Common.{◌*◌, ◌+◌, ◌-◌, ◌<◌, ◌^◌, ◌∙◌, ◌≡◌, ◌≤◌, ◌⊎◌, Bool, List, None, Option, Some, ap, arith, false, inl, inr}
 use Common.{length, mul-le-mul_left, mul-le-mul_right, not, pos, refl, slice_index_or, subst, suc, sym, true, zero, ℕ}
 use Common.{ℤ}
-use Rattle.audit_devices.{proofs.clocks_lemmas.Reached.{changed_early, come_reaches, reaches_come}}
+use Rattle.audit_devices.proofs.clocks_lemmas.Reached.{changed_early, come_reaches, reaches_come}
+use Rattle.audit_law.proofs.law_lemmas.Owed.{IsOfFirst, first_of_more}
 use Rattle.audit_devices.specs.{Lasting.ShowsWithin, Showing.{Shown, Shows}}
 use Rattle.audit_devices.specs.{clocks.Finding.{CrossesAt, IsNextCrossing, NoneCrossed, value_in}}
 use Rattle.audit_devices.specs.{declared.{clocks.finding.{Crossed.Crossed, Series.Series}, taking.Taking.Taking}}
-use Rattle.audit_law.{proofs.law_lemmas.FirstUnpaid.{IsOfFirst, first_of_more}}
 use Rattle.audit_law.specs.{events.Readings.ReadsOn}
 use Rattle.audit_law.specs.law.{Debts.IsPaid, Dispatched.{Dispatch, OwesDispatch, dispatch_record, is_cut_then}}
 use Rattle.audit_law.specs.law.{FirstDebts.TellsFirst, Owed.{Debt, IsOwed, Pays}}

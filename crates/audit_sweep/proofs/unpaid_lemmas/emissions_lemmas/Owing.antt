@@ -14,10 +14,10 @@ use Rattle.audit_sweep.specs.{records.places.Placing.HasRecordAt}
 use Rattle.audit_sweep.specs.{unpaid.emissions.Emissions.{IsTold, Owes, OwesAt, OwesBehind, OwesWithin, sent_of}}
 use Rattle.compression.{specs.{Clusters.{AreClusters, Cluster, Point}, declared.compressed.Compressed.Compressed}}
 use Rattle.compression.proofs.{ClusterFacts.no_cluster, Collectors.AreClusters-unique}
+use Rattle.run_law.proofs.{law.FirstDeliveries.in_filter, records.Order.{has_passed, index_of, is_there}}
 use Rattle.compression.proofs.{Growth.{in_cases, in_head, in_none, in_tail}}
 use Rattle.drift_clock.{proofs.Drifts.one_reach, specs.Reach.IsReach}
 use Rattle.net_plan.{proofs.SameIds.same_device, specs.declared.{ids.DeviceId.DeviceId, network.Network.Network}}
-use Rattle.run_law.proofs.{law.FirstDeliveries.in_filter, records.Order.{has_passed, index_of, is_there}}
 use Rattle.run_law.proofs.{runs.Determined.same_members}
 use Rattle.run_law.specs.{control.{Collections.{observation_window, points_of}, Emissions.Emits, Hearing.heard_as}}
 use Rattle.run_law.specs.{declared.note.NoteBody.NoteBody, device.States.{adjustment_at_hearing, state_at_hearing}}

@@ -2,14 +2,14 @@
 use Rattle.std.{specs.Prelude.{◌==◌, ◌≤ℤ◌, is_some, option_and_then}}
 use Rattle.std.proofs.{Common.{if◌then◌else◌, ◌*◌, ◌^◌, Bool, fold, mul-le-mul_left, mul-le-mul_right, suc, zero}}
 use Rattle.std.proofs.{lemmas.Option.slice_get_past}
-use Rattle.audit_devices.proofs.clocks_lemmas.{Pointing.{has_point, number_is}}
-use Rattle.audit_devices.proofs.clocks_lemmas.{Reached.{changed_early, come_reaches, reaches_come}}
+use Rattle.audit_devices.proofs.clocks_lemmas.Reached.{changed_early, come_reaches, has_point, number_is, reaches_come}
+use Rattle.audit_sweep.proofs.unpaid_lemmas.points_lemmas.Telling.{earlier_up_to}
+use Rattle.sync_state.proofs.VerdictLemmas.{up_state}
 use Rattle.audit_devices.specs.{clocks.Finding.{CrossesAt, IsNextCrossing, NoneCrossed}}
 use Rattle.audit_devices.specs.{declared.clocks.finding.{Crossed.Crossed, Series.Series}}
 use Rattle.audit_law.specs.{events.Readings.ReadsOn}
 use Rattle.audit_law.specs.law.{CorrectionNumbers.{ComesToPoint, points_come}, Debts.IsPaid, Dispatched.Sending}
 use Rattle.audit_law.specs.law.{FirstDebts.TellsFirst, Owed.{Debt, IsOwed, Pays, falls_due}}
-use Rattle.audit_sweep.proofs.unpaid_lemmas.points_lemmas.{Fronts.earlier_up_to}
 use Rattle.audit_sweep.proofs.unpaid_lemmas.points_lemmas.Words
 use Words.{◌+◌, ◌-◌, ◌<◌, ◌∙◌, ◌∷◌, ◌≡◌, ◌≤◌, ArePaid, DeviceId, Happening, Integrating, IsDue, IsFirstUnpaid}
 use Words.{IsFounded, IsSent, IsTold, List, None, NoteBody, Option, OwesAt, Scenario, Sends, Shown, Shows, ShowsWithin}
@@ -24,7 +24,6 @@ use Rattle.run_law.specs.{control.Corrections.correction_value, declared.judgeme
 use Rattle.run_law.specs.{device.{LocalClocks.Reaches, States.{is_joined_by, state_with}}}
 use Rattle.run_law.specs.{records.{Causes.device_of, Order.IsIn}, scenario.Devices.{has_role, start_of}}
 use Rattle.run_law.specs.{timed.Dispatching.IsUp}
-use Rattle.sync_state.{proofs.StateFacts.up_state}
 use Rattle.sync_state.specs.{Standing.{point_in, state_at_start}}
 use Rattle.sync_state.specs.{declared.state.State.TheVariants.{Joining, Off, Synchronised}}
 use Rattle.tte_units.specs.Amount.{amount}

@@ -1,4 +1,4 @@
-use Rattle.device_rules.proofs.KeptRows.{row_kept, row_skipped}
+use Rattle.device_rules.proofs.Takings.{row_kept, row_skipped}
 use Rattle.{tte_units.proofs.general_lemmas.Options.{none_at, some_by}}
 use Rattle.{std.proofs.Common.{◌∙◌, sym}}
 use Rattle.device_rules.proofs.entrances.add_row.Goals as goal

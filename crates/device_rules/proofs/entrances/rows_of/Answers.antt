@@ -1,4 +1,4 @@
-use Rattle.device_rules.{proofs.KeptRows.have_entries, specs.Entering.AreRows}
+use Rattle.device_rules.{proofs.Takings.have_entries, specs.Entering.AreRows}
 use Rattle.{std.proofs.Common.{ap, arith, length, subst, sym, take}, tte_units.proofs.general_lemmas.Lists.{take_all, take_more}}
 use Rattle.device_rules.proofs.entrances.rows_of.Goals as goal
 

@@ -1,5 +1,5 @@
-use Rattle.{lens_slack.proofs.Keeping.{Below, next_tightest, none_below, tightest_of_all}, std.proofs.Common.{◌+◌, ◌∙◌, ◌≡◌, ap, arith, length, subst, sym}}
-use Rattle.lens_slack.proofs.Spots.{begin_at}
+use Rattle.std.proofs.Common.{◌+◌, ◌∙◌, ◌≡◌, ap, arith, length, subst, sym}
+use Rattle.lens_slack.proofs.Spots.{Below, begin_at, next_tightest, none_below, tightest_of_all}
 use Rattle.{lens_slack.specs.Bounds.IsBeginBound, net_plan.specs.declared.tables.Link.Link, std.specs.Prelude.{Some, slice_get}}
 use Rattle.{lens_slack.specs.Tightest.IsFirstTightest, std.proofs.lemmas.Option.{slice_get-get_or, slice_get_within}}
 use Rattle.lens_slack.proofs.bounds.begin_bound.Goals as goal

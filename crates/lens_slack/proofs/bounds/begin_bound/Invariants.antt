@@ -1,4 +1,5 @@
-use Rattle.{lens_slack.{proofs.Keeping.Below, specs.{Bounds.IsBeginBound, Keeping.IsSmall, Tightest.IsFirstTightest}}, std.specs.Prelude.IfSome}
+use Rattle.std.specs.Prelude.{IfSome}
+use Rattle.lens_slack.{proofs.Spots.Below, specs.{Bounds.IsBeginBound, Keeping.IsSmall, Tightest.IsFirstTightest}}
 use Rattle.lens_slack.proofs.bounds.begin_bound.Given as goal
 
 abbrev pub invariant-links : goal.invariant-links

@@ -1,6 +1,6 @@
 use Rattle.std.proofs.{Common.{◌+◌, ap, arith, inr, length, subst, sym}, lemmas.Option.slice_get_within}
-use Rattle.lens_slack.proofs.{Keeping.{Below, next_tightest, none_below, tightest_as, tightest_of_all}}
-use Rattle.lens_slack.proofs.{Spots.{coming_enters, entering_at}}
+use Rattle.lens_slack.proofs.Spots.{Below, coming_enters, entering_at, next_tightest, none_below, tightest_as}
+use Rattle.lens_slack.proofs.Spots.{tightest_of_all}
 use Rattle.lens_slack.specs.{Bounds.{IsComingBound, IsEnteringBound}, Tightest.IsFirstTightest}
 use Rattle.lens_slack.proofs.bounds.entering_bounds.Goals as goal
 

@@ -1,4 +1,5 @@
-use Rattle.{lens_slack.{proofs.Keeping.Below, specs.{Bounds.IsEnteringBound, Keeping.IsSmall, Tightest.IsFirstTightest}}, std.specs.Prelude.IfSome}
+use Rattle.std.specs.Prelude.{IfSome}
+use Rattle.lens_slack.{proofs.Spots.Below, specs.{Bounds.IsEnteringBound, Keeping.IsSmall, Tightest.IsFirstTightest}}
 use Rattle.lens_slack.proofs.bounds.entering_bounds.Given as goal
 
 abbrev pub invariant-rows : goal.invariant-rows

@@ -1,6 +1,6 @@
-use Rattle.lens_slack.{proofs.Keeping.{Below, next_tightest, none_below, tightest_of_all}, specs.Tightest.IsFirstTightest}
+use Rattle.lens_slack.{proofs.Spots.{Below, gap_at, next_tightest, none_below, tightest_of_all}}
+use Rattle.lens_slack.{specs.{Bounds.IsGapBound, Tightest.IsFirstTightest}}
 use Rattle.std.proofs.Common.{◌+◌, arith, subst, sym}
-use Rattle.lens_slack.{proofs.Spots.gap_at, specs.Bounds.IsGapBound}
 use Rattle.lens_slack.proofs.bounds.gap_bound.Goals as goal
 
 pub earlier-init : goal.earlier-init

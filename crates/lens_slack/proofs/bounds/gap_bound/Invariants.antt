@@ -1,4 +1,5 @@
-use Rattle.{lens_slack.{proofs.Keeping.Below, specs.{Bounds.IsGapBound, Keeping.IsSmall, Tightest.IsFirstTightest}}, std.specs.Prelude.IfSome}
+use Rattle.std.specs.Prelude.{IfSome}
+use Rattle.lens_slack.{proofs.Spots.Below, specs.{Bounds.IsGapBound, Keeping.IsSmall, Tightest.IsFirstTightest}}
 use Rattle.lens_slack.proofs.bounds.gap_bound.Given as goal
 
 abbrev pub invariant-earlier : goal.invariant-earlier

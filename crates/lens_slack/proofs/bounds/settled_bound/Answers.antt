@@ -1,6 +1,6 @@
 use Rattle.std.proofs.Common.{rules, subst}
 use Rattle.lens_slack.proofs.Spots.{settled_first}
-use Rattle.schedule_checker.proofs.BetaLemmas.{beta_is_whole}
+use Rattle.schedule_checker.proofs.Elements.{beta_is_whole}
 use Rattle.{net_plan.specs.Bounds.IsBeta, tte_units.specs.Amount.amount}
 use Rattle.lens_slack.proofs.bounds.settled_bound.Goals as goal
 

@@ -1,4 +1,4 @@
-use Rattle.lens_slack.proofs.{Findings.bounds_decide, Verdict.{accepts, refuses}}
+use Rattle.lens_slack.proofs.{Taken.bounds_decide, Verdict.{accepts, refuses}}
 use Rattle.lens_slack.proofs.laws.slack_law.Goals as goal
 
 pub returns-clause-bounds : goal.returns-clause-bounds

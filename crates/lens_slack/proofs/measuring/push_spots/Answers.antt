@@ -1,4 +1,5 @@
-use Rattle.lens_slack.{proofs.Taken.{ArePushed, pushed_first, pushed_next}, specs.{Spots.spots_of, Tightest.IsTightestAt}}
+use Rattle.lens_slack.{proofs.Taken.{ArePushed, pushed_first, pushed_next}}
+use Rattle.lens_slack.{specs.{Spots.spots_of, Tightest.IsTightestAt}}
 use Rattle.std.proofs.Common.{◌≡◌, arith, subst}
 use Rattle.lens_slack.proofs.measuring.push_spots.Goals as goal
 

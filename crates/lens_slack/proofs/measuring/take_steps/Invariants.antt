@@ -1,4 +1,5 @@
-use Rattle.{lens_slack.proofs.Taken.StandBefore, std.specs.Prelude.drop}
+use Rattle.std.specs.Prelude.{drop}
+use Rattle.lens_slack.proofs.Taken.{StandBefore}
 use Rattle.lens_slack.proofs.measuring.take_steps.Given as goal
 
 abbrev pub invariant-steps : goal.invariant-steps

@@ -1,5 +1,5 @@
 use Rattle.std.proofs.Common.{◌+◌, ◌<◌, arith, subst, sym}
-use Rattle.lens_slack.{proofs.{Keeping.{Below, next_tightest, none_below, tightest_of_all}, Spots.found_at}}
+use Rattle.lens_slack.proofs.Spots.{Below, found_at, next_tightest, none_below, tightest_of_all}
 use Rattle.lens_slack.{specs.Spots.{IsFoundAt, spots_of}}
 use Rattle.lens_slack.specs.Tightest.{IsFirstTightest, IsTightestAt}
 use Rattle.lens_slack.proofs.measuring.tightest_of.Goals as goal

@@ -1,4 +1,5 @@
-use Rattle.{lens_slack.{proofs.Keeping.Below, specs.{Keeping.IsSmall, Spots.IsFoundAt, Tightest.IsFirstTightest}}, std.specs.Prelude.IfSome}
+use Rattle.std.specs.Prelude.{IfSome}
+use Rattle.lens_slack.{proofs.Spots.Below, specs.{Keeping.IsSmall, Spots.IsFoundAt, Tightest.IsFirstTightest}}
 use Rattle.lens_slack.proofs.measuring.tightest_of.Given as goal
 
 abbrev pub invariant-spots : goal.invariant-spots

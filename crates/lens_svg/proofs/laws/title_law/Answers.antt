@@ -1,4 +1,4 @@
-use Rattle.lens_svg.proofs.TitleTexts.{titles_closed}
+use Rattle.lens_svg.proofs.NoteTexts.{titles_closed}
 use Rattle.lens_svg.proofs.laws.title_law.Goals as goal
 
 pub returns : goal.returns

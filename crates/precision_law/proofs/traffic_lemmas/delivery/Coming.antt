@@ -16,15 +16,15 @@ use Words.{in_range, inl, inr, ints, is_accepted, last_in, last_or, launched, le
 use Words.{option_map_or, port_time, pos, refl, room, same_some, shown_at, slice_get, source_of, subst, suc, sym}
 use Words.{time_of, timed, true, tt_frame_by, within_run, zero, ℕ}
 use Rattle.precision_law.proofs.traffic_lemmas.ports.{Cycles.hulls_grow}
-use Rattle.precision_law.proofs.traffic_lemmas.ports.Dispatched
-use Dispatched.{dispatches_are_in_spans, dispatches_are_of_rows, hull_proper}
+use Rattle.precision_law.proofs.traffic_lemmas.ports.Dispatched.{dispatches_are_in_spans, dispatches_are_of_rows}
+use Rattle.precision_law.proofs.traffic_lemmas.ports.Dispatched.{hull_proper}
+use Rattle.run_law.proofs.{law.FirstDeliveries.{by_number, given, last_is, sets_wire}, records.Order.from_earlier}
 use Rattle.precision_law.proofs.traffic_lemmas.schedule.{Rows.{rows_are_in_time, rows_go_once}}
 use Rattle.precision_law.proofs.traffic_lemmas.schedule.{Values.{cycle_whole, so_far, so_far_in}}
 use Rattle.precision_law.specs.traffic.{Dispatched.DispatchesAreWhole}
 use Rattle.precision_law.specs.traffic.{Passed.{ArrivalsAreInWindows, ArrivesInSpan, FramesArriveInSpans, OctetsComeSo}}
 use Rattle.precision_law.specs.traffic.Coming
 use Coming.{BeginsAtSender, DispatchesBegin, SpansAreApart, TakingsBegin, TakingsComeByRows}
-use Rattle.run_law.proofs.{law.FirstDeliveries.{by_number, given, last_is, sets_wire}, records.Happenings.from_earlier}
 use Rattle.run_law.specs.{control.Wires.{signal_of, time_on_port}, declared.outside.Outside.TheVariants.Wire}
 use Rattle.run_law.specs.{law.{FirstLaws.IsLawful, Safety.IsFirstDispatch}}
 use Rattle.run_law.specs.{records.{Frames.{mac_of, tt_frame}, Happenings.{octets_by, octets_from}}}

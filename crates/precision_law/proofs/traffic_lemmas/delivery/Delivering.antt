@@ -20,16 +20,16 @@ use Words.{state_with, steady, subst, suc, sym, target_by, target_of, time_of, t
 use Rattle.precision_law.proofs.traffic_lemmas.delivery.{Taken.{delivered_ends, end_delivers, takings_are_so}}
 use Rattle.precision_law.proofs.traffic_lemmas.delivery.Coming
 use Coming.{dispatches_begin, frames_arrive_in_spans, spans_are_apart, takings_begin, takings_come_by_rows}
-use Rattle.precision_law.proofs.traffic_lemmas.delivery.Forwarding
-use Forwarding.{Brings, arrivals_are_taken, arrives_in_time, last_passes, no_later, none_last, rows_are_sent, says_so}
-use Forwarding.{state_is}
+use Rattle.precision_law.proofs.traffic_lemmas.{ports.Dispatched.{cycle_is, offset_in_schedule, same_by_place}}
+use Rattle.precision_law.proofs.traffic_lemmas.delivery.Forwarding.{Brings, arrivals_are_taken, arrives_in_time}
+use Rattle.precision_law.proofs.traffic_lemmas.delivery.Forwarding.{last_passes, no_later, none_last, rows_are_sent}
+use Rattle.precision_law.proofs.traffic_lemmas.delivery.Forwarding.{says_so, state_is}
+use Rattle.run_law.proofs.{runs.Places.{chain, either_way, never_self}, scenario.Devices.end_test}
 use Rattle.precision_law.proofs.traffic_lemmas.ports.{Cycles.same_next}
-use Rattle.precision_law.proofs.traffic_lemmas.ports.{Dispatched.{cycle_is, offset_in_schedule, same_by_place}}
 use Rattle.precision_law.proofs.traffic_lemmas.spans.Spans
 use Spans.{Keeps, has_time_at, in_places, kept_by_all, kept_if, last_of, synchronised_keep_time}
 use Spans.{values_are_reached_in_spans}
 use Rattle.run_law.proofs.{law.FirstDeliveries.{by_number, front_founded, number_is}}
-use Rattle.run_law.proofs.{runs.Places.{chain, either_way, never_self}, scenario.Devices.end_test}
 use Rattle.run_law.specs.{control.Corrections.correction_value, declared.note.Note.Note}
 use Rattle.run_law.specs.{device.LocalClocks.local_before}
 use Rattle.run_law.specs.{law.Safety.{IsDelivered, IsInStep, IsOwed, IsRowInto, IsWindowEnd, ReachesPlace}}

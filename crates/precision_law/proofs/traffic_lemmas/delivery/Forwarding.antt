@@ -1,31 +1,33 @@
--- Each row of a virtual link dispatches its frame, and a synchronised device that it comes to takes it.
-use Rattle.std.proofs.lemmas.Bool.{ltb-true, ne_eqb, or_cases}
-use Rattle.net_plan.specs.Bounds.{gamma_of}
+-- Each row of a virtual link dispatches its frame, and the devices that it enters take it.
+use Rattle.std.proofs.{Common.{◌%◌, arith, cond, find}, lemmas.Bool.{le-leb, ltb-true, ne_eqb, not_from_true, or_cases}}
+use Rattle.net_plan.specs.{Bounds.gamma_of, declared.tables.Row.Row}
+use Rattle.pcf_codec.specs.EtherType.{least_type}
 use Rattle.precision_law.proofs.{records.Times.last_some}
 use Rattle.precision_law.proofs.traffic_lemmas.{faults.Channels.{source_on, switch_channel, switch_no_end, target_on}}
 use Rattle.precision_law.proofs.traffic_lemmas.{schedule.Rows.{rows_are_in_time, rows_go_once}}
 use Rattle.precision_law.proofs.traffic_lemmas.Words
-use Words.{if◌then◌else◌, ◌&&◌, ◌*◌, ◌++◌, ◌+◌, ◌<◌, ◌==◌, ◌||◌, ◌∙◌, ◌∷◌, ◌≡◌, ◌≢◌, ◌≤◌, ◌⊎◌, Arrival, Bool}
+use Words.{if◌then◌else◌, ◌&&◌, ◌*◌, ◌++◌, ◌+◌, ◌<◌, ◌==◌, ◌||◌, ◌∙◌, ◌∷◌, ◌≡◌, ◌≢◌, ◌≤ℤ◌, ◌≤◌, ◌⊎◌, Arrival, Bool}
 use Words.{BringsBlocks, BringsChannels, DeviceId, Down, Entry, FieldsFit, Happening, HasGoodSources, Integrating}
 use Words.{IsBefore, IsDue, IsEntry, IsGood, IsIn, IsInSpan, IsOnChannel, IsRowDispatch, IsSwitchOf, IsTimedAt, IsView}
-use Words.{KeepsRules, Link, LinkId, List, Network, None, NoteBody, OccursIn, Option, Reaches, SaysTaken}
+use Words.{KeepsRules, Link, LinkId, List, Network, None, NoteBody, OccursIn, Option, Reaches, Reason, SaysTaken}
 use Words.{SendersAreBroken, Some, Standpoint, State, Synchronised, TimedAreNotTurnedOn, Up, View, VirtualLink, VlId}
-use Words.{Way, [], amount, and_parts, ap, arith, arrives_at, before_narrow, cases_lt, clock_of, clocks_reach_sharply}
-use Words.{closed, cycle_at, earlier, entry_arrival, entry_entering, eq-eqb, eqb-true, false, field, filter, in_filter}
-use Words.{in_left, in_range, inl, inr, ints, is_accepted, is_broken, is_end, is_synchronised, is_taken_in}
-use Words.{is_turned_on_at, last_accepted, last_in, last_or, last_setting, last_taken, launched, length, link_at}
-use Words.{nat_lt, not, numbered, octets_fault, octets_or_fault, offset_in_cycle, one_device, option_and_then}
-use Words.{option_map_or, place_of, pos, reaches_by, refl, room, row_fault, same_some, shown_at, slice_get, source_by}
-use Words.{source_of, split, standpoint, state_after, state_before, state_left, steady, subst, suc, sym, taken_or_fault}
-use Words.{target_of, time_of, timed, timed_arrival, true, tt_frame_by, way_from, zero, ℕ}
-use Rattle.precision_law.proofs.traffic_lemmas.delivery.{Entering.{enters_by, octets_sound, row_sound}}
+use Words.{Way, [], amount, and_parts, ap, arrives_at, before_narrow, cases_lt, clock_of, clocks_reach_sharply, closed}
+use Words.{cycle_at, earlier, entry_arrival, entry_entering, eq-eqb, eqb-true, false, field, filter, in_filter, in_left}
+use Words.{in_range, inl, inr, int_lt, ints, is_accepted, is_broken, is_end, is_synchronised, is_taken_in}
+use Words.{is_turned_on_at, last_accepted, last_in, last_or, last_setting, last_taken, launched, le-ltb, length}
+use Words.{link_at, nat_lt, not, numbered, octets_fault, octets_or_fault, offset_in_cycle, one_device, option_and_then}
+use Words.{option_map, option_map_or, place_of, pos, reaches_by, refl, room, row_fault, same_some, shown_at, slice_get}
+use Words.{source_by, source_of, split, standpoint, state_after, state_before, state_left, steady, subst, suc, sym}
+use Words.{taken_or_fault, target_of, time_of, timed, timed_arrival, true, tt_frame_by, way_from, way_to, window_of}
+use Words.{zero, ℕ}
+use Rattle.precision_law.proofs.traffic_lemmas.delivery.{Faultless.entering}
 use Rattle.precision_law.proofs.traffic_lemmas.delivery.{Taken.{put_on, switch_accepts, takings_are_so, way_is}}
 use Rattle.precision_law.proofs.traffic_lemmas.delivery.Coming
 use Coming.{arrivals_are_in_windows, delay_lies, dispatches_are_whole, dispatches_begin, frame_shows}
-use Coming.{frames_arrive_in_spans, on_port, spans_are_apart, takings_come_by_rows}
-use Rattle.precision_law.proofs.traffic_lemmas.ports.{Cycles.same_hull, Ends.ends_differ}
+use Coming.{frames_arrive_in_spans, on_port, same_id, spans_are_apart, takings_come_by_rows}
+use Rattle.precision_law.proofs.traffic_lemmas.ports.{Cycles.same_hull}
 use Rattle.precision_law.proofs.traffic_lemmas.ports.Dispatched
-use Dispatched.{cycle_is, dispatches_are_in_spans, dispatches_are_of_rows, offset_in_schedule, one_clock}
+use Dispatched.{cycle_is, dispatches_are_in_spans, dispatches_are_of_rows, ends_differ, offset_in_schedule, one_clock}
 use Rattle.precision_law.proofs.traffic_lemmas.spans.Spans
 use Spans.{earlier_founded, has_time_at, in_places, last_of, set_before, synchronised_stay_so, values_are_reached}
 use Rattle.precision_law.specs.{Views.IsSoundSwitch}
@@ -33,15 +35,118 @@ use Rattle.precision_law.specs.traffic.{Spans.ReachesInSpan}
 use Rattle.precision_law.specs.traffic.Delivered.{ArrivalsAreTaken, HasTaken, IsRowSent, IsSentIn, RowsAreSent}
 use Rattle.precision_law.specs.traffic.Delivered.{SoundSwitchesKeepTime}
 use Rattle.run_law.proofs.{law.FirstDeliveries.{due_is_there, found_before, next_due, next_note, same_earlier}}
-use Rattle.run_law.proofs.{records.{Happenings.{from_earlier, is_earlier}, Members.in_kept, Order.has_passed}}
+use Rattle.run_law.proofs.{records.{Members.in_kept, Order.{from_earlier, has_passed, is_earlier}}}
+use Rattle.run_law.proofs.{scenario.Ways.way_itself}
 use Rattle.run_law.specs.{control.{Losses.IsDispatchedOn, Wires.Arrives}, device.States.is_off}
-use Rattle.run_law.specs.{records.Happenings.happening, scenario.Ways.receiver_of}
-use Rattle.run_law.specs.timed.{Arrivals.taken_by, Dispatching.HasAtHand}
+use Rattle.run_law.specs.{records.Happenings.happening, scenario.Ways.{is_way, is_way_of, receiver_of}}
+use Rattle.run_law.specs.timed.{Arrivals.{is_row_with, occurs_in, row_entering, taken_by}, Dispatching.HasAtHand}
 use Rattle.run_law.specs.timed.{Receptions.{ArrivesAs, arrival_of, comes_before, is_taken_before, taken_cycle}}
 use Rattle.schedule_tables.{proofs.Margins.same_or_other}
 use Rattle.schedule_tables.{specs.{Windows.window_end, declared.rule.Rule.TheVariants.{Forwarding, Sources}}}
+use Rattle.tte_units.proofs.general_lemmas.{Integers.not_below, Lists.found_passes}
 use Rattle.run_law.specs.declared.note.NoteBody.TheVariants as notes
 use Rattle.run_law.specs.declared.steps.Arrival.TheVariants as arrivals
+
+-- ---- the row by which a frame of the schedule enters a device
+
+-- ---- the row that is found
+
+-- where an element passes the test, one is found
+pub found_some : {X : Type 0} (p : X → Bool) (xs : List X) (i : ℕ) (x : X) → slice_get xs i ≡ Some x → p x ≡ true → (y : X) × (find p xs ≡ Some y)
+found_some p [] i x e hit = absurd cc
+found_some {X} p (y ∷ xs) zero x e hit = (let same : y ≡ x = cc in (y, rw (ap p same ∙ hit)))
+found_some {X} p (y ∷ xs) (suc k) x e hit =
+    elim (p y) as (λ b. (z : X) × (cond b (Some y) (find p xs) ≡ Some z)) [
+      | true ↦ (y, refl)
+      | false ↦ found_some p xs k x e hit
+    ]
+
+-- a row with its virtual link and its link has an entry
+entry_some : (network : Network) (device : DeviceId) (link : LinkId) (id : ℕ) (row : Row) → row_entering network device link id ≡ Some row
+    → is_row_with network id row ≡ true → (l : Link) → link_at network row.link ≡ Some l → (e : Entry) × (entry_entering network device link id ≡ Some e)
+entry_some network device link id row found named l at =
+    by (slice_get network.vl row.vl.0) refl named
+  where
+    by : (o : Option VirtualLink) → slice_get network.vl row.vl.0 ≡ o → option_map_or (λ vl. vl.id == id) o false ≡ true → (e : Entry)
+        × (entry_entering network device link id ≡ Some e)
+    by None is named = absurd cc
+    by (Some vl) is named = (
+      record { row = row; vl = vl; link = l },
+      rw found
+          (ap (λ o. option_and_then (λ x. option_map (λ y. let e : Entry = record { row = row; vl = x; link = y } in e)
+          (link_at network row.link)) o) is
+          ∙ ap (λ o. option_map (λ y. let e : Entry = record { row = row; vl = vl; link = y } in e) o) at),
+    )
+
+-- the entry by which a frame of a row's virtual link enters by the row's link is the row's
+enters_by : {network : Network} (device : DeviceId) (link : LinkId) {place : ℕ} {entry : Entry}
+    → KeepsRules network → IsEntry network place entry → entry.row.link ≡ link
+    → way_to network device link ≡ entry.row.way → entry_entering network device link entry.vl.id ≡ Some entry
+enters_by {network} device link {place} {entry} keeps row by way =
+    let id = entry.vl.id in
+    let named : is_row_with network id entry.row ≡ true = rw row.vl
+    (eq-eqb id id refl) in
+    let links = eq-eqb link.0 entry.row.link.0 (rw (sym by)) in
+    let ways : is_way (way_to network device link) entry.row.way ≡ true = rw way (way_itself entry.row.way) in
+    let test : (is_way_of link (way_to network device link) entry.row.link entry.row.way && is_row_with network id entry.row) ≡ true = rw (links, ways, named)
+    refl in
+    let found = found_some (λ r. is_way_of link (way_to network device link) r.link r.way && is_row_with network id r)
+    network.row place entry.row
+    row.row test in
+    let passes = found_passes (λ r. is_way_of link (way_to network device link) r.link r.way && is_row_with network id
+    r) network.row found.0 found.1 in
+    let parts = both_true (is_way_of link (way_to network device link) found.0.link found.0.way) (is_row_with network id found.0) passes in
+    let same_link = both_true (link.0 == found.0.link.0) (is_way (way_to network device link) found.0.way) parts.0 in
+    let links_is = by ∙ ap (λ n. let l : LinkId = record { 0 = n } in l) (eqb-true link.0 found.0.link.0 same_link.0) in
+    let some = entry_some network device link id found.0 found.1 parts.1 entry.link
+    (rw links_is at row.link) in
+    let at = entering network device link id some.0 some.1 in
+    let vls = same_id network some.0.row.vl entry.row.vl some.0.vl entry.vl keeps at.row.vl row.vl at.id_is in
+    let rows = rows_go_once network at.place place some.0 entry keeps at.row row vls (at.by ∙ sym by) in
+    some.1 ∙ ap (λ e. Some e) rows.1
+  where
+    both_true : (x y : Bool) → (x && y) ≡ true → (x ≡ true) × (y ≡ true)
+    both_true true y e = (refl, e)
+    both_true false y e = absurd cc
+
+-- ---- no fault
+
+-- a test that fails is passed over
+skip : (b : Bool) (x : Bool × Reason) (o : Option (Bool × Reason)) → b ≡ false → option_map (λ test. test.1) (cond b (Some x) o) ≡ option_map (λ test. test.1) o
+skip true x o e = absurd cc
+skip false x o e = refl
+
+-- octets of the network, for a synchronised device, have no fault
+octets_sound : (network : Network) (at : Standpoint) (octets : List ℕ) → at.takes_part ≡ true → least_type ≤ field 12 2 octets
+    → is_synchronised at.state ≡ true → field 0 4 octets ≡ network.marker → octets_fault network at octets ≡ None
+octets_sound network at octets part type timed marker = grind (arith, skip, not, not_from_true, nat_lt, field, le-ltb, is_synchronised, eq-eqb)
+
+-- a frame of the row, in the row's window, has none
+row_sound : (network : Network) (at : Standpoint) (entry : Entry) (size : ℕ) (last : Option ℕ) → size ≡ entry.vl.length
+    → OccursIn entry.vl (cycle_at network (clock_of at))
+    → (window_of network entry).from.0 ≤ℤ offset_in_cycle network (clock_of at) → offset_in_cycle network (clock_of at) ≤ℤ (window_of network entry).to.0
+    → is_taken_in (cycle_at network (clock_of at)) last ≡ false → row_fault network at entry size last ≡ None
+row_sound network at entry size last whole occurs from to anew =
+    let begun = le-leb 1 (cycle_at network (clock_of at)) occurs.begun in
+    let phase = eq-eqb (cycle_at network (clock_of at) % entry.vl.period)
+    entry.vl.phase occurs.in_phase in
+    let happens : occurs_in entry.vl (cycle_at network (clock_of at)) ≡ true = rw (begun, phase) refl in
+    let early =
+    neither (not (occurs_in entry.vl (cycle_at network (clock_of at)))) (int_lt (offset_in_cycle network (clock_of at)) (window_of network entry).from.0)
+    (not_from_true (occurs_in entry.vl (cycle_at network (clock_of at))) happens)
+    (not_below (offset_in_cycle network (clock_of at)) (window_of network entry).from.0 from) in
+    skip (not (size == entry.vl.length)) _ _ (not_from_true (size == entry.vl.length) (eq-eqb size entry.vl.length whole))
+    ∙ skip (not (occurs_in entry.vl (cycle_at network (clock_of at))) || int_lt (offset_in_cycle network (clock_of at)) (window_of network entry).from.0) _ _
+    early
+    ∙ skip (int_lt (window_of network entry).to.0 (offset_in_cycle network (clock_of at))) _ _
+    (not_below (window_of network entry).to.0 (offset_in_cycle network (clock_of at)) to)
+    ∙ skip (is_taken_in (cycle_at network (clock_of at)) last) _ _ anew
+  where
+    neither : (x y : Bool) → x ≡ false → y ≡ false → (x || y) ≡ false
+    neither true y e f = absurd cc
+    neither false y e f = f
+
+-- ---- each row of a virtual link dispatches its frame, and a synchronised device that it comes to takes it
 
 -- ---- a dispatched frame that comes to a synchronised device is taken, or one was taken before
 

@@ -1,8 +1,8 @@
 -- Each frame of the schedule takes its time, and from cycle to cycle a row keeps its pace.
 use Rattle.precision_law.proofs.{records.RunViews.{view_of, view_with}}
 use Rattle.precision_law.proofs.traffic_lemmas.{ports.Dispatched.{dispatches_are_in_spans, dispatches_are_of_rows}}
-use Rattle.precision_law.proofs.traffic_lemmas.delivery.{Coming.{delay_lies, on_port, takings_come_by_rows}}
 use Rattle.precision_law.proofs.traffic_lemmas.delivery.{Delivering.fields_fit, Forwarding.Brings, Taken.takings_are_so}
+use Rattle.precision_law.proofs.traffic_lemmas.delivery.{Coming.{delay_lies, on_port, takings_come_by_rows}}
 use Rattle.precision_law.proofs.traffic_lemmas.{faults.Channels.good_sources, ports.Cycles.same_hull}
 use Rattle.precision_law.proofs.traffic_lemmas.schedule.Rows.{rows_go_once}
 use Rattle.precision_law.proofs.traffic_lemmas.Words.{◌*◌, ◌+ℤ◌, ◌+◌, ◌<◌, ◌∙◌, ◌≡◌, ◌≤ℤ◌, ◌≤◌, DeviceId, Entry}

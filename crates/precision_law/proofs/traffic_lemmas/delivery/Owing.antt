@@ -1,9 +1,10 @@
 -- What is due by events alone is owed.
 use Rattle.net_plan.proofs.Trees.{rules_give_trees}
 use Rattle.precision_law.proofs.{law.Precision.{view_at, view_of}}
+use Rattle.precision_law.proofs.traffic_lemmas.{delivery.Forwarding.Brings}
 use Rattle.precision_law.proofs.traffic_lemmas.{ports.Dispatched.{cycle_is, offset_in_schedule}}
+use Rattle.run_law.proofs.scenario.Devices.{end_test}
 use Rattle.precision_law.proofs.traffic_lemmas.{spans.Spans.{values_are_reached, values_are_reached_in_spans}}
-use Rattle.precision_law.proofs.traffic_lemmas.delivery.{Forwarding.Brings}
 use Rattle.precision_law.proofs.traffic_lemmas.delivery.Delivering.{IsFrontOf, from_before, last_in_schedule}
 use Rattle.precision_law.proofs.traffic_lemmas.delivery.Delivering.{reaches_in, row_on, timed_behind}
 use Rattle.schedule_tables.proofs.Margins.{same_or_other, shape_rules}
@@ -20,7 +21,6 @@ use Rattle.precision_law.proofs.traffic_lemmas.Words.{reaches_by, refl, room, sa
 use Rattle.precision_law.proofs.traffic_lemmas.Words.{source_of, state_after, subst, suc, sym, true, zero, ℕ}
 use Rattle.precision_law.specs.{Hulls.IsNarrow, Progress.EndSystemsComeIn, Sizes.HaveRoom}
 use Rattle.precision_law.specs.traffic.{Owing.{DueFramesAreOwed, IsDueAt}}
-use Rattle.run_law.proofs.scenario.Devices.{end_test}
 use Rattle.run_law.specs.{device.States.is_off, law.Safety.{IsInStep, IsOwed, ReachesPlace}}
 use Rattle.run_law.specs.records.Happenings.{happenings, up_to}
 use Rattle.schedule_tables.specs.{Windows.window_end}

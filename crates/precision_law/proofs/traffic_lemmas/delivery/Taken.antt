@@ -4,7 +4,8 @@ use Rattle.net_plan.specs.declared.event.What.TheVariants.{Send}
 use Rattle.pcf_codec.specs.{Decoding.decoded, EtherType.pcf_type, declared.refusal.PcfRefusal.PcfRefusal}
 use Rattle.precision_law.{specs.traffic.Taken.TakingsAreSo}
 use Rattle.precision_law.proofs.{records.Points.same_adjustment}
-use Rattle.precision_law.proofs.traffic_lemmas.{delivery.Faultless.{TakesIn, finds_none}, ports.Ends.ends_differ}
+use Rattle.precision_law.proofs.traffic_lemmas.{delivery.Faultless.{TakesIn, finds_none}, ports.Dispatched.ends_differ}
+use Rattle.sync_state.proofs.VerdictLemmas.{up_state}
 use Rattle.precision_law.proofs.traffic_lemmas.Words
 use Words.{if◌then◌else◌, ◌&&◌, ◌==◌, ◌∙◌, ◌∷◌, ◌≡◌, ◌≢◌, Arrival, Bool, DeviceId, Down, Entry, Happening, IsCaused}
 use Words.{IsFoundedAt, IsIn, IsTaking, IsView, KeepsRules, Link, LinkId, List, Network, None, NoteBody, Option, Pcf}
@@ -20,7 +21,6 @@ use Rattle.run_law.specs.{scenario.{Devices.is_parent_of, Ways.{is_cut, receiver
 use Rattle.run_law.specs.{timed.Receptions.{ArrivesAs, arrival_of}}
 use Rattle.run_law.specs.control.{Arrivals.{control_arrival, frame_fault, frame_or_fault}}
 use Rattle.run_law.specs.control.{Wires.{Arrives, Launch, signal_of}}
-use Rattle.sync_state.proofs.StateFacts.{up_state}
 use Rattle.run_law.specs.declared.note.NoteBody.TheVariants as notes
 use Rattle.run_law.specs.declared.steps.Arrival.TheVariants as arrivals
 

@@ -1,7 +1,5 @@
 -- Whether a record is due at a place is decided, rank by rank.
 pub mod Places
 pub mod Changes
-pub mod Frames
 pub mod Dispatches
-pub mod States
 pub mod Ranks

@@ -1,4 +1,1 @@
-pub mod Schedule
-pub mod RoughDay
-pub mod Shape
-pub mod Accepted
+pub mod WorkedNetwork

@@ -1,5 +1,6 @@
 -- The channels of rows, and the devices at their ends.
-use Rattle.{net_plan.specs.{Ranges.{IsDeviceInRange, IsInRange}, declared.tables.Role.TheVariants.Relay}, run_law.proofs.scenario.Devices.end_test}
+use Rattle.net_plan.specs.{Ranges.{IsDeviceInRange, IsInRange}, declared.tables.Role.TheVariants.Relay}
+use Rattle.run_law.proofs.scenario.Devices.{end_test}
 use Rattle.precision_law.proofs.traffic_lemmas.Words.{◌∙◌, ◌≡◌, Bool, BringsChannels, Device, DeviceId, Entry, HasGoodSources, IsEntry, IsGood, IsOnChannel}
 use Rattle.precision_law.proofs.traffic_lemmas.Words.{IsSwitchOf, IsView, Joints, KeepsRules, Network, None, Option, Some, View, VirtualLink, VlId, ap}
 use Rattle.precision_law.proofs.traffic_lemmas.Words.{both_ways, closed, device_at, false, in_all, inl, inr, is_end, is_end_system, not, opened}

@@ -14,7 +14,7 @@ use Words.{in_between, in_left, in_order, in_parts, inl, inr, ints, is_broken, i
 use Words.{link_at, nat_le, nat_lt, none_kept, numbered_in, one_device, opened, option_and_then, parted, refl, start_of}
 use Words.{state_after, state_at_start, state_before, state_left, state_with, subst, suc, sym, time_of, true}
 use Words.{within_run, zero, ℕ}
-use Rattle.run_law.proofs.{control.Joined.looking_by, law.FirstDeliveries.{given, in_at}}
+use Rattle.run_law.proofs.{control.Verdicts.looking_by, law.FirstDeliveries.{given, in_at}}
 use Rattle.run_law.proofs.{records.{Members.in_kept, Order.{any_in, in_any}}, runs.Places.in_right}
 use Rattle.run_law.proofs.{scenario.Devices.on_by}
 use Rattle.run_law.specs.{declared.outside.Outside.TheVariants.{NotBroken, NotOff, Order}, law.FirstLaws.IsLawful}

@@ -1,20 +1,21 @@
 -- Dispatches by the schedule: one of a row in a cycle, whose frame meets no other on a port.
+use Rattle.std.proofs.Common.{arith}
 use Rattle.drift_clock.specs.Reach.{IsReach}
-use Rattle.net_plan.{proofs.Trees.rules_give_trees, specs.{Bounds.gamma_of, declared.tables.Role.Role}}
+use Rattle.net_plan.{proofs.Trees.{no_path, rules_give_trees}, specs.{Bounds.gamma_of, declared.tables.Role.Role}}
 use Rattle.precision_law.proofs.{Plain.cm_is_no_end, clocks.Epochs.settings_stay, sizes.Instants.instants_are_in_order}
 use Rattle.precision_law.proofs.{trips.Legs.relay_not_end}
-use Rattle.precision_law.proofs.traffic_lemmas.{ports.{Cycles.{hulls_grow, same_hull, same_next}, Ends.same_way}}
+use Rattle.precision_law.proofs.traffic_lemmas.{ports.Cycles.{hulls_grow, same_hull, same_next}}
 use Rattle.precision_law.proofs.traffic_lemmas.{schedule.Rows.{rows_are_in_time, rows_go_once, rows_stand_apart}}
 use Rattle.precision_law.proofs.traffic_lemmas.Words
-use Words.{◌*◌, ◌+ℤ◌, ◌+◌, ◌-ℤ◌, ◌<ℤ◌, ◌<◌, ◌∙◌, ◌∷◌, ◌≡◌, ◌≤ℤ◌, ◌≤◌, ◌⊎◌, Bool, BringsBlocks, DeviceId, Entry}
-use Words.{GivingsKeepAway, Happening, Hull, IsBefore, IsCaused, IsEntry, IsFoundedAt, IsGood, IsIn, IsInSchedule}
-use Words.{IsInSpan, IsRowDispatch, IsTimedAt, IsView, KeepsRules, LinkId, List, Network, NoteBody, Sizes, Some, Stands}
-use Words.{View, VlId, Way, [], adjustment_left, adjustment_stays, amount, ap, arith, before_narrow, before_of}
-use Words.{both_ways, cases_lt, changed_at, clocks_reach_sharply, device_at, earlier, earlier_before, epoch_time, false}
-use Words.{founded_at, has_before, hull_of, in_all, in_left, in_range, inl, inr, ints, is_end, is_end_system}
-use Words.{is_turned_on_at, last_accepted, link_at, numbered_in, opened, option_map_or, place_of, port_time, pos}
-use Words.{reaches_by, refl, room, same_some, state_after, steady, subst, suc, sym, time_of, true, way_from, within_run}
-use Words.{zero, ℕ, ℤ}
+use Words.{◌*◌, ◌+ℤ◌, ◌+◌, ◌-ℤ◌, ◌<ℤ◌, ◌<◌, ◌∙◌, ◌∷◌, ◌≡◌, ◌≢◌, ◌≤ℤ◌, ◌≤◌, ◌⊎◌, Bool, BringsBlocks, DeviceId, Down}
+use Words.{Entry, GivingsKeepAway, Happening, Hull, IsBefore, IsCaused, IsEntry, IsFoundedAt, IsGood, IsIn}
+use Words.{IsInSchedule, IsInSpan, IsRowDispatch, IsSwitchOf, IsTimedAt, IsView, Joints, KeepsRules, Link, LinkId, List}
+use Words.{Network, NoteBody, Sizes, Some, Stands, Up, View, VlId, Way, [], adjustment_left, adjustment_stays, amount}
+use Words.{ap, before_narrow, before_of, both_ways, cases_lt, changed_at, clocks_reach_sharply, closed, device_at}
+use Words.{earlier, earlier_before, epoch_time, false, founded_at, has_before, hull_of, in_all, in_left, in_range, inl}
+use Words.{inr, ints, is_end, is_end_system, is_turned_on_at, last_accepted, link_at, numbered_in, opened}
+use Words.{option_map_or, place_of, port_time, pos, reaches_by, refl, room, same_some, source_by, source_of}
+use Words.{state_after, steady, subst, suc, sym, time_of, true, way_from, within_run, zero, ℕ, ℤ}
 use Rattle.precision_law.proofs.traffic_lemmas.spans.Spans
 use Spans.{AreInPlaces, begins_soon, in_places, synchronised_keep_time, values_are_reached_in_spans}
 use Rattle.precision_law.specs.{Hulls.{IsInHull, IsNarrow, start_hull}, Views.IsDispatch}
@@ -24,11 +25,45 @@ use Rattle.run_law.{proofs.{law.FirstDeliveries.hold_most, runs.Places.never_sel
 use Rattle.run_law.specs.{control.Leaving.{Departs, Gives, leaves}, law.Safety.time_of_octets}
 use Rattle.run_law.specs.{scenario.{Devices.{has_role, is_cm, is_cm_role, is_relay_role}, Ways.hold_at}}
 use Rattle.run_law.specs.{timed.Dispatching.HasAtHand}
-use Rattle.schedule_tables.{proofs.{Margins.margins, SlotLemmas.one_entry}}
+use Rattle.schedule_tables.{proofs.{Margins.{margins, shape_rules}, SlotLemmas.one_entry}}
 use Rattle.schedule_tables.specs.{Delays.{delay_by, pcf_port_time}, Schedule.IsClearBefore}
 use Rattle.schedule_tables.specs.{declared.rule.Rule.TheVariants.Senders}
-use Rattle.sync_state.proofs.StateFacts.{up_state}
+use Rattle.sync_state.proofs.VerdictLemmas.{up_state}
 use Rattle.run_law.specs.declared.note.NoteBody.TheVariants as notes
+
+-- ---- the two ends of a link, and the ways on which a device sends by it
+
+-- ---- the ends of a link
+
+-- the ends of a link are two devices
+pub ends_differ : (network : Network) (link : LinkId) (l : Link) → KeepsRules network → link_at network link ≡ Some l → l.child ≢ l.parent
+ends_differ network link l keeps at same =
+    let joint = keeps Joints link.0 l at in
+    let tree = rules_give_trees network (shape_rules network keeps) in
+    let up = closed (λ x. (x.child ≡ l.parent) × IsSwitchOf network joint.0 x.parent) (link_at network link) l
+    at (same, joint.1) in
+    let switch = opened (λ d. d.channel ≡ Some joint.0) (device_at network l.parent) joint.1 in
+    let member = closed (λ d. (is_end_system d.role ≡ true) ⊎ (d.channel ≡ Some joint.0))
+    (device_at network l.parent) switch.0 switch.1 (inr switch.2) in
+    let path = tree.reach joint.0 l.parent member in
+    no_path joint.0 l.parent link l tree at refl up path.0 path.2
+
+-- ---- ways
+
+-- two ways of a link that leave one device are one
+one_way : (a b : Way) (l : Link) → l.child ≢ l.parent → source_by a l ≡ source_by b l → a ≡ b
+one_way Up Up l differ same = refl
+one_way Up Down l differ same = absurd (differ same)
+one_way Down Up l differ same = absurd (differ (sym same))
+one_way Down Down l differ same = refl
+
+-- two rows of one link that leave one device go on one way
+same_way : {network : Network} {place other : ℕ} {entry second : Entry} → KeepsRules network
+    → IsEntry network place entry → IsEntry network other second → entry.row.link ≡ second.row.link
+    → source_of entry ≡ source_of second → entry.row.way ≡ second.row.way
+same_way keeps one two link source = grind (arith, same_some, link_at, one_way, ends_differ, source_by)
+
+-- ---- dispatches by the schedule: one of a row in a cycle, whose frame meets no other on a port
 
 -- ---- the records of dispatches by the schedule
 

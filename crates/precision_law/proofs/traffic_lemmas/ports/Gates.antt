@@ -1,38 +1,44 @@
--- When a synchronised master's frames pass gates, and a switch gives no control frame to a link.
-use Rattle.std.{proofs.Common.{MatchBool, unsigned_abs}, specs.List.after_last}
+-- When frames pass gates, and that none meets a frame of the schedule on a port.
+use Rattle.std.{proofs.Common.{MatchBool, max, unsigned_abs}, specs.List.after_last}
 use Rattle.compression.specs.{Clusters.{Point, point_at}, Emission.emission, declared.compressed.Compressed.Compressed}
 use Rattle.drift_clock.specs.Reach.{IsReach}
-use Rattle.precision_law.{specs.{BlockLaws.BlockIsOver, Blocks.HasTimeAt, Hulls.IsOverBefore}}
-use Rattle.precision_law.proofs.{clocks.Readings.permanence_is_sharp, law.Precision.{new_shows, old_shows, set_shows}}
+use Rattle.precision_law.proofs.{clocks.Readings.permanence_is_sharp}
+use Rattle.precision_law.proofs.{law.Precision.{new_shows, old_shows, set_shows, view_at, view_of}}
 use Rattle.precision_law.proofs.{records.{Behind.behind_last, Judged.all_judge, Points.point_timed}}
 use Rattle.precision_law.proofs.{sizes.Instants.set_clocks_stay_at_correction}
-use Rattle.precision_law.proofs.traffic_lemmas.{delivery.Forwarding.{no_later, none_last, state_is}}
 use Rattle.precision_law.proofs.traffic_lemmas.{schedule.Values.{cycle_whole, so_far, so_far_in}}
 use Rattle.precision_law.proofs.traffic_lemmas.Words
-use Words.{if◌then◌else◌, ◌&&◌, ◌*◌, ◌++◌, ◌+ℤ◌, ◌+◌, ◌-ℤ◌, ◌<ℤ◌, ◌<◌, ◌==◌, ◌||◌, ◌∙◌, ◌∷◌, ◌≡◌, ◌≤ℤ◌, ◌≤◌, Bool}
-use Words.{BringsBlocks, ComesTo, Corrected, DeviceId, GivingsKeepAway, Happening, IsBefore, IsCaused, IsDue, IsFounded}
-use Words.{IsFoundedAt, IsGood, IsIn, IsInBlock, IsInSpan, IsOldAt, IsTimedAt, IsView, Joining, Judgement, LinkId, List}
-use Words.{Network, None, NoteBody, Option, Reason, Scenario, Sizes, Some, Stands, State, Synchronised}
-use Words.{TimedAreNotTurnedOn, Units, View, [], adjustment_left, adjustment_stays, amount, ap, append_assoc, arith}
-use Words.{before_narrow, before_of, begins_late, behind_first, between, block_ends, both_ways, by_lt_z, cases_lt}
-use Words.{changes_adjustment, clock_of, clocks_reach_sharply, earlier, earlier_before, earlier_parts, epoch_time}
-use Words.{eqb-true, false, false_from_ne_true, fold-append, follows_before, founded_at, has_time, in_between, in_left}
-use Words.{in_order, in_parts, inl, inr, int_lt, ints, is_end, is_joined_by, is_relay, is_synchronised, is_turned_on_at}
-use Words.{key, last_correction, last_setting, le-ltb, lt-ltb, members_in, nat_lt, negsuc, none_first, not_less}
-use Words.{numbered_in, offset_in_cycle, one_device, option_and_then, option_map_or, parted, place_of, pos, rank}
-use Words.{reaches_by, refl, room, setting_is, shown_at, standpoint, start_of, state_after, state_at_start, state_left}
-use Words.{state_with, steady, subst, suc, sym, time_of, true, within_run, zero, ℕ, ℤ}
+use Words.{if◌then◌else◌, ◌&&◌, ◌*◌, ◌++◌, ◌+ℤ◌, ◌+◌, ◌-ℤ◌, ◌<ℤ◌, ◌<◌, ◌==◌, ◌||◌, ◌∙◌, ◌∷◌, ◌≡◌, ◌≢◌, ◌≤ℤ◌, ◌≤◌, Bool}
+use Words.{BringsBlocks, BringsChannels, ComesTo, Corrected, DeviceId, GivingsKeepAway, Happening, IsBefore, IsCaused}
+use Words.{IsDue, IsFounded, IsFoundedAt, IsGood, IsIn, IsInBlock, IsInSpan, IsOldAt, IsRowDispatch, IsTimedAt, IsView}
+use Words.{Joining, Judgement, LinkId, List, Network, None, NoteBody, Option, Reason, Scenario, Sizes, Some, Stands}
+use Words.{State, Synchronised, TimedAreNotTurnedOn, Units, View, VlId, [], adjustment_left, adjustment_stays, amount}
+use Words.{ap, append_assoc, arith, before_narrow, before_of, begins_late, behind_first, between, block_ends, both_ways}
+use Words.{by_lt_z, cases_lt, changes_adjustment, clock_of, clocks_reach_sharply, earlier, earlier_before}
+use Words.{earlier_parts, epoch_time, eqb-true, false, false_from_ne_true, fold-append, follows_before, founded_at}
+use Words.{has_time, in_between, in_left, in_order, in_parts, inl, inr, int_lt, ints, is_end, is_joined_by, is_relay}
+use Words.{is_synchronised, is_turned_on_at, key, last_correction, last_setting, le-ltb, length, lt-ltb, members_in}
+use Words.{nat_lt, negsuc, none_first, not_less, numbered_in, octet_time, offset_in_cycle, one_device, option_and_then}
+use Words.{option_map_or, parted, place_of, port_time, pos, rank, reaches_by, refl, room, setting_is, shown_at}
+use Words.{standpoint, start_of, state_after, state_at_start, state_left, state_with, steady, subst, suc, sym, time_of}
+use Words.{true, within_run, zero, ℕ, ℤ}
+use Rattle.precision_law.proofs.traffic_lemmas.delivery.{Coming.dispatches_are_whole}
+use Rattle.precision_law.proofs.traffic_lemmas.delivery.{Forwarding.{no_later, none_last, state_is}}
 use Rattle.precision_law.proofs.traffic_lemmas.ports.{Arrived.arrived_sound, Cycles.{same_end, same_next}}
 use Rattle.precision_law.proofs.traffic_lemmas.ports.{Openers.opened_by}
 use Rattle.precision_law.proofs.traffic_lemmas.ports.Dispatched
-use Dispatched.{cycle_is, dispatches_are_in_spans, hull_proper, hulls_follow}
+use Dispatched.{cycle_is, dispatches_are_in_spans, dispatches_are_of_rows, dispatches_stand_apart, hull_proper}
+use Dispatched.{hulls_follow, leavings_stand_apart}
 use Rattle.precision_law.proofs.traffic_lemmas.spans.Spans
 use Spans.{Keeps, corrected_late, earlier_founded, has_time_at, hull_behind, in_places, kept_by_all, kept_if}
 use Spans.{last_is_correction, last_of, no_joining, synchronised_keep_time, synchronised_stay_so, synchronised_stays}
-use Rattle.run_law.proofs.{records.{Happenings.is_earlier, Order.{contained, given_of, none_any, same_kept}}}
-use Rattle.run_law.proofs.{runs.Places.in_right, scenario.Devices.master_end}
+use Rattle.precision_law.specs.{BlockLaws.BlockIsOver, Blocks.HasTimeAt, Hulls.IsOverBefore}
+use Rattle.precision_law.specs.{traffic.Ports.{IsLeaving, PortsStayApart}}
+use Rattle.run_law.proofs.{records.Order.{contained, given_of, is_earlier, none_any, same_kept}, runs.Places.in_right}
+use Rattle.run_law.proofs.{scenario.Devices.master_end}
 use Rattle.run_law.specs.{device.States.{adjustment_at_hearing, cycle_in, state_at_hearing}}
-use Rattle.run_law.specs.{records.Happenings.frame_by, scenario.Devices.is_cm}
+use Rattle.run_law.specs.{law.Safety.{IsControlOnPort, IsTtOnPort, time_of_octets}}
+use Rattle.run_law.specs.{records.Happenings.{frame_by, happenings}, scenario.Devices.is_cm}
 use Rattle.run_law.specs.control.{Corrections.correction_value, Emissions.Emits, Leaving.Gives}
 use Rattle.run_law.specs.control.{Permanence.{BecomesPermanent, IsCollectedOrDropped, IsJudgedBy, ripe_as}}
 use Rattle.run_law.specs.control.Collections
@@ -44,6 +50,90 @@ use Rattle.run_law.specs.declared.judgement.Judgement.TheVariants as judgements
 use Rattle.run_law.specs.declared.judgement.Why.TheVariants as whys
 use Rattle.run_law.specs.declared.note.NoteBody.TheVariants as notes
 use Rattle.run_law.specs.declared.steps.Ripe.TheVariants as ripe
+
+-- ---- no frame meets a frame of the schedule on a port
+
+-- ---- what occupies a port
+
+-- a frame of the schedule occupies the port at the time
+record IsTtThen (s : Scenario) (h : Happening) (device : DeviceId) (link : LinkId) (t : ℕ) : Type 0 where
+  pub cause : ℕ
+  pub vl : VlId
+  pub cycle : ℕ
+  pub is : h.note.body ≡ notes.TtSent device link cause vl cycle
+  pub from : time_of h ≤ t
+  pub to : t < time_of h + time_of_octets s.network link (length h.octets)
+
+-- what says so is such a record
+tt_then : (s : Scenario) (h : Happening) (device : DeviceId) (link : LinkId) (t : ℕ) (body : NoteBody) → h.note.body ≡ body → IsTtOnPort s h body device link t
+    → IsTtThen s h device link t
+tt_then s h device link t (notes.TtSent sender by cause vl cycle) same on = grind arith
+tt_then s h device link t body same on = absurd on
+
+-- a control frame does
+record IsControlThen (s : Scenario) (h : Happening) (device : DeviceId) (link : LinkId) (t : ℕ) : Type 0 where
+  pub cause : ℕ
+  pub clock : ℕ
+  pub is : h.note.body ≡ notes.Left device link cause clock
+  pub from : time_of h ≤ t
+  pub to : t < time_of h + time_of_octets s.network link 60
+
+-- what says so is such a record
+control_then : (s : Scenario) (h : Happening) (device : DeviceId) (link : LinkId) (t : ℕ) (body : NoteBody) → h.note.body ≡ body
+    → IsControlOnPort s h body device link t → IsControlThen s h device link t
+control_then s h device link t (notes.Left sender by cause clock) same on = grind arith
+control_then s h device link t body same on = absurd on
+
+-- how long a frame of the schedule does
+row_time : {v : View} {h : Happening} {device : DeviceId} {link : LinkId} {cause : ℕ} {vl : VlId} {cycle : ℕ}
+    → IsView v → (d : IsRowDispatch v h device link cause vl cycle)
+    → time_of_octets v.scenario.network link (length h.octets) ≡ port_time d.entry
+row_time {v} {h} {device} {link} {cause} {vl} {cycle} is d =
+    rw (rw d.by at d.row.link)
+    (ap (λ n. (n + 24) * octet_time d.entry.link.speed) (dispatches_are_whole v h device link cause vl cycle is d))
+
+-- ---- ports
+
+-- a record of one number is one
+not_same : (h g : Happening) → h.note.number ≢ g.note.number → h ≡ g → ⊥
+not_same h g differ same = differ (rw same)
+
+pub ports_stay_apart : BringsBlocks → BringsChannels → GivingsKeepAway → PortsStayApart
+ports_stay_apart brings channels away s mark ns until run h g device link t i j differ correct on other =
+    let hs = happenings s.network ns in
+    let u = max (time_of h) (time_of g) in
+    let in_run : u ≤ until = omega (arith, run.within h i, run.within g j) in
+    let channel = channels.sound s u run.up.lawful in
+    let at = view_at u channel.0 run.up in_run channel.1 in
+    let v = view_of s hs u channel.0 at in
+    let here = at.cut.has h i (omega arith) in
+    let there = at.cut.has g j (omega arith) in
+    let first = tt_then s h device link t h.note.body refl on in
+    let d = dispatches_are_of_rows v h device link first.cause first.vl first.cycle at.is here first.is in
+    let size = row_time at.is d in
+    let later : View = record { scenario = s; until = t; records = at.cut.front; sizes = v.sizes; channel = channel.0 } in
+    let good_at : u ≤ t → IsGood v device = λ le. channels.correct later device u correct le in
+    elim other [
+      | inl two ↦
+          let second = tt_then s g device link t g.note.body refl two in
+          let e = dispatches_are_of_rows v g device link second.cause second.vl second.cycle at.is there second.is in
+          let length_is = row_time at.is e in
+          elim (dispatches_stand_apart brings v h g device link first.cause second.cause first.vl second.vl first.cycle second.cycle at.is
+          (good_at (omega (arith, first.from, second.from))) (not_same h g differ) d e) [
+            | inl before ↦ omega (arith, first.to, second.from)
+            | inr behind ↦ omega (arith, second.to, first.from)
+          ]
+      | inr two ↦
+          let second = control_then s g device link t g.note.body refl two in
+          let leaving : IsLeaving v g device link second.cause second.clock = record { there = there; is = second.is } in
+          elim (leavings_stand_apart brings away v h g device link first.cause second.cause second.clock first.vl first.cycle at.is
+          (good_at (omega (arith, first.from, second.from))) d leaving) [
+            | inl before ↦ omega (arith, first.to, second.from)
+            | inr behind ↦ omega (arith, second.to, first.from)
+          ]
+    ]
+
+-- ---- when a synchronised master's frames pass gates, and a switch gives no control frame to a link
 
 -- ---- what a synchronised compression master sends was opened by a frame that passed its gate
 

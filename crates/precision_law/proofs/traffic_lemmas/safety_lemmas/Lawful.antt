@@ -18,9 +18,9 @@ use Rattle.precision_law.specs.traffic.safety.{Under.{IsUnder, last_time, readin
 use Rattle.precision_law.specs.traffic.safety.Laws
 use Laws.{EndedRunsAreSafe, FrontRunsAreSafe, OwnRunsAreSafe, RunsSoFarAreSafe}
 use Rattle.run_law.proofs.{law.FirstDeliveries.{IsSplit, split}}
-use Rattle.run_law.proofs.{records.{Happenings.soon, Order.contained, Told.{note_in, notes_of, told}}}
+use Rattle.run_law.proofs.{records.{Order.{contained, soon}, Told.{note_in, notes_of, told}}}
+use Rattle.run_law.proofs.{scenario.Devices.{Holds, IsSlow, IsStepAt, in_turn, slow_event, slow_what, step_is}}
 use Rattle.run_law.proofs.{runs.{NetworkRuns.same_notes, Places.{before_of_time, in_left, in_right, parted}}}
-use Rattle.run_law.proofs.{scenario.{Devices.in_turn, Rated.{Holds, IsSlow, IsStepAt, slow_event, slow_what, step_is}}}
 use Rattle.run_law.specs.{declared.{note.{Note.Note, NoteBody.NoteBody}, outside.Outside.TheVariants.Late}}
 use Rattle.run_law.specs.{law.{FirstLaws.{IsEventInRange, IsLawful}, Safety.{ClocksAgree, IsOwed, IsSafe}}}
 use Rattle.run_law.specs.{runs.{DueRecords.{EndsAt, IsDue, IsRunOf, IsScenarioRun}, Runs.IsRun}}

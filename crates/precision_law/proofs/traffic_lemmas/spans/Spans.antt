@@ -26,8 +26,8 @@ use Rattle.precision_law.specs.traffic.Spans
 use Spans.{IsReachedInSpan, ReachesInSpan, SynchronisedKeepTime, SynchronisedStaySo, ValuesAreReached}
 use Spans.{ValuesAreReachedInSpans}
 use Rattle.run_law.{specs.{control.{Corrections.ComesToCorrection, Permanence.ripe_as}, runs.DueRecords.IsEventRecord}}
-use Rattle.run_law.proofs.{control.Joined.looking_by, device.States.is_in, law.FirstDeliveries.front_founded}
-use Rattle.run_law.proofs.{records.{Happenings.soon, Order.all_kept}}
+use Rattle.run_law.proofs.{control.Verdicts.looking_by, device.States.is_in, law.FirstDeliveries.front_founded}
+use Rattle.run_law.proofs.{records.Order.{all_kept, soon}}
 use Rattle.sync_state.specs.declared.answers.Verdict.{TheVariants.{AsyncClique, SyncClique}, Verdict}
 use Rattle.tte_units.proofs.general_lemmas.{Integers.whole, Options.one}
 use Rattle.run_law.specs.declared.judgement.Judgement.TheVariants as judgements

@@ -1,5 +1,5 @@
 use Rattle.std.{proofs.{Common.{◌∙◌, ◌≡◌, Some, get_or, sym}, lemmas.{Bool.false≢true, Option.slice_get-get_or}}, specs.Prelude.slice_get}
-use Rattle.schedule_checker.proofs.{EntryPlaces.both_channels}
+use Rattle.schedule_checker.proofs.Elements.{both_channels}
 use Rattle.schedule_checker.proofs.both_channels.goes_by_both_channels.Goals.{else-leaves_on_both, then-leaves_on_both}
 use Rattle.schedule_checker.specs.Routes.{EntersEndSystem, LeavesOnBoth}
 use Rattle.schedule_checker.proofs.both_channels.goes_by_both_channels.Goals as goal

@@ -1,5 +1,5 @@
 use Rattle.std.proofs.lemmas.Option.{slice_get-get_or}
-use Rattle.schedule_checker.proofs.EntryPlaces.{grouped, one_more}
+use Rattle.schedule_checker.proofs.Elements.{grouped, one_more}
 use Rattle.std.proofs.Common.{arith, get_or}
 use Rattle.schedule_checker.proofs.groups.groups_of.Goals as goal
 

@@ -1,4 +1,4 @@
-use Rattle.schedule_checker.proofs.EntryPlaces.{HasPlaces}
+use Rattle.schedule_checker.proofs.Elements.{HasPlaces}
 use Rattle.schedule_checker.proofs.groups.groups_of.Given as goal
 
 abbrev pub invariant-loop-place : goal.invariant-loop-place

@@ -1,5 +1,5 @@
 use Rattle.std.proofs.Common.{ap, arith, below_more, refl}
-use Rattle.schedule_checker.{proofs.FirstBroken.kept_beyond, specs.Judging.{places_of, plan_rule}}
+use Rattle.schedule_checker.{proofs.Shape.kept_beyond, specs.Judging.{places_of, plan_rule}}
 use Rattle.schedule_checker.proofs.judge.broken_plan.Goals as goal
 
 pub places-preserved : goal.places-preserved

@@ -1,5 +1,5 @@
 use Rattle.std.proofs.Common.{◌+◌, arith, get_or}
-use Rattle.schedule_checker.{proofs.FirstBroken.{keeps_next, shape_number, shape_rules, tells}}
+use Rattle.schedule_checker.proofs.Shape.{keeps_next, shape_number, shape_rules, tells}
 use Rattle.schedule_checker.{specs.Judging.shape_rule}
 use Rattle.schedule_checker.specs.declared.parts.ShapeRule.TheVariants as shapes
 use Rattle.schedule_checker.proofs.judge.judge_shape.Goals as goal

@@ -1,5 +1,5 @@
 use Rattle.std.{proofs.{Common.{rules, sym, tests, ℕ}, lemmas.Iterator.{YieldsList-from_slice, cases_from_all}}, specs.Prelude.{IfSome, slice_get}}
-use Rattle.schedule_checker.proofs.{Elements.all_decides, EntryPlaces.ComesBehindThis, SomePlaces.all_there}
+use Rattle.schedule_checker.proofs.Elements.{ComesBehindThis, all_decides, all_there}
 use Rattle.schedule_checker.proofs.ports.comes_behind_all.Goals as goal
 
 pub returns : goal.returns

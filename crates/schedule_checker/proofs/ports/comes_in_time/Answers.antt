@@ -1,4 +1,4 @@
-use Rattle.schedule_checker.proofs.EntryPlaces.{entry_ranges, entry_read, in_time_of_sender, in_time_of_switch}
+use Rattle.schedule_checker.proofs.Elements.{entry_ranges, entry_read, in_time_of_sender, in_time_of_switch}
 use Rattle.{std.proofs.{Common.{arith, rules}, lemmas.{Grind.common_steps, Int.ints}}}
 use Rattle.schedule_checker.proofs.ports.comes_in_time.Goals as goal
 

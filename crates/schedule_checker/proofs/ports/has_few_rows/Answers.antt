@@ -1,5 +1,5 @@
 use Rattle.std.proofs.Common.{◌==◌, ◌∙◌, ◌≡◌, rules, tests}
-use Rattle.schedule_checker.proofs.EntryPlaces.{rows_leave}
+use Rattle.schedule_checker.proofs.Elements.{rows_leave}
 use Rattle.{schedule_tables.specs.{Entries.source_of, Schedule.leaves}, std.{proofs.iter.runs.Made.chains, specs.List.count_by}}
 use Rattle.schedule_checker.proofs.ports.has_few_rows.Goals as goal
 

@@ -1,5 +1,5 @@
 use Rattle.std.{proofs.Common.{◌∙◌, ap}, specs.Prelude.unsigned_abs}
-use Rattle.schedule_checker.proofs.{AtPlace.{if_past, if_there}, EntryPlaces.IsApartFrom}
+use Rattle.schedule_checker.proofs.{AtPlace.{if_past, if_there}, Elements.IsApartFrom}
 use Rattle.schedule_checker.proofs.ports.is_apart.Goals as goal
 
 pub returns-in-Some : goal.returns-in-Some

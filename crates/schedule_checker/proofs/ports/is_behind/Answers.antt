@@ -1,4 +1,4 @@
-use Rattle.schedule_checker.proofs.{AtPlace.{if_past, if_there}, EntryPlaces.ComesBehindThis}
+use Rattle.schedule_checker.proofs.{AtPlace.{if_past, if_there}, Elements.ComesBehindThis}
 use Rattle.schedule_checker.proofs.ports.is_behind.Goals as goal
 
 pub returns-in-Some : goal.returns-in-Some

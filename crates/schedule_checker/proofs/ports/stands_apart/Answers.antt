@@ -1,5 +1,5 @@
 use Rattle.std.proofs.Common.{refl, take}
-use Rattle.schedule_checker.proofs.EntryPlaces.{entry_ranges, entry_read, stands_apart}
+use Rattle.schedule_checker.proofs.Elements.{entry_ranges, entry_read, stands_apart}
 use Rattle.schedule_checker.proofs.ports.stands_apart.Goals as goal
 
 pub stands_apart_from-requires-clause-entries : goal.stands_apart_from-requires-clause-entries

@@ -1,5 +1,5 @@
 use Rattle.std.{proofs.{Common.{◌<◌, rules, sym, tests, ℕ}, lemmas.Iterator.{YieldsList-from_slice, cases_from_all}}, specs.Prelude.{IfSome, slice_get}}
-use Rattle.schedule_checker.proofs.{Elements.all_decides, EntryPlaces.IsApartFrom, SomePlaces.all_before}
+use Rattle.schedule_checker.proofs.Elements.{IsApartFrom, all_before, all_decides}
 use Rattle.schedule_checker.proofs.ports.stands_apart_from.Goals as goal
 
 pub returns : goal.returns

@@ -1,5 +1,5 @@
 use Rattle.std.proofs.Common.{refl, rules, take}
-use Rattle.schedule_checker.proofs.EntryPlaces.{enters_anew, enters_anew_back, entry_read}
+use Rattle.schedule_checker.proofs.Elements.{enters_anew, enters_anew_back, entry_read}
 use Rattle.schedule_checker.proofs.routes.enters_anew.Goals as goal
 
 pub returns-then-ne : goal.returns-then-ne

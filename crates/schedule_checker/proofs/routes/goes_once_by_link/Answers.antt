@@ -1,4 +1,4 @@
-use Rattle.schedule_checker.proofs.EntryPlaces.{entry_read, goes_once}
+use Rattle.schedule_checker.proofs.Elements.{entry_read, goes_once}
 use Rattle.schedule_checker.proofs.routes.goes_once_by_link.Goals as goal
 
 pub returns : goal.returns

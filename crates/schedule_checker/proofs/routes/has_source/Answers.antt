@@ -1,5 +1,5 @@
 use Rattle.std.proofs.Common.{◌≡◌, ◌≢◌, arith, inl, inr, rules, ⊎_elim}
-use Rattle.schedule_checker.proofs.EntryPlaces.{entry_read, has_source, has_source_back}
+use Rattle.schedule_checker.proofs.Elements.{entry_read, has_source, has_source_back}
 use Rattle.schedule_tables.specs.{Entries.source_of, Schedule.IsSwitch}
 use Rattle.schedule_checker.proofs.routes.has_source.Goals as goal
 

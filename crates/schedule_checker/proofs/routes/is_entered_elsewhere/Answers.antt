@@ -1,5 +1,5 @@
 use Rattle.std.{proofs.{Common.{◌≢◌, rules, tests, ℕ}, lemmas.Iterator.{YieldsList-from_slice, cases_from_any}}, specs.Prelude.{IsSomeAnd, slice_get}}
-use Rattle.schedule_checker.{proofs.{Elements.any_decides, EntryPlaces.entered_elsewhere, SomePlaces.some_by}}
+use Rattle.schedule_checker.proofs.Elements.{any_decides, entered_elsewhere, some_by}
 use Rattle.schedule_checker.{specs.Routes.EntersSource}
 use Rattle.schedule_checker.proofs.routes.is_entered_elsewhere.Goals as goal
 

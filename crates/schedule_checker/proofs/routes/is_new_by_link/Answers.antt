@@ -1,5 +1,5 @@
 use Rattle.std.{proofs.{Common.{◌<◌, rules, sym, tests, ℕ}, lemmas.Iterator.{YieldsList-from_slice, cases_from_all}}, specs.Prelude.{IfSome, slice_get}}
-use Rattle.schedule_checker.{proofs.{Elements.all_decides, SomePlaces.all_before}, specs.Routes.GoesElsewhere}
+use Rattle.schedule_checker.{proofs.Elements.{all_before, all_decides}, specs.Routes.GoesElsewhere}
 use Rattle.schedule_checker.proofs.routes.is_new_by_link.Goals as goal
 
 pub returns : goal.returns

@@ -1,4 +1,5 @@
-use Rattle.{schedule_checker.proofs.BetaLemmas.{delays_from_channels, delays_on_channel}, tte_units.specs.declared.frames.channel.Channel.TheVariants.{A, B}}
+use Rattle.schedule_checker.proofs.Elements.{delays_from_channels, delays_on_channel}
+use Rattle.tte_units.specs.declared.frames.channel.Channel.TheVariants.{A, B}
 use Rattle.schedule_checker.proofs.timing.delays_fit.Goals as goal
 
 pub returns-then-delays_fit_on : goal.returns-then-delays_fit_on

@@ -1,4 +1,4 @@
-use Rattle.schedule_checker.proofs.{EntryPlaces.entry_read, WindowLemmas.ends_from_entry}
+use Rattle.schedule_checker.proofs.{Elements.entry_read, WindowLemmas.ends_from_entry}
 use Rattle.{schedule_tables.specs.Windows.window_end, std.{proofs.{Common.{◌∙◌, ◌≡◌, ap, arith}, lemmas.Bool.{le-leb, leb-true}}, specs.Prelude.unsigned_abs}}
 use Rattle.schedule_checker.proofs.timing.ends_in_cycle.Goals as goal
 

@@ -1,4 +1,5 @@
-use Rattle.{schedule_checker.{proofs.BetaLemmas.{at_beta, of_beta}, specs.Timing.errors_of}, std.proofs.lemmas.Bool.{le-leb, leb-true}}
+use Rattle.std.proofs.lemmas.Bool.{le-leb, leb-true}
+use Rattle.schedule_checker.{proofs.Elements.{at_beta, of_beta}, specs.Timing.errors_of}
 use Rattle.{std.proofs.Common.{◌≤◌, arith, ℕ}, tte_units.specs.Amount.amount}
 use Rattle.schedule_checker.proofs.timing.errors_settle.Goals as goal
 

@@ -1,4 +1,4 @@
-use Rattle.{schedule_checker.{proofs.BetaLemmas.{errors_from_precision, precision_from_errors}}}
+use Rattle.schedule_checker.proofs.Elements.{errors_from_precision, precision_from_errors}
 use Rattle.std.proofs.{Common.{arith}, lemmas.Bool.{le-leb, leb-true}}
 use Rattle.schedule_checker.proofs.timing.precision_fits.Goals as goal
 

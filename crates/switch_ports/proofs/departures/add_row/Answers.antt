@@ -1,4 +1,5 @@
-use Rattle.{net_plan.proofs.SameIds.same_device, switch_ports.proofs.{RowOrder.row_kept, Words.{subst, sym, unwrap_or, ℕ}}}
+use Rattle.net_plan.proofs.SameIds.{same_device}
+use Rattle.switch_ports.proofs.{RowKeys.row_kept, Words.{subst, sym, unwrap_or, ℕ}}
 use Rattle.switch_ports.proofs.Words.{◌++◌, ◌+◌, ◌∙◌, ◌∷◌, ◌≡◌, AreLeaving, Departure, None, Option, Some, [], ap, length, slice_get-get_or, slice_set}
 use Rattle.switch_ports.proofs.departures.add_row.Goals as goal
 

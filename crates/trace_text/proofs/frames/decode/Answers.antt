@@ -1,4 +1,6 @@
-use Rattle.{hex.proofs.Pairs.decode_start, std.proofs.Common.arith, trace_text.proofs.Deciphering.{decipher_more, deciphered}}
+use Rattle.std.proofs.Common.{arith}
+use Rattle.hex.proofs.Pairs.{decode_start}
+use Rattle.trace_text.proofs.Lowering.{decipher_more, deciphered}
 use Rattle.trace_text.proofs.frames.decode.Goals as goal
 
 pub octets-init : goal.octets-init

@@ -1,4 +1,4 @@
-use Rattle.trace_text.proofs.Deciphering.{Deciphers}
+use Rattle.trace_text.proofs.Lowering.{Deciphers}
 use Rattle.trace_text.proofs.frames.decode.Given as goal
 
 abbrev pub invariant-octets : goal.invariant-octets

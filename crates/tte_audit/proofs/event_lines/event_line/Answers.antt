@@ -1,5 +1,5 @@
 use Rattle.{run_law.specs.declared.note.NoteBody.TheVariants.Event, std.specs.Fmt.signed_decimal, tte_audit.specs.{Report.saying, Spellings.first_word}}
-use Rattle.tte_audit.proofs.{Telling.{some_words, text_of_words, words_of_text}}
+use Rattle.tte_audit.proofs.Telling.{some_words, text_of_words, words_of_text}
 use Rattle.tte_audit.proofs.{Words.{◌∙◌, ◌∷◌, Words, ap, behind_word, codes, decimal, rules, sym}}
 use Rattle.tte_audit.proofs.event_lines.event_line.Goals as goal
 

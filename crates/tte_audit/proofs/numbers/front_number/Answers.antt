@@ -1,4 +1,4 @@
-use Rattle.tte_audit.proofs.{Decimals.decimal_front, Words.{◌≡◌, ◌≤◌, arith, get_or, length, rules}}
+use Rattle.tte_audit.proofs.{Telling.decimal_front, Words.{◌≡◌, ◌≤◌, arith, get_or, length, rules}}
 use Rattle.tte_audit.proofs.numbers.front_number.Goals as goal
 
 pub returns-clause-text : goal.returns-clause-text

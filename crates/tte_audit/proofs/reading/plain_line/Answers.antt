@@ -1,5 +1,5 @@
 use Rattle.{run_law.specs.plain.Bodies.body_of, std.specs.Fmt.signed_decimal, tte_audit.specs.{Report.saying, Spellings.first_word}}
-use Rattle.tte_audit.proofs.{Telling.{has_kind, text_of_words, words_of_text}}
+use Rattle.tte_audit.proofs.Telling.{has_kind, text_of_words, words_of_text}
 use Rattle.tte_audit.proofs.{Words.{◌∙◌, ◌∷◌, Words, ap, behind_word, decimal, rules, sym}}
 use Rattle.tte_audit.proofs.reading.plain_line.Goals as goal
 

@@ -1,4 +1,4 @@
-use Rattle.tte_audit.proofs.{Telling.of_type}
+use Rattle.tte_audit.proofs.Telling.{of_type}
 use Rattle.tte_audit.proofs.{Words.{◌∙◌, ◌∷◌, ◌≡◌, List, Words, ap, codes, reason_words, rules, sym, ℕ}}
 use Rattle.tte_audit.proofs.reasons.refusal.Goals as goal
 

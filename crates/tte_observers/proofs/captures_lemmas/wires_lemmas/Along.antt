@@ -1,16 +1,15 @@
--- The capture of a way along the run: its header, the packets of each front, and how it ends.
+-- The capture of a way along a run that is safe: its header, the packets of each front, and how it ends.
 use Rattle.std.{proofs.Common.append_assoc, specs.Io.KnownBytes.Appends}
 use Rattle.drift_world.specs.Running.{behind_events, last_time}
 use Rattle.net_plan.specs.{Bearers.{HasNoBearer, link_names}, Ranges.IsInRange}
-use Rattle.run_law.{proofs.{records.Happenings.happenings_on, runs.NetworkRuns.{earlier_run_is_front, run_is_one}}}
+use Rattle.run_law.{proofs.{records.Order.happenings_on, runs.NetworkRuns.{earlier_run_is_front, run_is_one}}}
 use Rattle.run_law.{specs.records.Order.IsBefore}
 use Rattle.tte_forms.proofs.{frames.Frames.Gives-behind}
 use Rattle.tte_forms.proofs.Puts
 use Puts.{PutsLines-fails, PutsLines-more, PutsSome-behind, WriteFails-behind, answer_widened, one_given, one_of}
 use Rattle.tte_forms.specs.{Answering.{ForOctets, GivesAnswer, with_line}, Putting.{PutsSome, WriteFails}}
-use Rattle.tte_forms.specs.{declared.status.Status.TheVariants.{Done, WriteFault}}
+use Rattle.tte_forms.specs.{declared.status.Status.TheVariants.{Done, WriteFault}, networks.Accepting.MeansAccepted}
 use Rattle.tte_io.specs.{Faults.next_count, Told.AppendsFront}
-use Rattle.tte_observers.{specs.captures.wires.{Answer.{IsWireAnswer, name_answer}, Streaming.headed_lines}}
 use Rattle.tte_observers.proofs.captures_lemmas.wires_lemmas.{Cuts.packets_stay, Seen.{at_start, whole}}
 use Rattle.tte_observers.proofs.captures_lemmas.wires_lemmas.{Settled.{filter_has, settled_first, settled_sooner}}
 use Rattle.tte_observers.proofs.captures_lemmas.wires_lemmas.Words
@@ -21,13 +20,17 @@ use Words.{Some, Status, StopsWay, Told, Way, [], amount, ap, append-nil, captur
 use Words.{for_all, for_more, happenings, head_octets, inl, inr, is_settled, length, packet_of, packets_of, place_of}
 use Words.{refl, scenario_under, sent_packets, settled, settled_lines, shown_as, shown_by, subst, sym, told_by, true}
 use Words.{unsettled, way_lines, ℕ}
+use Rattle.tte_observers.specs.captures.wires.{Answer.{IsWireAnswer, name_answer}}
+use Rattle.tte_observers.specs.captures.wires.{Safely.{IsCaptureToFault, IsSilent, IsWholeCapture}}
+use Rattle.tte_observers.specs.captures.wires.{Streaming.headed_lines}
 use Rattle.tte_traces.proofs.{Answers.same_end, EventOrder.{last_before, not_earlier}}
-use Rattle.tte_traces.proofs.{Runs.{lasts, place_low, trace_answers_exist, up_to_end}}
 use Rattle.tte_traces.proofs.Admitted
 use Admitted.{IsStopped, admitted_in_order, admitted_one, end_has_no_fault, fault_one, fault_stops, front_admitted}
 use Admitted.{stopped_one}
 use Rattle.tte_traces.proofs.Ends.{done_no_read, fault_no_read, for_stopped, little_at, little_so_far, puts_shown}
 use Rattle.tte_traces.proofs.Ends.{trace_ended, trace_stopped, writes_answer}
+use Rattle.tte_traces.proofs.Runs
+use Runs.{IsSafe, fault_safe, lasts, of_fault, of_whole, place_low, trace_answers_exist, up_to_end, whole_safe}
 use Rattle.tte_traces.specs.{Along.{BeginWith, IsAllAdmitted, IsFrontOf, IsShortAt, PutsAlong}}
 use Rattle.tte_traces.specs.{Answer.{AnswersFault, LinesOf}, Lines.{IsFault, behind_lines}}
 use Rattle.tte_traces.specs.{Streaming.{ForTrace, StopsBehindLines, TakesLittle}, Taking.IsStopAt}
@@ -39,6 +42,8 @@ use Rattle.world_law.specs.source.Applying.{place_of_event}
 use Rattle.tte_io.specs.declared.ends.Sink as sinks
 use Rattle.tte_io.specs.declared.ends.Source as sources
 use Rattle.tte_traces.specs.declared.fault.TraceStop.TheVariants as ends
+
+-- ---- the capture of a way along the run: its header, the packets of each front, and how it ends
 
 -- ---- the capture of a run begins with the packets of the settled records of each front of it
 
@@ -560,3 +565,25 @@ module _ (link : LinkId) (way : Way) (network : Network) (first left : Option (L
         more = t.more;
         few = t.few;
       }) h
+
+-- ---- what `wire` writes is the capture of a run that is safe
+
+module _ (name : List ℕ) (way : Way) (network : Network) (range : IsInRange network) (octets trace : List ℕ) where
+  abbrev Safe : Answer → Type 0
+  Safe a = IsSafe (IsWholeCapture name way octets trace) (IsCaptureToFault name way octets trace) IsSilent a
+
+  either_safe : (link : LinkId) (events : List Event) (a b : Answer) → MeansAccepted octets network → IsNamed network name link
+      → AreAdmitted network trace events → EndsEither (way_lines link way) network trace events b → a ≡ with_line head_octets b → Safe a
+  either_safe link events a b m named admitted (inl w) is =
+      whole_safe (IsWholeCapture name way octets trace) (IsCaptureToFault name way octets trace) IsSilent
+      (head_octets ∷ way_lines link way network events w.notes) a (is ∙ ap (with_line head_octets) w.answer)
+      (of_whole octets trace network range m events admitted w.notes _ w.records (link, named, refl))
+  either_safe link events a b m named admitted (inr f) is =
+      fault_safe (IsWholeCapture name way octets trace) (IsCaptureToFault name way octets trace) IsSilent f.fault
+      (head_octets ∷ way_lines link way network events f.notes) a (is ∙ ap (with_line head_octets) f.answer)
+      (of_fault octets trace network range m events admitted f.notes _ f.fault f.is f.records (link, named, refl))
+
+  -- an answer of `wire` for an accepted network is safe
+  pub wire_safe : (a : Answer) → MeansAccepted octets network → IsWireAnswer name way trace network a → Safe a
+  wire_safe a m (inl (none, is)) = subst Safe (sym is) (record { safe = inr refl; whole = λ old new puts. tt })
+  wire_safe a m (inr (link, named, (b, c, is))) = either_safe link c.events a b m named c.admitted c.is is

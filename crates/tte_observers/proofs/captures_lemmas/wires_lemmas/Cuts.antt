@@ -1,8 +1,9 @@
 -- Whether a way is cut, as events befall the network; and the packets that follow from it.
-use Rattle.{device_rules.specs.frames.traced.RecordOctets.shown, run_law.{proofs.records.Order.all_kept, specs.scenario.Ways.{cut_set, is_cut, is_way}}}
+use Rattle.device_rules.specs.frames.traced.RecordOctets.{shown}
+use Rattle.run_law.{proofs.records.Order.all_kept, specs.scenario.Ways.{cut_set, is_cut, is_way}}
+use Rattle.tte_traces.proofs.Runs.{no_events}
 use Rattle.std.{proofs.lemmas.{Bool.le-leb, List.Elements.filter-append}, specs.List.{filter_map, last_or}}
 use Rattle.net_plan.specs.declared.tables.Way.TheVariants.{Up}
-use Rattle.tte_traces.proofs.Runs.{no_events}
 use Rattle.world_state.proofs.queue_lemmas.Slots.{same_map}
 use Rattle.{std.proofs.Common.{◌&&◌, filter, nat_le, not, unwrap_or}, tte_observers.specs.captures.wires.{Packets.is_carried, Seeing.{cut_after, sent_by}}}
 use Rattle.tte_observers.proofs.captures_lemmas.wires_lemmas.Words.{◌++◌, ◌<◌, ◌==◌, ◌∙◌, ◌∷◌, ◌≡◌, ◌≤◌, AreFrom, Bool, Event, Happening, IsIn, LinkId, List}

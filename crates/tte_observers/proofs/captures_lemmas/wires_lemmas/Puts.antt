@@ -6,7 +6,7 @@ use Rattle.std.specs.{Prelude.{IfErr, IfSome, MatchResult, OnOk, slice_get, unsi
 use Rattle.device_rules.specs.frames.traced.RecordOctets.{shown}
 use Rattle.drift_world.specs.{Running.event_note, Wires.{IsOfNow, put_by}}
 use Rattle.pcf_codec.specs.Encoded.{encoded}
-use Rattle.run_law.{proofs.records.Order.index_of}
+use Rattle.run_law.proofs.records.Order.{index_of}
 use Rattle.run_law.specs.{control.Wires.{Launch, Signal, control, launched, timed}, records.Happenings.numbered}
 use Rattle.run_law.specs.{scenario.Ways.{is_way, way_from}}
 use Rattle.tte_forms.proofs.Puts.{PutFails-more, PutsLines-fails, PutsLines-more}

@@ -1,7 +1,8 @@
 -- Which records are settled as one more is given.
 use Rattle.run_law.{proofs.law.FirstDeliveries.{in_filter, none_kept}, specs.records.Order.IsBefore}
 use Rattle.tte_observers.specs.captures.wires.Packets.{is_behind_events}
-use Rattle.run_law.proofs.{records.Order.{all_kept, any_in, in_any, same_kept}, runs.Places.{in_left, in_parts, in_right, parted}}
+use Rattle.run_law.proofs.{records.Order.{all_kept, any_in, in_any, same_kept}}
+use Rattle.run_law.proofs.{runs.Places.{in_left, in_parts, in_right, parted}}
 use Rattle.std.proofs.{Common.{◌&&◌, filter, nat_lt, not}, lemmas.{Bool.{or_cases, or_left, or_right}, List.Elements.filter-append}}
 use Rattle.std.proofs.lemmas.Bool.{and_from, cases_Bool, cases_lt, eq-eqb, false_from_ne_true, lt-ltb, ltb-true, not-true, not_from_false, not_from_true}
 use Rattle.tte_observers.proofs.captures_lemmas.wires_lemmas.Words.{◌++◌, ◌<◌, ◌==◌, ◌∙◌, ◌∷◌, ◌≡◌, ◌≤◌, ◌⊎◌, AllBefore, Bool, Happening, IsIn, List, []}

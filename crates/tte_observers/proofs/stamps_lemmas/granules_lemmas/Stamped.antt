@@ -17,6 +17,7 @@ use Rattle.precision_law.specs.{Sizes.{HaveRoom, Sizes, sizes_of}}
 use Rattle.run_law.proofs.{device.States.is_in, law.FirstDeliveries.in_filter}
 use Rattle.run_law.proofs.{records.{Members.in_kept, Order.{any_in, contains, has_passed, in_any}}}
 use Rattle.run_law.proofs.{runs.Places.{in_left, in_parts, in_right, parted}, scenario.Devices.in_turn}
+use Rattle.sync_state.proofs.VerdictLemmas.{up_state}
 use Rattle.run_law.specs.{declared.note.Note.Note}
 use Rattle.run_law.specs.{law.{FirstLaws.{IsEventInRange, IsLawful}, Safety.{IsInStep, IsInStepBefore}}}
 use Rattle.run_law.specs.{records.{Happenings.{Happening, earlier, happenings, up_to}, Order.IsIn}}
@@ -26,7 +27,6 @@ use Rattle.run_law.specs.device.{States.{adjustment_after, is_synchronised, stat
 use Rattle.run_law.specs.scenario.{Devices.start_of, Hypothesis.{AreWithinHypothesis, breaks_at}}
 use Rattle.run_law.specs.scenario.{Scenarios.{Scenario, events_up_to, is_broken, is_turned_on_at}}
 use Rattle.schedule_tables.{proofs.Margins.{margins, shape_rules}, specs.declared.rule.Rule.TheVariants.Masters}
-use Rattle.sync_state.{proofs.StateFacts.up_state}
 use Rattle.sync_state.{specs.{Standing.adjustment_at_start, declared.state.State.TheVariants.Synchronised}}
 use Rattle.tte_observers.{proofs.stamps_lemmas.granules_lemmas.Floors.{floors_near, stamp_of-floor}}
 use Rattle.tte_observers.specs.stamps.granules.{Granules.{IsFloor, stamp_of}}

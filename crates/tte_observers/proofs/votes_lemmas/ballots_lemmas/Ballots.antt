@@ -10,7 +10,7 @@ use Rattle.std.specs.{Prelude.{if◌then◌else◌, IsSome, OnOk, is_some, optio
 use Rattle.std.specs.{declared.cmp.Ordering.TheVariants.{Equal, Greater, Less}}
 use Rattle.device_rules.specs.frames.traced.{Keeping.{Keeps, TraceView}, RecordOctets.record_octets}
 use Rattle.net_plan.specs.declared.{ids.{DeviceId.DeviceId, VlId.VlId}, network.Network.Network}
-use Rattle.run_law.proofs.{law.FirstDeliveries.{numbered_front, numbered_next}, records.Happenings.as_many}
+use Rattle.run_law.proofs.{law.FirstDeliveries.{numbered_front, numbered_next}, records.Order.as_many}
 use Rattle.run_law.proofs.{runs.NetworkRuns.one_more}
 use Rattle.run_law.specs.{declared.note.{Note.Note, NoteBody.NoteBody}}
 use Rattle.run_law.specs.{records.Happenings.{Happening, happening, happenings}}

@@ -1,5 +1,5 @@
 use Rattle.{std.proofs.Common.{◌∙◌, Err, ap, inl, inr}, tte_forms.specs.Putting.shown_by, tte_reports.proofs.Answers.no_network_status}
-use Rattle.tte_reports.{proofs.{Reports.{completed, files_safely}, Sources.{files_accepted, files_refused}}}
+use Rattle.tte_reports.proofs.{Reports.{completed, files_safely}, Sources.{files_accepted, files_refused}}
 use Rattle.tte_reports.{specs.Reports.IsReportAnswer}
 use Rattle.tte_reports.proofs.commands.answer_report.Goals as goal
 

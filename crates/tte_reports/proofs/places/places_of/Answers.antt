@@ -1,5 +1,5 @@
-use Rattle.{std.{proofs.{Common.{◌+◌, ◌∙◌, subst, sym}, lemmas.List.take_rest}, specs.Prelude.drop}, tte_reports.proofs.Placed.IsFoundSoFar}
-use Rattle.tte_reports.proofs.Placed.{found_all, found_none, found_one}
+use Rattle.std.{proofs.{Common.{◌+◌, ◌∙◌, subst, sym}, lemmas.List.take_rest}, specs.Prelude.drop}
+use Rattle.tte_reports.proofs.Reports.{IsFoundSoFar, found_all, found_none, found_one}
 use Rattle.tte_reports.proofs.places.places_of.Goals as goal
 
 pub lines-init : goal.lines-init

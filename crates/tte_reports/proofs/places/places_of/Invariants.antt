@@ -1,4 +1,5 @@
-use Rattle.{std.proofs.Common.length, tte_reports.proofs.Placed.IsFoundSoFar}
+use Rattle.std.proofs.Common.{length}
+use Rattle.tte_reports.proofs.Reports.{IsFoundSoFar}
 use Rattle.tte_reports.proofs.places.places_of.Given as goal
 
 -- the lines so far were found

@@ -1,4 +1,4 @@
-use Rattle.tte_traces.proofs.{Along.report_along, Words.report_lines}
+use Rattle.tte_traces.proofs.{Runs.report_along, Words.report_lines}
 use Rattle.tte_traces.proofs.running.run_network.Goals as goal
 
 pub returns-clause-ends : goal.returns-clause-ends

@@ -1,6 +1,6 @@
 use Rattle.tte_traces.{specs.Safely.{IsReportToFault, IsWholeReport}}
 use Rattle.tte_traces.proofs.{Ends.trace_given}
-use Rattle.tte_traces.proofs.{Runs.{report_safe, safely_accepted, safely_refused, trace_answers_exist}}
+use Rattle.tte_traces.proofs.Runs.{report_safe, safely_accepted, safely_refused, trace_answers_exist}
 use Rattle.tte_traces.proofs.Words.{IsRunAnswer, refl, report_lines, shown_by}
 use Rattle.tte_forms.{proofs.networks.Answers.{files_accepted, files_refused}, specs.networks.{Accepting.refusal_lines, NetworkLine.IsRefusalText}}
 use Rattle.tte_traces.proofs.running.run_trace.Goals as goal

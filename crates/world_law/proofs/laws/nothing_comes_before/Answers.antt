@@ -1,4 +1,4 @@
-use Rattle.world_law.proofs.acts.NoActs.{nothing_comes_before}
+use Rattle.world_law.proofs.acts.Dues.{nothing_comes_before}
 use Rattle.world_law.proofs.laws.nothing_comes_before.Goals as goal
 
 pub returns : goal.returns

@@ -1,9 +1,9 @@
 -- The steps by which a device comes to its correction point, or has the common time for the first time.
 use Rattle.std.proofs.Common.{Contains}
-use Rattle.run_law.{proofs.control.Verdicts.heard_integrates}
+use Rattle.run_law.proofs.control.Verdicts.{heard_integrates}
+use Rattle.world_law.proofs.putting.{Moving.{settled_moves, stays}, Near.frames_aside}
 use Rattle.run_law.{specs.{machines.Answers.after_correction, records.Causes.device_of}}
 use Rattle.world_law.{specs.{steps.Acting.correction_bodies, world.Calls.IsStateOf}}
-use Rattle.world_law.proofs.putting.{Moving.{settled_moves, stays}, Near.frames_aside}
 use Rattle.world_law.proofs.putting.{Placing.{IsShownPair, causes_given, change_of, pair_put}}
 use Rattle.world_law.proofs.putting.{Putting.{IsPair, corrected_unfollowed, two_by}}
 use Rattle.world_law.proofs.steps_lemmas.Words

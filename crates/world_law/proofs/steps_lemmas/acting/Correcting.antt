@@ -4,11 +4,11 @@ use Rattle.compression.proofs.Growth.{int_le-false}
 use Rattle.run_law.{proofs.law.FirstDeliveries.in_filter}
 use Rattle.run_law.specs.{control.Corrections.next_cycle, device.LocalClocks.local_at_change}
 use Rattle.run_law.specs.{machines.Answers.{after_correction, with_corrected}, records.Frames.integration_frame}
-use Rattle.sync_state.{proofs.StateFacts.{no_longer, no_point}, specs.Standing.IsAtIntegration}
+use Rattle.sync_state.{proofs.VerdictLemmas.{no_longer, no_point}, specs.Standing.IsAtIntegration}
+use Rattle.world_law.proofs.{acts.Acting.{beyond_it, next_turn}, devices.Standing.{left_alike, tell_alike}}
+use Rattle.world_law.proofs.{runs.Foremost.unmoved_by}
 use Rattle.tte_units.proofs.general_lemmas.Integers.{ahead_yet, int_le-from, int_lt-from}
 use Rattle.world_law.{specs.device.{Left.IsCounted, Own.{IsStill, borne}}}
-use Rattle.world_law.proofs.{acts.Acting.{beyond_it, next_turn}, runs.Foremost.unmoved_by}
-use Rattle.world_law.proofs.devices.{Borne.{left_alike, tell_alike}}
 use Rattle.world_law.proofs.devices.Unmoved
 use Unmoved.{adjustment_still, cleared_still, cycle_still, integration_still, local_still, started_still, state_still}
 use Rattle.world_law.proofs.steps_lemmas.Words

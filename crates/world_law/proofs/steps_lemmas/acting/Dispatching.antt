@@ -6,7 +6,7 @@ use Rattle.run_law.{specs.{records.Happenings.octets_from, timed.Dispatching.{Ha
 use Rattle.schedule_tables.{proofs.SlotLemmas.one_entry, specs.{Dispatches.dispatch_order, Entries.IsEntry}}
 use Rattle.world_law.{specs.world.World.{AreStored, Stored, last_taking}}
 use Rattle.world_law.proofs.{Words.{AreComing, IsBefore, IsOwnSource, append_assoc, chain, parted}}
-use Rattle.world_law.proofs.{acts.NoActs.{dispatch_told, send_apart}}
+use Rattle.world_law.proofs.acts.Dues.{dispatch_told, send_apart}
 use Rattle.world_law.proofs.rows.{AtHand.{IsForwarded, IsReaching, at_hand, filter_earlier, taken_sooner}}
 use Rattle.world_law.proofs.rows.{Dispatching.one_row}
 use Rattle.world_law.proofs.steps_lemmas.Words

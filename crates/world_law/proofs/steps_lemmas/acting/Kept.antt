@@ -1,11 +1,11 @@
 -- A device that acts at an instant: what it does first, what it dispatches, and how it is kept.
 use Rattle.run_law.{proofs.law.FirstDeliveries.in_filter, specs.records.Ranks.sign}
 use Rattle.schedule_tables.specs.{Dispatches.dispatch_order, Entries.IsEntry}
-use Rattle.world_law.proofs.{acts.{Acting.acted, Dues.{act_due, came_not, done_or}, NoActs.present, Ready.acting_last}}
+use Rattle.world_law.proofs.{acts.{Acting.acted, Dues.{act_due, came_not, done_or, present}, Ready.acting_last}}
+use Rattle.world_law.proofs.{runs.Agreement.{in_earlier, last_within}}
 use Rattle.world_law.proofs.{devices.Working.{came_sooner, done_by, sent_by}, growing.Growing.place_first}
 use Rattle.world_law.proofs.{putting.{Idle.drop_one, Moving.IsNext}}
 use Rattle.world_law.proofs.{rows.{AtHand.{taken_parts, taken_same}, Dispatching.{dispatches_so, one_row, told_alike}}}
-use Rattle.world_law.proofs.{runs.Agreement.{in_earlier, last_within}}
 use Rattle.world_law.proofs.steps_lemmas.Words
 use Words.{if◌then◌else◌, ◌++◌, ◌+◌, ◌<◌, ◌^◌, ◌∙◌, ◌∷◌, ◌≡◌, ◌≤ℤ◌, ◌≤◌, ◌⊎◌, Act, AsyncClique, Bool, Cleared}
 use Words.{ComesFirst, Corrected, DeviceId, Dispatches, Entry, HadComeTo, Happening, HasCleared, HasDoneFrom}

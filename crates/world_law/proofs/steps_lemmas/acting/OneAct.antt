@@ -3,9 +3,9 @@ use Rattle.std.proofs.lemmas.Option.{same_Some}
 use Rattle.run_law.{proofs.runs.Places.{before_or_not, nothing_between}, specs.records.Ranks.sign}
 use Rattle.schedule_tables.specs.{Dispatches.dispatch_order, declared.rule.Rule.TheVariants.ScheduleStart}
 use Rattle.world_law.proofs.{acts.Dues.{IsDueTask, act_due, done_or}, devices.Working.came_sooner}
-use Rattle.world_law.proofs.{growing.Growing.{IsCorrection, what_is_left}, rows.Dispatching.{founded_with, lawful}}
+use Rattle.world_law.proofs.{putting.{Moving.{StandsHere, stands_here, stays, up_on}, Near.frames_aside}}
 use Rattle.world_law.proofs.{runs.Worlds.own_here}
-use Rattle.world_law.proofs.putting.{Moving.{StandsHere, stands_here, stays, up_on}, Near.frames_aside}
+use Rattle.world_law.proofs.{growing.Growing.{IsCorrection, what_is_left}, rows.Dispatching.{founded_with, lawful}}
 use Rattle.world_law.proofs.putting.{Putting.one_well}
 use Rattle.world_law.proofs.steps_lemmas.{growing.FromZero.kept_from_zero, steps.Passed.no_task}
 use Rattle.world_law.proofs.steps_lemmas.Words

@@ -3,11 +3,11 @@ use Rattle.run_law.{proofs.runs.Determined.same_units}
 use Rattle.run_law.specs.{declared.judgement.Judgement.TheVariants.Integrates}
 use Rattle.run_law.specs.{device.{LocalClocks.local_at_change, States.joined_adjustment}}
 use Rattle.run_law.specs.{machines.Answers.with_corrected, runs.DueRecords.IsCorrectedRecord}
-use Rattle.sync_state.{proofs.{VerdictLemmas.one_verdict, membership_lemmas.SummaryLemmas.one_summary}}
+use Rattle.sync_state.proofs.{VerdictLemmas.one_verdict, membership_lemmas.SummaryLemmas.one_summary}
+use Rattle.world_law.proofs.{lists.Lists.map_none, putting.Near.placed_back, rows.Dispatching.no_row_at_correction}
 use Rattle.sync_state.{specs.Integration.joined_by}
 use Rattle.tte_units.proofs.general_lemmas.Lists.{last_pushed}
 use Rattle.world_law.{specs.device.{Left.IsCounted, Told.change_in}}
-use Rattle.world_law.proofs.{lists.Lists.map_none, putting.Near.placed_back, rows.Dispatching.no_row_at_correction}
 use Rattle.world_law.proofs.steps_lemmas.{ripening.Judged.not_yet}
 use Rattle.world_law.proofs.steps_lemmas.Words
 use Words.{if◌then◌else◌, ◌&&◌, ◌++◌, ◌+ℤ◌, ◌+◌, ◌-◌, ◌<ℤ◌, ◌<◌, ◌==◌, ◌||◌, ◌∙◌, ◌∷◌, ◌≡◌, ◌≤ℤ◌, ◌≤◌, AsyncClique}

@@ -5,6 +5,10 @@ use Rattle.run_law.proofs.{records.Members.in_flat, runs.Places.before_next_time
 use Rattle.world_law.proofs.{devices.Working.{rested, worked_by}, putting.PutIn.split_three}
 use Rattle.world_law.proofs.runs.{Foremost.{StandsOver, stand_of}}
 use Rattle.world_law.proofs.runs.{Worlds.{arrives_later, event_cause, event_place, no_part, none_pending}}
+use Rattle.world_law.proofs.steps_lemmas.befalling.EventRecords.{AreRising, IsOutcome, adjustment_unmoved, all_bodies}
+use Rattle.world_law.proofs.steps_lemmas.befalling.EventRecords.{all_rising, calm_joins, calm_outcome, event_due}
+use Rattle.world_law.proofs.steps_lemmas.befalling.EventRecords.{few_all, is_calm, left_all_calm, on_by_event}
+use Rattle.world_law.proofs.steps_lemmas.befalling.EventRecords.{on_by_record, recorded, state_unmoved}
 use Rattle.world_law.proofs.steps_lemmas.{steps.{Applied.no_coming, AppliedParts.{before_others, own_event}}}
 use Rattle.world_law.proofs.steps_lemmas.Words
 use Words.{if◌then◌else◌, ◌++◌, ◌+◌, ◌<◌, ◌==◌, ◌∙◌, ◌∷◌, ◌≡◌, ◌≤◌, ◌⊎◌, AllBefore, AreAtPorts, AreOfNetwork}
@@ -19,11 +23,6 @@ use Words.{in_parts, in_right, inl, inr, ints, is_at_source, is_broken, is_cut, 
 use Words.{last_or, launched, length, length-append, local_before, members_in, moves, never_self, numbered}
 use Words.{numbered_front, numbered_in, numbered_parts, option_map_or, own_time, place_of, rank, refl, ripe_place}
 use Words.{settled_as, some_same, subst, suc, sym, taken_in, time_of, true, wire_place, ℕ, ℤ}
-use Rattle.world_law.proofs.steps_lemmas.befalling.Bodies
-use Bodies.{AreRising, IsOutcome, all_bodies, all_rising, calm_outcome, few_all}
-use Rattle.world_law.proofs.steps_lemmas.befalling.EventRecords
-use EventRecords.{adjustment_unmoved, calm_joins, event_due, is_calm, left_all_calm, on_by_event, on_by_record}
-use EventRecords.{recorded, state_unmoved}
 use Rattle.world_law.specs.{steps.Befalling.{ArePutBy, BefellStep, befell_bodies}}
 use Rattle.world_law.specs.{world.World.{IsDueAs, IsForward, IsWorkedOff}}
 use Rattle.net_plan.specs.declared.event.What.TheVariants as events

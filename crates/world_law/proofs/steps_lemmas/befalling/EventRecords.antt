@@ -1,25 +1,28 @@
 -- Events and the records of what comes of them: what code sees of them, and what they leave as it was.
 use Rattle.std.proofs.Common.{arith}
 use Rattle.run_law.{specs.{control.Wires.time_on_port, runs.DueRecords.IsEventRecord, scenario.Ways.delay_at}}
-use Rattle.run_law.proofs.{law.FirstDeliveries.{due_is_there, in_at, split}, records.Order.in_any}
+use Rattle.run_law.proofs.{law.FirstDeliveries.{due_is_there, in_at, split}, records.{Members.from_flat, Order.in_any}}
 use Rattle.run_law.proofs.{scenario.Devices.on_by}
-use Rattle.world_law.{specs.world.Moves.ArePut}
+use Rattle.world_law.{specs.{steps.Befalling.befell_bodies, world.{Moves.ArePut, World.AreInOrder}}}
 use Rattle.world_law.proofs.{devices.Unmoved.keeps_state, lists.Lists.map_none}
 use Rattle.world_law.proofs.steps_lemmas.Words
 use Words.{if◌then◌else◌, ◌&&◌, ◌++◌, ◌+◌, ◌<◌, ◌==◌, ◌||◌, ◌↔◌, ◌∙◌, ◌∷◌, ◌≡◌, ◌≤ℤ◌, ◌≤◌, ◌⊎◌, ArePutIn, Arrives}
 use Words.{Befell, Bool, DeviceId, Event, Happening, Integrating, IsBefore, IsCaused, IsDue, IsFounded, IsIn, IsLeft}
-use Words.{IsOfThisTime, IsRun, Launch, Link, LinkId, List, Network, Node, None, Note, NoteBody, On, OnWire, Option}
-use Words.{Scenario, Signal, Some, Stands, Units, Up, What, World, [], adjustment_after, adjustment_with, after_last}
-use Words.{amount, and_parts, ap, append-nil, append_assoc, behind_no, both_ways, by_number, cases_Bool, cases_lt}
-use Words.{changes_adjustment, cleared_in, cycle_in, earlier, ends_stretch, eq-eqb, eqb-true, false, filter, filter_map}
-use Words.{filter_no, filter_yes, fold, fold-append, founded_at, happening, happenings, heard_since, hearing_by, inl}
-use Words.{inr, integration_cycle, is_cut, is_joined_by, is_turned_on_at, keeps_adjustment, launched, length, link_at}
-use Words.{list_any, local_in, moves, nat_le, nat_lt, next_in, not, numbered, numbered_in, option_map, option_map_or}
-use Words.{place_of, point_by, points_of, pos, recorded_cycle, refl, same_before, signal_of, slice_get, state_after}
-use Words.{state_with, subst, suc, sym, target_by, time_of, true, turns_on, up_to, wire_place, ℕ}
+use Words.{IsOfThisTime, IsRun, IsSendLost, Launch, Link, LinkId, List, Network, Node, None, Note, NoteBody, On, OnWire}
+use Words.{Option, Scenario, Signal, Some, Stands, Units, Up, What, World, [], adjustment_after, adjustment_with}
+use Words.{after_last, amount, and_parts, ap, append-nil, append_assoc, behind_no, bodies_of, both_ways, by_number}
+use Words.{cases_Bool, cases_lt, cause_of, changes_adjustment, cleared_in, cycle_in, earlier, ends_stretch, eq-eqb}
+use Words.{eqb-true, false, filter, filter_map, filter_no, filter_yes, fold, fold-append, founded_at, happening}
+use Words.{happenings, heard_since, hearing_by, inl, inr, integration_cycle, is_broken, is_cut, is_joined_by}
+use Words.{is_turned_on_at, keeps_adjustment, launched, length, length-append, link_at, list_any, local_in, moves}
+use Words.{nat_le, nat_lt, next_in, not, numbered, numbered_in, option_map, option_map_or, place_of, point_by}
+use Words.{points_of, pos, recorded_cycle, refl, same_before, signal_of, slice_get, state_after, state_with, subst, suc}
+use Words.{sym, target_by, time_of, true, turns_on, up_to, wire_place, ℕ}
 use Rattle.net_plan.specs.declared.event.What.TheVariants as events
 use Rattle.run_law.specs.declared.note.NoteBody.TheVariants as kinds
 use Rattle.run_law.specs.declared.note.NoteBody.TheVariants as notes
+
+-- ---- events and the records of what comes of them: what code sees of them, and what they leave as it was
 
 -- ---- the record of what comes of an event leaves a device as it was, but for its state
 
@@ -317,3 +320,122 @@ pub put_in_more : (network : Network) (hs : List Happening) (now : ℕ) (bodies 
     → ArePutIn network hs now bodies old mid → ArePutIn network hs now more mid new → ArePutIn network hs now (bodies ++ more) old new
 put_in_more network hs now [] more old mid new put then_ = rw put at then_
 put_in_more network hs now (b ∷ bodies) more old mid new (next, one, later) then_ = (next, one, put_in_more network hs now bodies more next mid new later then_)
+
+-- ---- what comes of events, as records: those of their bodies, in their order
+
+-- this comes of an event of the instant: a sound device is turned on, or what is sent meets a cut way
+pub data IsOutcome (s : Scenario) (hs : List Happening) (now : ℕ) : NoteBody → Type 0 where
+  turning : (device : DeviceId) (cause line : ℕ) (h : Happening) → is_broken s device now ≡ false → IsOfThisTime hs now cause h
+      → h.note.body ≡ notes.Event line (events.On device) → IsOutcome s hs now (notes.State device Integrating cause On)
+  losing : (device : DeviceId) (link : LinkId) (cause : ℕ) → IsSendLost s hs device now link cause → IsOutcome s hs now (notes.Lost device link cause)
+
+pub calm_outcome : {s : Scenario} {hs : List Happening} {now : ℕ} {body : NoteBody} → IsOutcome s hs now body
+    → is_calm body ≡ true
+calm_outcome (IsOutcome.turning device cause line h sound it is) = refl
+calm_outcome (IsOutcome.losing device link cause it) = refl
+
+-- ---- of one event
+
+module _ (s : Scenario) {hs : List Happening} {now number : ℕ} (line : ℕ) where
+  turned_body : (device : DeviceId) {h : Happening} (b : NoteBody) (x : Bool) → is_broken s device now ≡ x
+      → IsOfThisTime hs now number h → h.note.body ≡ notes.Event line (events.On device)
+      → IsIn b (if x then [] else notes.State device Integrating number On ∷ [])
+      → IsOutcome s hs now b × (cause_of b ≡ number)
+  turned_body device b true sound it is i = absurd i
+  turned_body device {h} b false sound it is (inl same) =
+      (subst (IsOutcome s hs now) (sym same) (IsOutcome.turning device number line h sound it is), ap cause_of same)
+  turned_body device b false sound it is (inr none) = absurd none
+
+  cut_body : (link : LinkId) (octets : List ℕ) {way : Link} {h : Happening} (b : NoteBody) (x : Bool)
+      → is_cut s link Up now ≡ x → link_at s.network link ≡ Some way → IsOfThisTime hs now number h
+      → h.note.body ≡ notes.Event line (events.Send link octets)
+      → IsIn b (if x then notes.Lost way.child link number ∷ [] else [])
+      → IsOutcome s hs now b × (cause_of b ≡ number)
+  cut_body link octets b false cut there it is i = absurd i
+  cut_body link octets {way} {h} b true cut there it is (inl same) = (
+    subst (IsOutcome s hs now) (sym same)
+        (IsOutcome.losing way.child link number
+        (record { event = h; is = it; line = line; octets = octets; sends = is; way = way; there = there; by = refl; cut = cut })),
+    ap cause_of same,
+  )
+  cut_body link octets b true cut there it is (inr none) = absurd none
+
+  lost_body : (link : LinkId) (octets : List ℕ) {h : Happening} (b : NoteBody) (o : Option Link)
+      → link_at s.network link ≡ o → IsOfThisTime hs now number h
+      → h.note.body ≡ notes.Event line (events.Send link octets)
+      → IsIn b (option_map_or (λ way. if is_cut s link Up now then notes.Lost way.child link number
+      ∷ [] else []) o []) → IsOutcome s hs now b × (cause_of b ≡ number)
+  lost_body link octets b None there it is i = absurd i
+  lost_body link octets b (Some way) there it is i =
+      cut_body link octets b (is_cut s link Up now) refl there it is i
+
+  -- each is an outcome, and its cause is the event's record
+  each_body : (what : What) {h : Happening} (b : NoteBody) → IsOfThisTime hs now number h
+      → h.note.body ≡ notes.Event line what → IsIn b (bodies_of s now number what)
+      → IsOutcome s hs now b × (cause_of b ≡ number)
+  each_body (events.On device) b it is i = turned_body device b (is_broken s device now) refl it is i
+  each_body (events.Send link octets) b it is i = lost_body link octets b (link_at s.network link) refl it is i
+  each_body other b it is i = absurd i
+
+few_if : (x : Bool) (b : NoteBody) → length (if x then [] else b ∷ []) ≤ 1
+few_if true b = omega arith
+few_if false b = omega arith
+
+few_then : (x : Bool) (b : NoteBody) → length (if x then b ∷ [] else []) ≤ 1
+few_then true b = omega arith
+few_then false b = omega arith
+
+module _ (s : Scenario) (now number : ℕ) where
+  few_lost : (link : LinkId) (o : Option Link) → length
+      (option_map_or (λ way. if is_cut s link Up now then notes.Lost way.child link number
+      ∷ [] else []) o []) ≤ 1
+  few_lost link None = omega arith
+  few_lost link (Some way) = few_then (is_cut s link Up now) (notes.Lost way.child link number)
+
+  few_bodies : (what : What) → length (bodies_of s now number what) ≤ 1
+  few_bodies (events.On device) = few_if (is_broken s device now) (notes.State device Integrating number On)
+  few_bodies (events.Send link octets) = few_lost link (link_at s.network link)
+  few_bodies other = omega arith
+
+-- ---- of all
+
+-- each of these befell at the instant
+abbrev pub HaveRecords : List Happening → ℕ → List Befell → Type 0
+HaveRecords hs now befell =
+    (e : Befell) → IsIn e befell → (line : ℕ) × (h : Happening) × IsOfThisTime hs now e.number h × (h.note.body ≡ notes.Event line e.what)
+
+pub all_bodies : (s : Scenario) (hs : List Happening) (now : ℕ) (befell : List Befell) → HaveRecords hs now befell → (b : NoteBody)
+    → IsIn b (befell_bodies s now befell) → IsOutcome s hs now b × ((e : Befell) × IsIn e befell × (cause_of b ≡ e.number))
+all_bodies s hs now befell real b i =
+    let at = from_flat (λ e. bodies_of s now e.number e.what) befell b i in
+    let it = real at.0 at.1 in
+    let is = each_body s it.0 at.0.what b it.2 it.3 at.2 in
+    (is.0, (at.0, at.1, is.1))
+
+pub few_all : (s : Scenario) (now : ℕ) (befell : List Befell) → length (befell_bodies s now befell) ≤ length befell
+few_all s now [] = omega arith
+few_all s now (e ∷ befell) = grind (arith, few_bodies, length-append, bodies_of, (few_all s now befell))
+
+-- the causes of the bodies rise
+abbrev pub AreRising : List NoteBody → Type 0
+AreRising [] = Unit {0}
+AreRising (b ∷ bodies) = ((c : NoteBody) → IsIn c bodies → cause_of b < cause_of c) × AreRising bodies
+
+rising_more : (bs more : List NoteBody) → length bs ≤ 1 → ((b c : NoteBody) → IsIn b bs → IsIn c more → cause_of b < cause_of c) → AreRising more
+    → AreRising (bs ++ more)
+rising_more [] more few less rising = rising
+rising_more (b ∷ []) more few less rising = (λ c i. less b c (inl refl) i, rising)
+rising_more (b ∷ c ∷ bs) more few less rising = absurd (omega arith)
+
+pub all_rising : (s : Scenario) (hs : List Happening) (now : ℕ) (befell : List Befell) → HaveRecords hs now befell → AreInOrder befell
+    → AreRising (befell_bodies s now befell)
+all_rising s hs now [] real order = tt
+all_rising s hs now (e ∷ befell) real order =
+    let later : HaveRecords hs now befell = λ f i. real f (inr i) in
+    let it = real e (inl refl) in
+    rising_more (bodies_of s now e.number e.what) (befell_bodies s now befell) (few_bodies s now e.number e.what) (λ b c i j.
+    let first = (each_body s it.0 e.what b it.2 it.3 i).1 in
+    let next = (all_bodies s hs now befell later c j).1 in
+    let lt = order.0 next.0 next.1 in
+    let cause = next.2 in
+    omega arith) (all_rising s hs now befell later order.1)

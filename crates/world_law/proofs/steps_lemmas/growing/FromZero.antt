@@ -1,5 +1,6 @@
 -- No point that a compression master has collected lies before reading 0.
-use Rattle.{run_law.proofs.{control.Arrived.arrived_young, records.Order.in_drop}, std.{proofs.lemmas.List.Elements.All-from_recursion, specs.Prelude.All}}
+use Rattle.std.{proofs.lemmas.List.Elements.All-from_recursion, specs.Prelude.All}
+use Rattle.run_law.proofs.{control.Arrived.arrived_young, records.Order.in_drop}
 use Rattle.world_law.proofs.steps_lemmas.Words.{◌++◌, ◌==◌, ◌∷◌, ◌≡◌, ◌≤ℤ◌, ◌≤◌, AllByRecursion, DeviceId, Happening, IfSome, IsCaused}
 use Rattle.world_law.proofs.steps_lemmas.Words.{IsIn, IsInRange, IsKept, IsLawful, IsPermanent, LinkId, List, Network, Node, None, NoteBody, Option, Pcf}
 use Rattle.world_law.proofs.steps_lemmas.Words.{Scenario, Some, Units, [], after_last, amount, arith, cons_option, cycle_in, ends_stretch, false, filter_map}

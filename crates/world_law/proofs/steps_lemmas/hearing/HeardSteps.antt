@@ -4,8 +4,15 @@ use Rattle.run_law.specs.{device.Standpoints.{clock_of, cycle_at}, machines.{Ans
 use Rattle.run_law.specs.{timed.Arrivals.{entry_arrival, entry_entering, row_fault, taken_or_fault}}
 use Rattle.world_law.{specs.world.Calls.HasHeard}
 use Rattle.world_law.proofs.{devices.Working.rested, rows.AtHand.delivered_end}
-use Rattle.world_law.proofs.putting.{Alike.standpoint_in, Moving.{StandsHere, goes_by, kept_moves, shown_still}}
-use Rattle.world_law.proofs.putting.{Near.{arrival_near, filter_none, frames_aside, in_placed}, Numberless.timed_by}
+use Rattle.world_law.proofs.putting.{Moving.{StandsHere, goes_by, kept_moves, shown_still}}
+use Rattle.world_law.proofs.putting.{Near.{arrival_near, filter_none, frames_aside, in_placed, standpoint_in}}
+use Rattle.world_law.proofs.putting.{Numberless.timed_by}
+use Rattle.world_law.proofs.steps_lemmas.hearing.{Calling.may_call}
+use Rattle.world_law.proofs.steps_lemmas.hearing.Receptions.{IsBefore2, IsHeardAs, IsQuiet, IsReceived, IsReceiving}
+use Rattle.world_law.proofs.steps_lemmas.hearing.Receptions.{IsSooner, IsTakingBy, arrives_now, broken_drops, comes_as}
+use Rattle.world_law.proofs.steps_lemmas.hearing.Receptions.{control_judged, device_there, kept_taking, least_rank}
+use Rattle.world_law.proofs.steps_lemmas.hearing.Receptions.{out_drops, outcome_at, placed_at, received}
+use Rattle.world_law.proofs.steps_lemmas.hearing.Receptions.{same_standpoint, taken_last, taking_is, took}
 use Rattle.world_law.proofs.putting.{Placing.{two_at, well_of}, PutIn.split_two, Putting.placing_one}
 use Rattle.world_law.proofs.steps_lemmas.Words
 use Words.{if◌then◌else◌, ◌++◌, ◌+◌, ◌<◌, ◌==◌, ◌^◌, ◌∙◌, ◌∷◌, ◌≡◌, ◌≤ℤ◌, ◌≤◌, ◌⊎◌, AllBefore, AreOfNetwork, ArePutIn}
@@ -22,13 +29,6 @@ use Words.{no_task_at, octets_fault, octets_or_fault, one_by, option_and_then, p
 use Words.{refl, signal_of, slice_get, some_same, standpoint, stands_on, subst, sym, taken_cycle, taken_in, time_of}
 use Words.{timed, timed_arrival, true, waiting_still, wire_place, wires_move, ℕ, ℤ}
 use Rattle.world_law.proofs.steps_lemmas.hearing.{Called.{After, kept_by, kept_called, not_yet_acted, out_called}}
-use Rattle.world_law.proofs.steps_lemmas.hearing.{Calling.may_call, Took.took}
-use Rattle.world_law.proofs.steps_lemmas.hearing.Receptions
-use Receptions.{IsHeardAs, IsReceived, IsReceiving, arrives_now, comes_as, device_there, least_rank, outcome_at}
-use Receptions.{placed_at, received}
-use Rattle.world_law.proofs.steps_lemmas.hearing.Takings
-use Takings.{IsBefore2, IsQuiet, IsSooner, IsTakingBy, broken_drops, control_judged, kept_taking, out_drops}
-use Takings.{same_standpoint, taken_last, taking_is}
 use Rattle.run_law.specs.declared.note.NoteBody.TheVariants as notes
 use Rattle.run_law.specs.declared.steps.Arrival.TheVariants as arrivals
 

@@ -2,7 +2,9 @@
 use Rattle.net_plan.{proofs.Trees.rules_give_trees}
 use Rattle.net_plan.specs.{Paths.{IsPath, IsTree, IsUplink}, Rules.IsChildOf}
 use Rattle.net_plan.specs.{declared.tables.{Device.Device, Role.TheVariants.Relay}}
-use Rattle.run_law.proofs.{law.FirstDeliveries.number_is, scenario.Devices.master_end}
+use Rattle.run_law.{proofs.{law.FirstDeliveries.number_is, scenario.Devices.master_end}}
+use Rattle.run_law.{specs.{scenario.{Devices.member_of, Ways.receiver_of}, timed.Receptions.ArrivesAs}}
+use Rattle.world_law.proofs.frames.Proper.{no_reason}
 use Rattle.schedule_tables.proofs.Margins.{shape_rules}
 use Rattle.world_law.proofs.steps_lemmas.{hearing.HeardSteps.rank_is}
 use Rattle.world_law.proofs.steps_lemmas.Words.{standpoint, subst, suc, sym, target_by, time_of, timed, true, way_from}
@@ -10,7 +12,6 @@ use Rattle.world_law.proofs.steps_lemmas.Words.{zero, ℕ}
 use Rattle.{net_plan.specs.Places.{IsCmOf, IsRoleOf, device_at, is_end_system}, run_law.specs.records.Happenings.{frame_by, frame_in, with_clock}}
 use Rattle.{run_law.specs.control.Arrivals.{are_others, is_of_other_member}, schedule_tables.specs.declared.rule.Rule.TheVariants.Joints}
 use Rattle.{run_law.specs.machines.Calls.{IsFromSwitch, IsLinkAt, IsOneMaster, MayArrive}, tte_units.proofs.general_lemmas.Options.{closed, opened as at_some}}
-use Rattle.{run_law.specs.{scenario.{Devices.member_of, Ways.receiver_of}, timed.Receptions.ArrivesAs}, world_law.proofs.frames.Proper.no_reason}
 use Rattle.std.proofs.Common.{Err, IsSomeAnd, Ok}
 use Rattle.world_law.proofs.steps_lemmas.Words.{◌&&◌, ◌+◌, ◌^◌, ◌∙◌, ◌∷◌, ◌≡◌, ◌≤◌, Arrival, Arrives, Bool, Channel, DeviceId, Down, Event, Gives}
 use Rattle.world_law.proofs.steps_lemmas.Words.{Happening, IsArrivedRecord, IsCaused, IsDue, IsFounded, IsIn, IsOfMaster, IsOnWire, IsParentOf, KeepsRules}

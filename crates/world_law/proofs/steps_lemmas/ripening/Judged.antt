@@ -2,15 +2,19 @@
 use Rattle.std.proofs.{Common.MatchBool, lemmas.Bool.{MatchBool-at_false, or_parts}}
 use Rattle.compression.specs.declared.taken.Taken.{Taken}
 use Rattle.run_law.proofs.{law.FirstDeliveries.{due_is_there, front_founded, in_filter, in_front_of, number_is, split}}
-use Rattle.run_law.proofs.{records.{Happenings.{from_earlier, is_earlier}, Order.{all_kept, before_is, none_any}}}
+use Rattle.run_law.proofs.{records.Order.{all_kept, before_is, from_earlier, is_earlier, none_any}}
 use Rattle.run_law.proofs.{runs.Places.before_or_not, scenario.Devices.on_by}
+use Rattle.world_law.proofs.{devices.{Standing.{IsInTime, in_time_of, looking_on, turning_state}, Unmoved.earlier_yes}}
+use Rattle.world_law.proofs.{giving.GivenParts.in_get, putting.Near.not_is}
+use Rattle.world_law.proofs.steps_lemmas.ripening.Ripens.{IsLateKind, IsRipe, all_late, filter_rest, fold_rest}
+use Rattle.world_law.proofs.steps_lemmas.ripening.Ripens.{given_low, late_mere, maps_rest, mere_adjustment}
+use Rattle.world_law.proofs.steps_lemmas.ripening.Ripens.{mere_changes, mere_joins, mere_point, reach_now, rest_ends}
+use Rattle.world_law.proofs.steps_lemmas.ripening.Ripens.{ripe_more}
 use Rattle.run_law.specs.{records.Order.is_before}
 use Rattle.run_law.specs.control.{Collections.ripe_by_role, Hearing.{heard_by_schedule, heard_enough}}
 use Rattle.run_law.specs.control.Permanence
 use Permanence.{BecomesPermanent, IsCollectedOrDropped, IsJudgedBy, IsPermanenceOutcome, before_permanence}
 use Rattle.world_law.{specs.world.World.IsJustTold}
-use Rattle.world_law.proofs.{devices.{Standing.{IsInTime, in_time_of, looking_on, turning_state}, Unmoved.earlier_yes}}
-use Rattle.world_law.proofs.{giving.GivenParts.in_get, putting.Near.not_is}
 use Rattle.world_law.proofs.steps_lemmas.Words
 use Words.{if◌then◌else◌, ◌&&◌, ◌++◌, ◌+◌, ◌<◌, ◌==◌, ◌||◌, ◌∙◌, ◌∷◌, ◌≡◌, ◌≤◌, ◌⊎◌, AllBefore, Bool, ChangesState}
 use Words.{DeviceId, Happening, HaveBefallen, Integrating, IsAtRest, IsBefore, IsCaused, IsDue, IsFounded, IsIn, IsLeft}
@@ -29,10 +33,6 @@ use Words.{numbered_within, observation_window, option_map_or, or_left, or_none,
 use Words.{point_by, points_of, quiet_rest, rank, record_of, recorded_cycle, refl, ripe_as, same_device, same_kept}
 use Words.{some_same, state_after, state_at_hearing, state_before, state_with, subst, sym, time_of, true, turns_on, ℕ}
 use Words.{ℤ}
-use Rattle.world_law.proofs.steps_lemmas.ripening.Ripens
-use Ripens.{IsLateKind, IsRipe, all_late, given_low, late_mere, reach_now, rest_ends, ripe_more}
-use Rattle.world_law.proofs.steps_lemmas.ripening.Unmoved
-use Unmoved.{filter_rest, fold_rest, maps_rest, mere_adjustment, mere_changes, mere_joins, mere_point}
 use Rattle.compression.specs.declared.taken.Taken.TheVariants as takens
 use Rattle.run_law.specs.declared.judgement.Why.TheVariants as whys
 use Rattle.run_law.specs.declared.note.NoteBody.TheVariants as kinds

@@ -1,12 +1,16 @@
 -- A frame that waits is permanent: its machine is asked, and one record comes of it.
 use Rattle.net_plan.specs.Ranges.{IsLinkInRange}
 use Rattle.run_law.{specs.{control.Permanence.BecomesPermanent, records.Happenings.frame_from}}
-use Rattle.run_law.proofs.{control.Verdicts.never_dropped}
+use Rattle.run_law.proofs.control.Verdicts.{never_dropped}
+use Rattle.world_law.proofs.{frames.Proper.{IsReceiver, of_master, received}, giving.GivenParts.up_to_place}
+use Rattle.world_law.proofs.{putting.{Moving.{StandsHere, shown_still, stays}, Near.{frames_aside, placed_back}}}
+use Rattle.world_law.proofs.steps_lemmas.ripening.Answered.{IsAsked, answered, dropped_kept, high_now, joined_kept}
+use Rattle.world_law.proofs.steps_lemmas.ripening.Answered.{may_be_asked, not_before_high, placed_high, quiet_kept}
+use Rattle.world_law.proofs.steps_lemmas.ripening.Ripens.{IsByRole, IsRipe, come_of, permanent_at, reach_by, reach_now}
+use Rattle.world_law.proofs.steps_lemmas.ripening.Ripens.{ripe_more, ripening_at}
 use Rattle.run_law.proofs.{runs.{Determined.same_units, SameSteps.{no_launch, same_ripening}}}
 use Rattle.tte_units.proofs.general_lemmas.Lists.{in_all}
 use Rattle.world_law.{specs.{source.Sources.IsRipening, steps.Ripening.{HasRipened, ripe_bodies}}}
-use Rattle.world_law.proofs.{frames.{Masters.of_master, Proper.{IsReceiver, received}}, giving.GivenParts.up_to_place}
-use Rattle.world_law.proofs.putting.{Moving.{StandsHere, shown_still, stays}, Near.{frames_aside, placed_back}}
 use Rattle.world_law.proofs.putting.{Placing.{causes_given, change_of, pair_put, same_record}, Putting.{IsPair, two_by}}
 use Rattle.world_law.proofs.steps_lemmas.Words
 use Words.{◌++◌, ◌+◌, ◌<◌, ◌∙◌, ◌∷◌, ◌≡◌, ◌≤ℤ◌, ◌≤◌, ◌⊎◌, AreOfNetwork, ArePutIn, AreSettled, AreWaiting, Bool}
@@ -21,12 +25,6 @@ use Words.{no_higher, no_task_at, numbered_front, numbered_in, numbered_within, 
 use Words.{place_of, ports_still, pos, put_length, rank, record_of, refl, ripe_as, ripe_place, settled_as, slice_get}
 use Words.{some_same, stands_on, subst, sym, time_of, true, two_shown, wires_still, ℕ}
 use Rattle.world_law.proofs.steps_lemmas.ripening.{Judged.{Hears, IsKindOf, becomes_now, outcome_kind}}
-use Rattle.world_law.proofs.steps_lemmas.ripening.{Unmoved.IsByRole}
-use Rattle.world_law.proofs.steps_lemmas.ripening.Answered
-use Answered.{IsAsked, answered, dropped_kept, high_now, joined_kept, may_be_asked, not_before_high, placed_high}
-use Answered.{quiet_kept}
-use Rattle.world_law.proofs.steps_lemmas.ripening.Ripens
-use Ripens.{IsRipe, come_of, permanent_at, reach_by, reach_now, ripe_more, ripening_at}
 use Rattle.run_law.specs.declared.judgement.Judgement.TheVariants as judgements
 use Rattle.run_law.specs.declared.judgement.Why.TheVariants as whys
 use Rattle.run_law.specs.declared.note.NoteBody.TheVariants as kinds

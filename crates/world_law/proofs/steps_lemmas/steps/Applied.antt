@@ -2,16 +2,16 @@
 use Rattle.std.proofs.lemmas.{Bool.and_from, List.length_push, Option.slice_get_within}
 use Rattle.run_law.proofs.{law.FirstDeliveries.numbered_next}
 use Rattle.run_law.proofs.{runs.{NetworkRuns.one_more, Places.{before_next_time, before_of_time}}}
-use Rattle.run_law.proofs.{scenario.Devices.on_by}
+use Rattle.run_law.proofs.scenario.Devices.{on_by}
+use Rattle.world_law.proofs.{devices.{Befalls.{is_turned_on, stands_still}, Standing.{fold_still, other_comes}}}
+use Rattle.world_law.proofs.runs.Worlds.{coming_of, line_before, numbered_more, numbered_still, run_goes_on_by_event}
+use Rattle.world_law.proofs.runs.Worlds.{run_to, same_length}
 use Rattle.run_law.specs.{machines.Answers.node_turned_on, runs.DueRecords.{EndsAt, IsScenarioRun}}
 use Rattle.run_law.specs.{scenario.Hypothesis.breaks_at}
 use Rattle.tte_units.proofs.general_lemmas.Lists.{pushed as get_more}
 use Rattle.world_law.proofs.{giving.{GivenParts.up_to_place, Storing.stored_still}}
 use Rattle.world_law.proofs.{rows.AtHand.{frames_alike, frames_end}}
-use Rattle.world_law.proofs.devices.{Befalls.{is_turned_on, stands_still}, Borne.other_comes, Standing.fold_still}
 use Rattle.world_law.proofs.devices.{Working.{rested, worked_by}}
-use Rattle.world_law.proofs.runs.Worlds
-use Worlds.{coming_of, line_before, numbered_more, numbered_still, run_goes_on_by_event, run_to, same_length}
 use Rattle.world_law.proofs.steps_lemmas.Words
 use Words.{if◌then◌else◌, ◌&&◌, ◌++◌, ◌+◌, ◌-ℤ◌, ◌<◌, ◌==◌, ◌||◌, ◌↔◌, ◌∙◌, ◌∷◌, ◌≡◌, ◌≤ℤ◌, ◌≤◌, ◌⊎◌, AreComing}
 use Words.{AreOfNetwork, AreUntold, Befell, Bool, ClockTask, Compressed, Contains-push, Contains-push_cases, DeviceId}

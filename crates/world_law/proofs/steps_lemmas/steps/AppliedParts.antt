@@ -1,9 +1,10 @@
 -- An event befalls before all else of its instant: what is under way then, and what is due.
-use Rattle.world_law.proofs.runs.{SameCauses.{arrives_same, hold_same}}
-use Rattle.world_law.proofs.runs.Worlds
-use Worlds.{agree_back, event_cause, event_place, none_to_come, numbered_more, numbered_still}
+use Rattle.std.proofs.lemmas.Option.{slice_get_within}
+use Rattle.tte_units.proofs.general_lemmas.Lists.{pushed}
+use Rattle.world_law.proofs.runs.{Agreement.{arrives_same, broken_same, hold_same, reach_same}}
+use Rattle.world_law.proofs.runs.Worlds.{agree_back, event_cause, event_place, none_to_come, numbered_more}
+use Rattle.world_law.proofs.runs.Worlds.{numbered_still}
 use Rattle.{run_law.specs.scenario.Hypothesis.breaks_at, std.proofs.lemmas.Bool.{le-leb, lt-leb}, world_law.specs.source.Agreeing.Agree}
-use Rattle.{std.proofs.lemmas.Option.slice_get_within, tte_units.proofs.general_lemmas.Lists.pushed, world_law.proofs.runs.Agreement.{broken_same, reach_same}}
 use Rattle.world_law.proofs.steps_lemmas.Words.{◌&&◌, ◌++◌, ◌+◌, ◌<◌, ◌==◌, ◌||◌, ◌↔◌, ◌∙◌, ◌∷◌, ◌≡◌, ◌≤◌, ◌⊎◌, AreAtPorts, AreOnWires, AreSettled, AreWaiting}
 use Rattle.world_law.proofs.steps_lemmas.Words.{AtPort, Bool, DeviceId, Event, Gives, Happening, IsBefore, IsCaused, IsEventBody, IsIn, IsOnWire, IsOwnSource}
 use Rattle.world_law.proofs.steps_lemmas.Words.{IsPermanent, IsWaitingFor, LinkId, List, Network, NoteBody, OnWire, Scenario, Some, Units, Waiting, [], amount}

@@ -1,7 +1,7 @@
 -- A frame at a port leaves: what becomes of it, and the one record of it.
 use Rattle.run_law.{proofs.law.FirstDeliveries.in_filter}
 use Rattle.run_law.{specs.control.{Leaving.{Departs, Departure, leaves, on_cut_way, too_old}, Permanence.waits_for}}
-use Rattle.world_law.proofs.{frames.Masters.parent_true}
+use Rattle.world_law.proofs.frames.Proper.{parent_true}
 use Rattle.world_law.proofs.putting.{Idle.IsIdle, Moving.{StandsHere, goes_by, settled_moves, shown_still}}
 use Rattle.world_law.proofs.putting.{Putting.{IsPutting, held_put, known_put, settled_put}}
 use Rattle.world_law.proofs.steps_lemmas.Words

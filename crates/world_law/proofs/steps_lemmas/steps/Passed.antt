@@ -1,14 +1,14 @@
 -- A world begins, time passes where nothing is to come, and clocks are shown at the end.
 use Rattle.run_law.{specs.machines.Nodes.begun_node}
-use Rattle.run_law.proofs.{records.Happenings.none_numbered}
+use Rattle.run_law.proofs.records.Order.{none_numbered}
+use Rattle.world_law.proofs.{acts.{Acting.{IsUnmoved, cleared_on, had_come_before}, Dues.nothing_comes_before}}
+use Rattle.world_law.proofs.{devices.{Standing.{IsPast, IsWorked, all_past, at_rest, held_shows}, Unmoved.passes_if}}
+use Rattle.world_law.proofs.runs.Worlds.{coming_of, late_of, none_pending, none_to_come, nothing_settled_is_all, run_to}
 use Rattle.run_law.proofs.runs.{Grow.empty_run}
 use Rattle.run_law.proofs.runs.{Places.{before_later_time, before_next_time, before_of_time, earlier_time}}
-use Rattle.world_law.proofs.{acts.{Acting.{IsUnmoved, cleared_on, had_come_before}, NoActs.nothing_comes_before}}
 use Rattle.world_law.proofs.{giving.{Given.device_in, GivenParts.{no_later_events, up_to_place}}}
 use Rattle.world_law.proofs.{putting.{Placing.same_record, Putting.{IsPutting, held_put, known_put, settled_put}}}
-use Rattle.world_law.proofs.devices.{Standing.{IsPast, IsWorked, all_past, at_rest, held_shows}, Unmoved.passes_if}
 use Rattle.world_law.proofs.devices.{Working.worked_by}
-use Rattle.world_law.proofs.runs.Worlds.{coming_of, late_of, none_pending, none_to_come, nothing_settled_is_all, run_to}
 use Rattle.world_law.proofs.steps_lemmas.Words
 use Words.{◌++◌, ◌+ℤ◌, ◌+◌, ◌-ℤ◌, ◌-◌, ◌<ℤ◌, ◌<◌, ◌^◌, ◌↔◌, ◌∙◌, ◌∷◌, ◌≡◌, ◌≤ℤ◌, ◌≤◌, AreComing, ArePutIn, ComesFirst}
 use Words.{DeviceId, Down, Happening, HasDoneFrom, HasSentFrom, HaveBefallen, IsBefore, IsDue, IsHeld, IsIn, IsKept}

@@ -3,8 +3,8 @@ use Rattle.run_law.specs.{control.Leaving.{Departure, leaves, on_cut_way, too_ol
 use Rattle.run_law.specs.{records.Happenings.frame_from}
 use Rattle.world_law.proofs.{giving.{Given.given_from, GivenParts.{source_kinds, up_to_place}}}
 use Rattle.world_law.proofs.{runs.{Foremost.stand_of, Worlds.late_of}}
+use Rattle.world_law.proofs.{steps_lemmas.ripening.{RipenedSteps.ripened_step, Ripens.ripe_more}}
 use Rattle.world_law.proofs.steps_lemmas.{hearing.HeardSteps.heard_step}
-use Rattle.world_law.proofs.steps_lemmas.{ripening.{RipenedSteps.ripened_step, Ripens.ripe_more}}
 use Rattle.world_law.proofs.steps_lemmas.{steps.{LeftSteps.left_step, Passed.clock_step}}
 use Rattle.world_law.proofs.steps_lemmas.Words
 use Words.{if◌then◌else◌, ◌++◌, ◌+◌, ◌<◌, ◌∙◌, ◌∷◌, ◌≡◌, ◌≤◌, ◌⊎◌, Act, ArePutIn, AtPort, Bool, Compressed, DeviceId}

@@ -1,6 +1,7 @@
 use Rattle.{std.proofs.{Common.{◌≡◌, ap, arith, length, refl, rules}, lemmas.Bool.both_ways}}
-use Rattle.world_state.proofs.{PutTo.{apart_from, given_by_ends, more_put, no_link, none_put, nothing_put}, giving.put_ports.Goals.{else-is_given, then-is_given}}
-use Rattle.world_state.{proofs.Queues.sound_with, specs.Giving.entry_at_port}
+use Rattle.world_state.{specs.Giving.entry_at_port}
+use Rattle.world_state.proofs.{Queues.{apart_from, given_by_ends, more_put, no_link, none_put, nothing_put, sound_with}}
+use Rattle.world_state.proofs.{giving.put_ports.Goals.{else-is_given, then-is_given}}
 use Rattle.world_state.proofs.giving.put_ports.Goals as goal
 
 pub loop-index-preserved : goal.loop-index-preserved

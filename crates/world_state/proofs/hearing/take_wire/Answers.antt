@@ -1,5 +1,5 @@
 use Rattle.std.proofs.{Common.{◌∙◌, ap, inl, refl, sym}, lemmas.List.Sorted.IsPermutation-sym}
-use Rattle.world_state.{proofs.{Queues.{in_words, one_first}, queue_lemmas.Slots.in_permuted}}
+use Rattle.world_state.proofs.{Queues.{in_words, one_first}, queue_lemmas.Slots.in_permuted}
 use Rattle.world_state.{specs.declared.queue.DueAt.DueAt}
 use Rattle.world_state.proofs.hearing.take_wire.Goals as goal
 

@@ -1,4 +1,5 @@
-use Rattle.{audit_devices.proofs.clocks_lemmas.Pointing.comes_so, sync_state.specs.declared.answers.Verdict.TheVariants.AsyncClique}
+use Rattle.audit_devices.proofs.clocks_lemmas.Reached.{comes_so}
+use Rattle.sync_state.specs.declared.answers.Verdict.TheVariants.{AsyncClique}
 use Rattle.{device_rules.specs.Answers.verdict_as, std.proofs.Common.{ap, refl}}
 use Rattle.audit_devices.proofs.clocks.changing.is_outnumbered.Goals as goal
 

@@ -1,4 +1,5 @@
-use Rattle.{audit_devices.proofs.clocks_lemmas.Pointing.{none_reached, point_is}, run_law.specs.control.Corrections.correction_value}
+use Rattle.audit_devices.proofs.clocks_lemmas.Reached.{none_reached, point_is}
+use Rattle.run_law.specs.control.Corrections.{correction_value}
 use Rattle.{run_law.specs.device.LocalClocks.Reaches, std.proofs.Common.{◌∙◌, ap, rules, subst, sym}}
 use Rattle.std.{proofs.lemmas.{Bool.false≢true, Int.to_z-of_z}, specs.Int.w128}
 use Rattle.audit_devices.proofs.clocks.correcting.coming_cycle.Goals as goal

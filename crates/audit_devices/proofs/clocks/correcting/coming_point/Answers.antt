@@ -1,4 +1,5 @@
-use Rattle.{audit_devices.{proofs.clocks_lemmas.Pointing.{number_is, point_comes}, specs.clocks.Points.HasPoint}, device_rules.specs.Answers.verdict_as}
+use Rattle.audit_devices.{proofs.clocks_lemmas.Reached.{number_is, point_comes}, specs.clocks.Points.HasPoint}
+use Rattle.device_rules.specs.Answers.{verdict_as}
 use Rattle.{std.proofs.Common.subst, sync_state.specs.Verdicts.HasVerdict}
 use Rattle.audit_devices.proofs.clocks.correcting.coming_point.Goals as goal
 

@@ -1,4 +1,5 @@
-use Rattle.{audit_devices.proofs.clocks_lemmas.Pointing.same_standing, std.proofs.Common.{◌∙◌, ap, rules, sym}}
+use Rattle.std.proofs.Common.{◌∙◌, ap, rules, sym}
+use Rattle.audit_devices.proofs.clocks_lemmas.Reached.{same_standing}
 use Rattle.{run_law.{proofs.runs.Determined.same_units, specs.scenario.Devices.plan_of}, std.{proofs.lemmas.Int.to_z-of_z, specs.Int.w128}}
 use Rattle.audit_devices.proofs.clocks.correcting.standing.Goals as goal
 

@@ -1,4 +1,5 @@
-use Rattle.{audit_devices.proofs.clocks_lemmas.Seeking.{IsBehind, IsPassed, next_crossed, none_crossed}, audit_law.specs.events.Readings.clock_reading}
+use Rattle.audit_devices.proofs.clocks_lemmas.Reached.{IsBehind, IsPassed, next_crossed, none_crossed}
+use Rattle.audit_law.specs.events.Readings.{clock_reading}
 use Rattle.{audit_devices.specs.clocks.Finding.value_in, audit_law.specs.events.Reaches.IsFirstReach, std.specs.{Int.w128, Prelude.{◌+ℤ◌, ◌-ℤ◌}}}
 use Rattle.std.proofs.{Common.{◌<ℤ◌, ◌^◌, ◌∙◌, ◌≡◌, ◌≤ℤ◌, None, Some, ap, arith, inl, inr, pos, rules, subst, sym, ℤ}, lemmas.Int.{ints, to_z-of_z}}
 use Rattle.audit_devices.proofs.clocks.finding.next_crossing.Goals as goal

@@ -1,6 +1,7 @@
 use Rattle.std.{proofs.{Common.{◌+◌, ◌/◌, ◌∙◌, ◌≡◌, ◌≤ℤ◌, Fits, ap, arith, pos, rules, subst, sym, w64, ℕ, ℤ}, lemmas.Int.{ints, to_z-of_z}}, specs.Int.w128}
 use Rattle.std.specs.Prelude.{◌+ℤ◌, ◌-ℤ◌}
-use Rattle.audit_devices.{proofs.clocks_lemmas.Seeking.{IsBehind, quotient_behind, quotient_near}, specs.clocks.Finding.value_in}
+use Rattle.audit_devices.{proofs.clocks_lemmas.Reached.{IsBehind, quotient_behind, quotient_near}}
+use Rattle.audit_devices.{specs.clocks.Finding.value_in}
 use Rattle.audit_devices.proofs.clocks.finding.number_behind.Goals as goal
 
 pub returns-else-passed-series-clause-behind : goal.returns-else-passed-series-clause-behind

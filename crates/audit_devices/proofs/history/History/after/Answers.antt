@@ -1,4 +1,4 @@
-use Rattle.audit_devices.{proofs.Kept.{front_at, lasting_to, later_at, later_behind}}
+use Rattle.audit_devices.proofs.Kept.{front_at, lasting_to, later_at, later_behind}
 use Rattle.audit_devices.{specs.{Keeping.last_shown, Lasting.Lasts}}
 use Rattle.audit_devices.proofs.Words.{◌+◌, ◌<◌, ◌∙◌, ap, arith, refl, slice_get, subst, sym}
 use Rattle.std.specs.Prelude.{IfSome}

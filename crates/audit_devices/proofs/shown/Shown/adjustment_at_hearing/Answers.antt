@@ -1,5 +1,5 @@
 use Rattle.std.{proofs.Common.{FitsSigned, to_z-of_z}, specs.Int.w128}
-use Rattle.audit_devices.proofs.{Steps.hearing_adjustment, Words.{◌∙◌, rules}}
+use Rattle.audit_devices.proofs.{Kept.hearing_adjustment, Words.{◌∙◌, rules}}
 use Rattle.audit_devices.proofs.shown.Shown.adjustment_at_hearing.Goals as goal
 
 pub returns : goal.returns

@@ -1,4 +1,4 @@
-use Rattle.audit_devices.proofs.{Steps.heard_since_is}
+use Rattle.audit_devices.proofs.Kept.{heard_since_is}
 use Rattle.audit_devices.proofs.{Words.{◌-◌, ◌∙◌, ◌≡◌, Summarizes, ap, heard_by_then, points_by, subst, sym}}
 use Rattle.audit_law.specs.law.CorrectionNumbers.{heard_since_point}
 use Rattle.audit_devices.proofs.shown.Shown.heard_since.Goals as goal

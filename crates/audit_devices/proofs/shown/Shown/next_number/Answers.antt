@@ -1,4 +1,4 @@
-use Rattle.audit_devices.proofs.{Steps.number_is, Words.{◌+◌, ◌∙◌, Shown, ap, points_by, sym}}
+use Rattle.audit_devices.proofs.{Kept.number_is, Words.{◌+◌, ◌∙◌, Shown, ap, points_by, sym}}
 use Rattle.audit_devices.proofs.shown.Shown.next_number.Goals as goal
 
 pub returns : goal.returns

@@ -1,4 +1,4 @@
-use Rattle.audit_devices.proofs.{Steps.{has_passed, le_denied, not_come, then_comes}}
+use Rattle.audit_devices.proofs.Kept.{has_passed, le_denied, not_come, then_comes}
 use Rattle.audit_devices.proofs.{Words.{◌+ℤ◌, ◌+◌, ◌≡◌, Shown, arith, points_by, pos, rules, subst, ℤ}}
 use Rattle.audit_devices.proofs.shown.Shown.points_come.Goals.{else-self-first-via-else-self-first, else-self-first-via-then-self-first+else-first-local}
 use Rattle.std.{proofs.{Common.{FitsSigned, of_z, to_z}, lemmas.Int.ints}, specs.{Int.w128, Prelude.{◌<ℤ◌, ◌≤ℤ◌}}}

@@ -1,4 +1,4 @@
-use Rattle.audit_devices.proofs.{Kept.{kept_front, last_kept}}
+use Rattle.audit_devices.proofs.Kept.{kept_front, last_kept}
 use Rattle.audit_devices.proofs.{Words.{slice_get, slice_get-last, subst, sym, take, taken_of, true}}
 use Rattle.audit_devices.proofs.Words.{◌-◌, ◌∙◌, ◌≡◌, ◌≤◌, Bool, Global, IsPartitionPoint, IsPartitionedBy, List, None, Option, Taking, Vec, []}
 use Rattle.audit_devices.proofs.Words.{always_returns_same, ap, false, filter, got_at, is_taking_before, last_or, length, of_calls, option_map_or, rules, Some}

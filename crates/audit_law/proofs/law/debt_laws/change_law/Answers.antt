@@ -1,4 +1,4 @@
-use Rattle.audit_law.proofs.law_lemmas.Changing.{change_law}
+use Rattle.audit_law.proofs.law_lemmas.Founded.{change_law}
 use Rattle.audit_law.proofs.law.debt_laws.change_law.Goals as goal
 
 pub returns : goal.returns

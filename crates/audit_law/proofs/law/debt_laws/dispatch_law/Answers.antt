@@ -1,4 +1,4 @@
-use Rattle.audit_law.proofs.law_lemmas.AllOwed.{dispatch_law}
+use Rattle.audit_law.proofs.law_lemmas.Owed.{dispatch_law}
 use Rattle.audit_law.proofs.law.debt_laws.dispatch_law.Goals as goal
 
 pub returns : goal.returns

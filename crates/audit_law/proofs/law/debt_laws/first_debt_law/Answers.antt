@@ -1,4 +1,4 @@
-use Rattle.audit_law.proofs.law_lemmas.FirstUnpaid.{first_debt_law, joined_sorts}
+use Rattle.audit_law.proofs.law_lemmas.Owed.{first_debt_law, joined_sorts}
 use Rattle.audit_law.proofs.law.debt_laws.first_debt_law.Goals as goal
 
 pub returns-clause-joined : goal.returns-clause-joined

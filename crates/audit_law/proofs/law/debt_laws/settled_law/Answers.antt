@@ -1,4 +1,4 @@
-use Rattle.audit_law.proofs.law_lemmas.Settling.{settled_law}
+use Rattle.audit_law.proofs.law_lemmas.Owed.{settled_law}
 use Rattle.audit_law.proofs.law.debt_laws.settled_law.Goals as goal
 
 pub returns : goal.returns

@@ -1,4 +1,4 @@
-use Rattle.audit_law.proofs.law_lemmas.AllOwed.{audit_laws}
+use Rattle.audit_law.proofs.law_lemmas.Owed.{audit_laws}
 use Rattle.audit_law.proofs.law.laws.audit_laws.Goals as goal
 
 pub returns : goal.returns

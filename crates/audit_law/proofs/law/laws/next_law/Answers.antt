@@ -1,4 +1,4 @@
-use Rattle.audit_law.proofs.law_lemmas.AllOwed.{next_law}
+use Rattle.audit_law.proofs.law_lemmas.Owed.{next_law}
 use Rattle.audit_law.proofs.law.laws.next_law.Goals as goal
 
 pub returns : goal.returns

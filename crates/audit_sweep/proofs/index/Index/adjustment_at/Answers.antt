@@ -1,5 +1,5 @@
-use Rattle.audit_devices.proofs.Steps.{hearing_adjustment}
-use Rattle.audit_sweep.proofs.Hearings.{heard_before, none_later, only_joined}
+use Rattle.audit_devices.proofs.Kept.{hearing_adjustment}
+use Rattle.audit_sweep.proofs.Lacks.{heard_before, none_later, only_joined}
 use Rattle.{audit_devices.specs.Keeping.records_before, audit_sweep.specs.Indexing.permanence_place, run_law.specs.records.Ranks.key}
 use Rattle.{audit_law.specs.events.Readings.scenario_under, run_law.specs.records.Happenings.Happening, run_law.specs.declared.judgement.Judgement.TheVariants.Ignored}
 use Rattle.std.{proofs.{Common.{◌∙◌, List, arith, rules}, lemmas.Int.to_z-of_z}, specs.Int.w128}

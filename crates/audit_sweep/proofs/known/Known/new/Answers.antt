@@ -1,4 +1,4 @@
-use Rattle.audit_sweep.proofs.{NextRecords.{none_show, none_young, steady}, Words.{refl, scenario_under}}
+use Rattle.audit_sweep.proofs.{Lacks.{none_show, none_young, steady}, Words.{refl, scenario_under}}
 use Rattle.audit_sweep.proofs.known.Known.new.Goals as goal
 
 pub returns-clause-known : goal.returns-clause-known

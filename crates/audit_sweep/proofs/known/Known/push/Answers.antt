@@ -1,7 +1,6 @@
 use Rattle.audit_sweep.proofs.Words.{◌∙◌, DeviceId, KeptRecord, ap, happening, refl, scenario_under, subst, sym}
 use Rattle.audit_devices.specs.{Keeping.IsSeen, Showing.IsReading}
-use Rattle.audit_sweep.proofs.{Lacks.takes_rightly}
-use Rattle.audit_sweep.proofs.{NextRecords.{records_next, show_next, steady, subject_there, young_next}}
+use Rattle.audit_sweep.proofs.Lacks.{records_next, show_next, steady, subject_there, takes_rightly, young_next}
 use Rattle.audit_sweep.proofs.known.Known.push.Goals as goal
 
 pub returns-clause-known : goal.returns-clause-known

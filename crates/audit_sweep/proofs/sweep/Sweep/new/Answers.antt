@@ -1,4 +1,4 @@
-use Rattle.audit_sweep.proofs.{NextRecords.sound_none, Words.{IsDue, place_of, refl, scenario_under}}
+use Rattle.audit_sweep.proofs.{Lacks.sound_none, Words.{IsDue, place_of, refl, scenario_under}}
 use Rattle.audit_sweep.proofs.sweep.Sweep.new.Goals as goal
 
 pub returns : goal.returns

@@ -1,6 +1,7 @@
-use Rattle.audit_sweep.proofs.{Lacks.{knows_of_some, range_of_some, same_end}, NextRecords.sound_more}
+use Rattle.audit_sweep.proofs.{Lacks.{knows_of_some, named_more, range_of_some, same_end, sound_more}}
+use Rattle.audit_sweep.proofs.Words.{◌∙◌, IsDue, founded_of_sound, happening, place_of, refl, scenario_under, subst}
+use Rattle.audit_sweep.proofs.Words.{sym}
 use Rattle.run_law.specs.records.Order.{AllBefore}
-use Rattle.audit_sweep.proofs.{NamedDevices.named_more, Words.{◌∙◌, IsDue, founded_of_sound, happening, place_of, refl, scenario_under, subst, sym}}
 use Rattle.audit_sweep.proofs.sweep.Sweep.push.Goals as goal
 
 pub push-requires : goal.push-requires

@@ -1,4 +1,4 @@
-use Rattle.audit_sweep.{proofs.{Lacks.of_its_network, Words.{◌++◌, ◌∷◌, IsSwept, [], happening, subst}}}
+use Rattle.audit_sweep.proofs.{Lacks.of_its_network, Words.{◌++◌, ◌∷◌, IsSwept, [], happening, subst}}
 use Rattle.audit_sweep.{specs.Sweeping.IsSoundUpTo}
 use Rattle.audit_sweep.proofs.sweep.Sweep.take.Goals as goal
 

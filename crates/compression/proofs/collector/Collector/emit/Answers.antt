@@ -1,5 +1,5 @@
 use Rattle.std.proofs.{Common.{◌≡◌, ◌≤ℤ◌, arith, of_z, to_z, w64}, lemmas.Int.ints}
-use Rattle.compression.{proofs.Collectors.{IsLeast-first, IsSound-emitted, Stands-emitted}}
+use Rattle.compression.proofs.Collectors.{IsLeast-first, IsSound-emitted, Stands-emitted}
 use Rattle.compression.{specs.{Collecting.Collecting, Emission.emission}}
 use Rattle.compression.proofs.collector.Collector.emit.Goals as goal
 

@@ -1,7 +1,6 @@
 use Rattle.std.proofs.Common.{◌∙◌, ◌≡◌, ◌≢◌, ◌⊎◌, ap, inl, inr, refl, rules, subst, sym}
-use Rattle.compression.proofs.Collectors
-use Collectors.{IsSound-takes, Stands-role_ignored, Stands-role_joined, Stands-role_opened, able, last_is_joined}
-use Collectors.{role-whole}
+use Rattle.compression.proofs.Collectors.{IsSound-takes, Stands-role_ignored, Stands-role_joined, Stands-role_opened}
+use Rattle.compression.proofs.Collectors.{able, last_is_joined, role-whole}
 use Rattle.compression.specs.{Clusters.{point_at}, Collecting.{Collecting, with_joined}, Role.role, Row.IsSound}
 use Rattle.compression.specs.{declared.taken.Taken.{Taken, TheVariants.{Joined, OtherCycle, Repeat}}}
 use Rattle.compression.proofs.collector.Collector.point.Goals as goal

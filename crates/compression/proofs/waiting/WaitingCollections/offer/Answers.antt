@@ -1,5 +1,5 @@
 use Rattle.std.{proofs.{Common.{◌<ℤ◌, ◌∙◌, ◌≡◌, ◌≤ℤ◌, None, Some, ap, arith, refl, sym}, lemmas.Int.ints}, specs.List.last_or}
-use Rattle.compression.{proofs.{Middles.last_or-read, Roles.{open_at-beyond, open_at-in}}}
+use Rattle.compression.proofs.{Collectors.{open_at-beyond, open_at-in}, Middles.last_or-read}
 use Rattle.compression.{specs.{Clusters.Point, Role.role_in}}
 use Rattle.compression.proofs.waiting.WaitingCollections.offer.Goals as goal
 

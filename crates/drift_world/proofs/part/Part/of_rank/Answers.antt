@@ -1,4 +1,5 @@
-use Rattle.drift_world.{proofs.{Parts.one_rank, Words.{◌∙◌, ◌≡◌, refl, sym}}, specs.{Parts.part_rank, declared.part.Part.{Part, TheVariants.{Emissions, Late, Sendings}}}}
+use Rattle.drift_world.{proofs.{Timings.one_rank, Words.{◌∙◌, ◌≡◌, refl, sym}}}
+use Rattle.drift_world.{specs.{Parts.part_rank, declared.part.Part.{Part, TheVariants.{Emissions, Late, Sendings}}}}
 use Rattle.drift_world.proofs.part.Part.of_rank.Goals as goal
 
 late_part : (part : Part) → (part_rank part ≡ 4 → ⊥) → (part_rank part ≡ 5 → ⊥) → Late ≡ part

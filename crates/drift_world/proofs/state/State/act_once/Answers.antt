@@ -1,4 +1,4 @@
-use Rattle.drift_world.proofs.{Showings.shows_of, Signals.{all_put_some, have_octets, sized_so}}
+use Rattle.drift_world.proofs.{Locals.shows_of, Signals.{all_put_some, have_octets, sized_so}}
 use Rattle.drift_world.proofs.{Turned.{all_put_in, first_given, next_first, no_change, no_shelf, no_waiter}}
 use Rattle.drift_world.proofs.{Turning.at_rank}
 use Rattle.drift_world.proofs.ActSteps.{AreProper, IsFine, above_then, acted_turns, acts_late, asked_to_act}

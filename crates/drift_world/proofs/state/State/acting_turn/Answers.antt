@@ -1,4 +1,4 @@
-use Rattle.drift_world.proofs.{Nearings.{gave_kept, gave_may_set, gave_says, less_then, may_set, stepped}}
+use Rattle.drift_world.proofs.Nearings.{gave_kept, gave_may_set, gave_says, less_then, may_set, stepped}
 use Rattle.drift_world.proofs.{Turning.{all_above, is_at, step_kept}}
 use Rattle.drift_world.proofs.ActTurns.{IsTurn, comes_at, left_later, same_then, turn_begun, turn_on, turn_with}
 use Rattle.drift_world.proofs.Words.{◌+◌, ◌<◌, ◌∙◌, ◌≡◌, IsOf, Scenario, ap, arith, length, moment_of, numbers_end, subst, sym}

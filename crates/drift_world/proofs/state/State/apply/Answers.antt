@@ -1,6 +1,6 @@
 use Rattle.std.specs.Prelude.{All}
 use Rattle.drift_world.proofs.{Beginnings.{any_mapped, found, waits_more, ways_more}, Events.turned_on_is}
-use Rattle.drift_world.proofs.{Fitting.{apart_kept, below_more, ways_short}, Timings.{clock_elsewhere, waits_elsewhere}}
+use Rattle.drift_world.proofs.{Signals.{apart_kept, below_more, ways_short}, Timings.{clock_elsewhere, waits_elsewhere}}
 use Rattle.drift_world.proofs.Words.{not, scenario, subst, sym, true, turns_on, unsigned_abs, waiting_as, way_as}
 use Rattle.drift_world.proofs.Words.{world_of, ℕ}
 use Rattle.world_law.{proofs.steps_lemmas.steps.{Applied.applied_step, AppliedParts.broken_more}}

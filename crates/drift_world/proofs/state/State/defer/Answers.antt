@@ -1,6 +1,7 @@
 use Rattle.drift_world.proofs.Words.{◌+◌, ◌<◌, ◌∙◌, ◌≡◌, ◌≤◌, DeviceId, Some, ap, arith, keeps, length, length-set, pos, refl, slice_set, subst, sym}
-use Rattle.{drift_world.proofs.Showings.shows_of, std.{proofs.lemmas.List.Elements.All-set, specs.List.slice_get}, tte_units.proofs.general_lemmas.Lists.{set_aside, set_same}}
-use Rattle.drift_world.{proofs.Parts.none_sooner, specs.Parts.{IsFirstPart, part_rank}}
+use Rattle.std.{proofs.lemmas.List.Elements.All-set, specs.List.slice_get}
+use Rattle.drift_world.{proofs.{Locals.shows_of, Timings.none_sooner}, specs.Parts.{IsFirstPart, part_rank}}
+use Rattle.tte_units.proofs.general_lemmas.Lists.{set_aside, set_same}
 use Rattle.{drift_world.proofs.state.State.defer.Given.Over, world_state.specs.{declared.timers.Timer.Timer, timers.Times.AreFrom}}
 use Rattle.drift_world.proofs.state.State.defer.Goals.{After-set}
 use Rattle.drift_world.proofs.state.State.defer.Goals as goal

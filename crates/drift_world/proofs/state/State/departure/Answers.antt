@@ -1,4 +1,4 @@
-use Rattle.drift_world.proofs.{Showings.{departure_is, way_by}, Signals.{have_octets, left_octets}}
+use Rattle.drift_world.proofs.{Locals.{departure_is, way_by}, Signals.{have_octets, left_octets}}
 use Rattle.drift_world.proofs.{Turned.{departed_late, departed_none}}
 use Rattle.drift_world.proofs.{Words.{is_parent_of, length, slice_get_read, subst, sym}}
 use Rattle.world_law.proofs.giving.GivenParts.{some_same}

@@ -1,4 +1,4 @@
-use Rattle.{drift_world.proofs.Showings.way_by}
+use Rattle.drift_world.proofs.Locals.{way_by}
 use Rattle.drift_world.proofs.Words.{◌<◌, ◌∙◌, None, Some, WayNow, ap, is_parent_of, length, slice_get_within, subst}
 use Rattle.schedule_tables.proofs.SlotLemmas.{one_entry}
 use Rattle.world_state.specs.Acting.{IsDispatched, dispatched_by}

@@ -1,4 +1,4 @@
-use Rattle.drift_world.proofs.{Nearings.{gives_turns, passed_turns, work_turns}}
+use Rattle.drift_world.proofs.Nearings.{gives_turns, passed_turns, work_turns}
 use Rattle.drift_world.proofs.{Turning.{err_open, may_give_first, none_settled, now_so, passed_kept}}
 use Rattle.drift_world.proofs.Words.{OutOfMemory, SourceFirst, refl, subst}
 use Rattle.drift_world.proofs.state.State.front_turn.Goals as goal

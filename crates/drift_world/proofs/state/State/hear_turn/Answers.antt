@@ -1,6 +1,7 @@
-use Rattle.drift_world.proofs.{Heeds.told_timed, state.State.hear_turn.Goals.{After-give_first, After-put_in}}
+use Rattle.drift_world.proofs.{Nearings.told_timed, Signals.{all_put, have_octets, sound_same}}
+use Rattle.drift_world.proofs.{Timings.{rekeyed, set_act, waits_as}}
+use Rattle.drift_world.proofs.{state.State.hear_turn.Goals.{After-give_first, After-put_in}}
 use Rattle.drift_world.{specs.declared.state.State.State}
-use Rattle.drift_world.proofs.{Signals.{all_put, have_octets, sound_same}, Timings.{rekeyed, set_act, waits_as}}
 use Rattle.drift_world.proofs.{Turned.{all_put_in, changes_both, first_given, next_first, no_shelf, turns_of, waits_at}}
 use Rattle.drift_world.proofs.{Turning.{kept_timers, rekeyed_step, runs_on, source_at, step_kept}}
 use Rattle.drift_world.specs.{declared.source.Source.TheVariants.Arrival}

@@ -1,10 +1,10 @@
 use Rattle.drift_world.proofs.{Rising.settled_in_order, Turned.{arrived_device, arrived_late, one_turn}, Turning.is_at}
 use Rattle.drift_world.proofs.{Words.{false, subst, sym, world_of}}
 use Rattle.drift_world.proofs.{state.State.hear_wire.Goals.{After-index_mut-machine, After-read}}
-use Rattle.drift_world.proofs.Signals
-use Signals.{as_sent, below_without, have_octets, heard_octets, heard_turns, may_come, moment_is, sized_so}
-use Rattle.tte_units.proofs.general_lemmas.Lists.{set_aside, set_same}
+use Rattle.drift_world.proofs.Signals.{as_sent, below_without, have_octets, heard_octets, heard_turns, may_come}
+use Rattle.drift_world.proofs.Signals.{moment_is, sized_so}
 use Rattle.world_state.proofs.Queues.{sound_without}
+use Rattle.tte_units.proofs.general_lemmas.Lists.{set_aside, set_same}
 use Rattle.drift_world.proofs.Words.{◌+◌, ◌∙◌, ◌≡◌, DeviceId, Moment, Note, Scenario, Some, Stands, ap, arith, changed_device}
 use Rattle.drift_world.proofs.Words.{List, keeps, length-set, length_permutation, moment_of, rank, refl, settled_at, slice_get_read}
 use Rattle.{std.proofs.Common.{set, slice_get}, world_law.proofs.giving.GivenParts.some_same}

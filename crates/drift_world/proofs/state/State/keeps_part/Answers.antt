@@ -1,6 +1,8 @@
 use Rattle.device_rules.specs.FirstKinds.{kind_of}
 use Rattle.drift_world.proofs.Words.{◌+◌, ◌≡◌, ◌∙◌, ap, arith, length, same_Some, sym}
-use Rattle.{drift_world.{proofs.Parts.part_least, specs.{Parts.{part_of, part_rank}}}, std.proofs.Common.slice_get, world_state.specs.declared.timers.Timer.Timer}
+use Rattle.std.proofs.Common.{slice_get}
+use Rattle.drift_world.{proofs.Timings.part_least, specs.Parts.{part_of, part_rank}}
+use Rattle.world_state.specs.declared.timers.Timer.{Timer}
 use Rattle.drift_world.proofs.state.State.keeps_part.Goals as goal
 
 pub returns-then-timer-number : goal.returns-then-timer-number

@@ -1,7 +1,7 @@
 use Rattle.drift_world.proofs.{ActSteps.{departed_is, frame_of_port}, Alike.turns_alike, Rising.settled_in_order}
-use Rattle.drift_world.proofs.{Showings.shows_of, Signals.{below_without, sized_so}, Turned.some_turn}
+use Rattle.drift_world.proofs.{Locals.shows_of, Signals.{below_without, sized_so}, Turned.some_turn}
+use Rattle.world_state.proofs.Queues.{ports_without, sound_without, wires_stay}
 use Rattle.world_law.proofs.steps_lemmas.turns.Turns.{left_turn}
-use Rattle.world_state.{proofs.Queues.{ports_without, sound_without, wires_stay}}
 use Rattle.world_state.{specs.{Leaving.port_entry, declared.queue.Entry.Entry}}
 use Rattle.world_law.specs.steps.{Steps.{departure_now}}
 use Rattle.drift_world.proofs.Words.{length_permutation, numbers_of, on_wire, refl, subst, sym, world_of}

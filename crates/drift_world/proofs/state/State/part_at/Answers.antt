@@ -1,5 +1,5 @@
 use Rattle.{device_rules.specs.FirstKinds.{kind_of}, run_law.specs.machines.Calls.HasDue, world_law.proofs.giving.GivenParts.some_same}
-use Rattle.drift_world.{proofs.Parts.{none_sooner, part_least}, specs.Parts.{part_of}}
+use Rattle.drift_world.{proofs.Timings.{none_sooner, part_least}, specs.Parts.part_of}
 use Rattle.drift_world.proofs.Words.{◌∙◌, amount, ap, arith, pos, slice_get_read, sym}
 use Rattle.drift_world.proofs.state.State.part_at.Goals as goal
 

@@ -1,4 +1,4 @@
-use Rattle.drift_world.proofs.{Nearings.acts_by}
+use Rattle.drift_world.proofs.Nearings.{acts_by}
 use Rattle.drift_world.proofs.{Words.{◌+◌, ◌<◌, ◌∙◌, DeviceId, Some, ap, arith, length, refl, slice_get-get_or, subst}}
 use Rattle.{drift_world.specs.Stepping.IsTimedFor, std.proofs.Common.{get_or}}
 use Rattle.world_state.specs.{declared.timers.Timer.Timer, timers.Times.unset}

@@ -1,4 +1,4 @@
-use Rattle.drift_world.proofs.{Heeds.timed_still, Timings.{may_still, set_both}}
+use Rattle.drift_world.proofs.{Nearings.timed_still, Timings.{may_still, set_both}}
 use Rattle.drift_world.proofs.state.State.rekey_from.Goals as goal
 
 pub rekey_act_from-requires-clause-may : goal.rekey_act_from-requires-clause-may

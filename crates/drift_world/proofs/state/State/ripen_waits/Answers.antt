@@ -1,8 +1,8 @@
-use Rattle.drift_world.proofs.{Signals.sized_so}
+use Rattle.drift_world.proofs.Signals.{sized_so}
+use Rattle.world_state.proofs.Queues.{was_there}
 use Rattle.drift_world.proofs.{state.State.ripen_waits.Goals.{After-index_mut, After-take_first-waits}}
 use Rattle.drift_world.proofs.Turned
 use Turned.{asked, below_taken, device_in, low, moment_by, moment_is, others_wait, ripened, still_apart}
-use Rattle.world_state.proofs.Queues.{was_there}
 use Rattle.drift_world.proofs.Words.{◌+◌, ◌<◌, ◌≡◌, IsIn, List, Note, Scenario, Some, Stands, arith, is_set, keeps, length, length-set}
 use Rattle.{drift_world.proofs.Words.{length_permutation, moment_of, refl, slice_get_read, subst, world_of}, world_law.specs.steps.Ripening.HasRipened}
 use Rattle.std.proofs.Common.{slice_get}

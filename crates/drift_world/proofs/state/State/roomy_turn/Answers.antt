@@ -1,5 +1,5 @@
 use Rattle.drift_world.{specs.{Nearing.IsNoFarther, Turns.PassSays, declared.state.State.State}}
-use Rattle.drift_world.proofs.{Nearings.{ends_near, passed_turns, turns_then}}
+use Rattle.drift_world.proofs.Nearings.{ends_near, passed_turns, turns_then}
 use Rattle.drift_world.proofs.{Turning.{firsts_passed, kept_then, passed_after, passed_kept, room_passed}}
 use Rattle.drift_world.proofs.{Words.{◌∙◌, AreFirsts, OutOfMemory, ap, arith, subst, sym}}
 use Rattle.drift_world.proofs.state.State.roomy_turn.Goals.{After-first-due}

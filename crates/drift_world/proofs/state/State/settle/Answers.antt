@@ -1,5 +1,5 @@
 use Rattle.drift_world.proofs.Words.{Stands, ap, keeps, world_of}
-use Rattle.drift_world.{proofs.{Nearings.{on_both, settled_less}, Turning.{either_end, plain_step}}}
+use Rattle.drift_world.proofs.{Nearings.{on_both, settled_less}, Turning.{either_end, plain_step}}
 use Rattle.drift_world.{specs.declared.state.State.State}
 use Rattle.drift_world.proofs.state.State.settle.Goals as goal
 

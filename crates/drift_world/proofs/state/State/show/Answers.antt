@@ -1,4 +1,4 @@
-use Rattle.drift_world.proofs.{Timings.aside}
+use Rattle.drift_world.proofs.Timings.{aside}
 use Rattle.drift_world.proofs.{Turned.{changes_both, first_given, next_first, no_change, no_shelf, no_waiter, turns_of}}
 use Rattle.drift_world.proofs.{Turning.{kept_timers, source_at}}
 use Rattle.drift_world.proofs.Words.{◌∙◌, None, Some, ap, arith, changed_device, refl, world_of}

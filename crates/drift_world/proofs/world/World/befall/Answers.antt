@@ -1,4 +1,4 @@
-use Rattle.drift_world.{proofs.{Onwards.{befalls, sets_short}, Signals.sound_timers, Timings.{timed_by_event, unmoved}}}
+use Rattle.drift_world.proofs.{Onwards.{befalls, sets_short}, Signals.sound_timers, Timings.{timed_by_event, unmoved}}
 use Rattle.drift_world.{specs.declared.state.State.State}
 use Rattle.net_plan.specs.declared.event.Event.{Event}
 use Rattle.precision_law.proofs.traffic_lemmas.safety_lemmas.Lawful.{slow_rate}

@@ -1,4 +1,4 @@
-use Rattle.drift_world.{proofs.{Onwards.{first_sound, first_stands}, Signals.sound_timers, Words.world_of}}
+use Rattle.drift_world.proofs.{Onwards.{first_sound, first_stands}, Signals.sound_timers, Words.world_of}
 use Rattle.drift_world.{specs.Beginning.IsFirstState}
 use Rattle.drift_world.proofs.Words.{◌∙◌, IsInRange, IsLawful, KeepsRules, StandsUnder, [], ap, length, reading_of, scenario, subst, sym}
 use Rattle.std.proofs.lemmas.List.{length-replicate}

@@ -1,4 +1,4 @@
-use Rattle.fault_hypothesis.proofs.storm_lemmas.{Masters.some_device, Storms.knows_broken}
+use Rattle.fault_hypothesis.proofs.storm_lemmas.{OneStorm.some_device, Storms.knows_broken}
 use Rattle.std.proofs.Common.{inl, inr, refl}
 use Rattle.fault_hypothesis.proofs.storm.chosen.choose_event.Goals.{else-draw_in, then-draw_in+in-Err}
 use Rattle.fault_hypothesis.proofs.storm.chosen.choose_event.Goals as goal

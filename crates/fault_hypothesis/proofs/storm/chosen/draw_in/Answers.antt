@@ -1,4 +1,4 @@
-use Rattle.fault_hypothesis.proofs.storm_lemmas.Masters.{some_device, some_link}
+use Rattle.fault_hypothesis.proofs.storm_lemmas.OneStorm.{some_device, some_link}
 use Rattle.fault_hypothesis.proofs.storm.chosen.draw_in.Goals as goal
 
 pub device-device-requires-clause-some : goal.device-device-requires-clause-some

@@ -1,4 +1,4 @@
-use Rattle.fault_hypothesis.proofs.storm_lemmas.Masters.{master_within, some_master}
+use Rattle.fault_hypothesis.proofs.storm_lemmas.OneStorm.{master_within, some_master}
 use Rattle.std.proofs.Common.{inl, inr, refl}
 use Rattle.fault_hypothesis.proofs.storm.chosen.strike_in.Goals as goal
 

@@ -1,5 +1,5 @@
 use Rattle.std.proofs.Common.{refl, rules, sym}
-use Rattle.fault_hypothesis.proofs.storm_lemmas.Masters.{master_uplink, uplink_within}
+use Rattle.fault_hypothesis.proofs.storm_lemmas.OneStorm.{master_uplink, uplink_within}
 use Rattle.{std.{proofs.lemmas.Option.slice_get_read}}
 use Rattle.fault_hypothesis.proofs.storm.strike.forged_send.Goals as goal
 

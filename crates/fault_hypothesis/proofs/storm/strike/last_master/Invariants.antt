@@ -1,4 +1,4 @@
-use Rattle.fault_hypothesis.proofs.storm_lemmas.Masters.{IsLastBelow}
+use Rattle.fault_hypothesis.proofs.storm_lemmas.OneStorm.{IsLastBelow}
 use Rattle.fault_hypothesis.proofs.storm.strike.last_master.Given as goal
 
 -- the last master so far

@@ -1,7 +1,8 @@
 use Rattle.fault_hypothesis.proofs.Keeping.{all_of_network, broken_breaks, broken_stays, faulty_cut, faulty_stays}
 use Rattle.fault_hypothesis.proofs.Keeping.{faulty_uncut, on_stays, on_turns}
 use Rattle.{net_plan.specs.Belonging.IsOfNetwork}
-use Rattle.{net_plan.specs.declared.{event.What.What, ids.{DeviceId.DeviceId, LinkId.LinkId}, tables.Way.Way}, run_law.proofs.scenario.Devices.all_within}
+use Rattle.net_plan.specs.declared.{event.What.What, ids.{DeviceId.DeviceId, LinkId.LinkId}, tables.Way.Way}
+use Rattle.run_law.proofs.scenario.Devices.{all_within}
 use Rattle.std.proofs.Common.{◌∙◌, ◌≡◌, ap, arith, length, length-set, refl, subst, sym, true}
 use Rattle.{schedule_tables.specs.{Rules.KeepsRules, declared.rule.Rule.TheVariants.Limits}}
 use Rattle.net_plan.specs.declared.event.What.TheVariants as kinds

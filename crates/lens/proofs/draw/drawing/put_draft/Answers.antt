@@ -1,5 +1,5 @@
 use Rattle.std.proofs.Common.{◌∙◌, ap, inl, refl, subst, sym}
-use Rattle.lens.proofs.draw_lemmas.Coming.{report_askable}
+use Rattle.lens.proofs.draw_lemmas.Marking.{report_askable}
 use Rattle.run_law.specs.records.Happenings.{happenings}
 use Rattle.{lens.specs.draw.{Answer.draw_answer, Asking.IsAskable, Picture.clocks_of}, lens_svg.specs.Windows.windows_in, tte_audit.specs.Report.events_of}
 use Rattle.{lens_svg.specs.Plan.Plan, std.specs.Prelude.All}

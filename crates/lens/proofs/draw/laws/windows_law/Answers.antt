@@ -1,4 +1,4 @@
-use Rattle.lens.proofs.draw_lemmas.Coming.{pictures_show_windows}
+use Rattle.lens.proofs.draw_lemmas.Marking.{pictures_show_windows}
 use Rattle.lens.proofs.draw.laws.windows_law.Goals as goal
 
 pub returns : goal.returns

@@ -1,5 +1,5 @@
 use Rattle.{audit_law.specs.events.Readings.scenario_under, std.proofs.Common.{◌++◌, ◌∙◌, ◌≤◌, Global, List, Option, Vec, [], ap, length, subst, sym, take_all}}
-use Rattle.lens.proofs.{draw.windows.windows_of.Goals.{in-Some+in-Ok, in_default}, draw_lemmas.Coming.with_next}
+use Rattle.lens.proofs.{draw.windows.windows_of.Goals.{in-Some+in-Ok, in_default}, draw_lemmas.Marking.with_next}
 use Rattle.lens_svg.specs.Windows.{came_of, windows_in}
 use Rattle.lens_svg.specs.declared.{mark.Mark.Mark, window.Came.Came}
 use Rattle.audit_sweep.specs.Indexing.{clock_at}

@@ -1,4 +1,4 @@
-use Rattle.lens_plan.{proofs.MessageLines.fault_same, specs.messages.Reading.{message_reader, some_receivers}}
+use Rattle.lens_plan.{proofs.Plans.fault_same, specs.messages.Reading.{message_reader, some_receivers}}
 use Rattle.std.proofs.Common.{refl, sym}
 use Rattle.trace_text.specs.Steps.{words}
 use Rattle.lens_plan.proofs.messages.all.message_of.Goals as goal

@@ -1,5 +1,6 @@
 use Rattle.{lens_plan.specs.places.Fitting.IsAsked, std.{proofs.lemmas.List.Elements.{All-append, All-cons, All-nil}, specs.List.All}}
-use Rattle.lens_plan.proofs.MessageLines.{fault_there, few_lines, no_more, one_more, passed, read_fault, read_message, refused_there, too_long}
+use Rattle.lens_plan.proofs.Plans
+use Plans.{fault_there, few_lines, no_more, one_more, passed, read_fault, read_message, refused_there, too_long}
 use Rattle.lens_plan.specs.messages.{Lines.{AreNoMessages, messages_from, messages_read}, Message.Message, Reading.message_reader}
 use Rattle.std.proofs.Common.{◌+◌, ◌∙◌, ◌∷◌, ◌≡◌, Err, Ok, [], ap, arith, length, subst, sym}
 use Rattle.trace_text.specs.Steps.{words}

@@ -1,4 +1,4 @@
-use Rattle.lens_plan.proofs.IdLists.{ids_next}
+use Rattle.lens_plan.proofs.Plans.{ids_next}
 use Rattle.lens_plan.proofs.text.ids.ids_of.Goals as goal
 
 pub messages-preserved : goal.messages-preserved

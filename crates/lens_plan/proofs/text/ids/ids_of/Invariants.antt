@@ -1,4 +1,4 @@
-use Rattle.lens_plan.{proofs.IdLists.AreFirstIds, specs.text.Ids.taken_ids}
+use Rattle.lens_plan.{proofs.Plans.AreFirstIds, specs.text.Ids.taken_ids}
 use Rattle.lens_plan.proofs.text.ids.ids_of.Given as goal
 
 abbrev pub invariant-messages : goal.invariant-messages

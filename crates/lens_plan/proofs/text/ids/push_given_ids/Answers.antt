@@ -1,4 +1,4 @@
-use Rattle.lens_plan.{proofs.IdLists.given_more}
+use Rattle.lens_plan.proofs.Plans.{given_more}
 use Rattle.lens_plan.proofs.text.ids.push_given_ids.Goals as goal
 
 pub messages-preserved : goal.messages-preserved

@@ -1,4 +1,4 @@
-use Rattle.lens_plan.{proofs.Plans.found_told}
+use Rattle.lens_plan.proofs.Plans.{found_told}
 use Rattle.lens_plan.specs.{declared.places.placing.Placed.Placed, places.InOrder.rows_in_order}
 use Rattle.lens_plan.specs.{text.Refusals.{IsTellable, row_limit}}
 use Rattle.std.{proofs.Common.{◌-◌, ◌∙◌, List, Option, ap, subst, sym}, specs.{List.find, Prelude.{◌==◌, IfSome}}}

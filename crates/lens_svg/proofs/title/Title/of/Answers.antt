@@ -1,4 +1,4 @@
-use Rattle.lens_svg.{proofs.TitleTexts.{text_at, text_end}, specs.Titles.word_text}
+use Rattle.lens_svg.{proofs.NoteTexts.{text_at, text_end}, specs.Titles.word_text}
 use Rattle.std.{proofs.Common.{◌++◌, ◌∙◌, ◌≡◌, ◌≤◌, Some, ap, arith, length, rules}, specs.Prelude.{codes, slice_get}}
 use Rattle.lens_svg.proofs.title.Title.of.Goals.{in-None, in-Some}
 use Rattle.lens_svg.proofs.title.Title.of.Goals as goal

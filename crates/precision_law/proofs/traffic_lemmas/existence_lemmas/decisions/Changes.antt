@@ -3,8 +3,10 @@ use Rattle.std.proofs.Common
 use Common.{◌+ℤ◌, ◌∙◌, ◌≡◌, Any, List, Some, ap, arith, false, inl, inr, pos, refl, slice_get, suc, zero, ℕ}
 use Rattle.net_plan.specs.declared.{event.{Event.Event, What.{TheVariants.End, What}}, ids.DeviceId.DeviceId}
 use Rattle.net_plan.specs.declared.{tables.Device.Device}
-use Rattle.precision_law.proofs.traffic_lemmas.existence_lemmas.decisions.Places
-use Places.{HasCaused, OfOne, by_one, caused, decided_in, decided_within, members_by, reaches_decided, same_int}
+use Rattle.precision_law.proofs.traffic_lemmas.existence_lemmas.decisions.Places.{HasCaused, OfOne, by_one, caused}
+use Rattle.precision_law.proofs.traffic_lemmas.existence_lemmas.decisions.Places.{decided_in, decided_within}
+use Rattle.precision_law.proofs.traffic_lemmas.existence_lemmas.decisions.Places.{members_by, reaches_decided, same_int}
+use Rattle.sync_state.proofs.{VerdictLemmas.one_verdict, membership_lemmas.SummaryLemmas.one_summary}
 use Rattle.run_law.proofs.{control.Summaries.{summary_of, verdict_of}}
 use Rattle.run_law.proofs.scenario.Decisions
 use Decisions.{IsDecided, at_integration, decided_and, decided_any, decided_by, decided_false}
@@ -14,7 +16,6 @@ use Rattle.run_law.specs.{device.{LocalClocks.Reaches, States.{adjustment_after,
 use Rattle.run_law.specs.{records.{Happenings.{Happening, up_to}, Ranks.{key, rank}}}
 use Rattle.run_law.specs.{runs.DueRecords.{EndsAt, IsCaused, IsClockRecord, IsCorrectedRecord, IsEventRecord}}
 use Rattle.run_law.specs.{scenario.Scenarios.{Scenario, is_broken}}
-use Rattle.sync_state.{proofs.{VerdictLemmas.one_verdict, membership_lemmas.SummaryLemmas.one_summary}}
 use Rattle.sync_state.specs.{Standing.{Standing, next_point}, Verdicts.HasVerdict, membership.Summary.Summary}
 use Rattle.sync_state.specs.declared.{state.State.State}
 use Rattle.sync_state.specs.declared.answers.Verdict.{TheVariants.{AsyncClique, Cleared, Corrected, SyncClique}}

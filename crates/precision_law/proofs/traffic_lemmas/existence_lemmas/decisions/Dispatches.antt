@@ -8,10 +8,13 @@ use Rattle.net_plan.specs.declared.{event.What.TheVariants.Send, ids.{DeviceId.D
 use Rattle.net_plan.specs.declared.{network.Network.Network}
 use Rattle.net_plan.specs.declared.{tables.{Link.Link, Row.Row, VirtualLink.VirtualLink, Way.TheVariants.Up}}
 use Rattle.precision_law.proofs.traffic_lemmas.existence_lemmas.{bounds.Weights.{bound, cycle_of_dispatch}}
-use Rattle.precision_law.proofs.traffic_lemmas.existence_lemmas.decisions.Frames.{HasDropped, arrives, dropped_decided}
-use Rattle.precision_law.proofs.traffic_lemmas.existence_lemmas.decisions.Places
-use Places.{HasCaused, OfFive, OfThree, OfTwo, by_five, by_three, by_two, cause_decided, caused, decided_below}
-use Places.{decided_in, decided_within, is_synchronised, members_by, reaches_decided, same_link, same_vl}
+use Rattle.precision_law.proofs.traffic_lemmas.existence_lemmas.decisions.Places.{HasCaused, HasDropped, OfFive}
+use Rattle.precision_law.proofs.traffic_lemmas.existence_lemmas.decisions.Places.{OfThree, OfTwo, arrives, by_five}
+use Rattle.precision_law.proofs.traffic_lemmas.existence_lemmas.decisions.Places.{by_three, by_two, cause_decided}
+use Rattle.precision_law.proofs.traffic_lemmas.existence_lemmas.decisions.Places.{caused, decided_below, decided_in}
+use Rattle.precision_law.proofs.traffic_lemmas.existence_lemmas.decisions.Places.{decided_within, dropped_decided}
+use Rattle.precision_law.proofs.traffic_lemmas.existence_lemmas.decisions.Places.{is_synchronised, members_by}
+use Rattle.precision_law.proofs.traffic_lemmas.existence_lemmas.decisions.Places.{reaches_decided, same_link, same_vl}
 use Rattle.run_law.proofs.{runs.SameSteps.same_arrival}
 use Rattle.run_law.proofs.scenario.Decisions
 use Decisions.{IsDecided, decided_and, decided_by, decided_false, decided_le, decided_or, decided_same, decided_some}

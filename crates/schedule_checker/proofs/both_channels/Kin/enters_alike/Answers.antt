@@ -1,5 +1,5 @@
 use Rattle.std.proofs.lemmas.Bool.Decides.{Decides-like}
-use Rattle.schedule_checker.proofs.EntryPlaces.{alike, alike_back}
+use Rattle.schedule_checker.proofs.Elements.{alike, alike_back}
 use Rattle.std.{proofs.Common.rules, specs.Cmp.booleans_Decides}
 use Rattle.schedule_checker.proofs.both_channels.Kin.enters_alike.Goals as goal
 

@@ -1,5 +1,5 @@
 use Rattle.std.{proofs.{Common.{rules, tests, ℕ}, lemmas.Iterator.{YieldsList-from_slice, cases_from_all}}, specs.Prelude.{IfSome, slice_get}}
-use Rattle.schedule_checker.{proofs.{Elements.all_decides, EntryPlaces.enters_all_alike, SomePlaces.each_there}}
+use Rattle.schedule_checker.proofs.Elements.{all_decides, each_there, enters_all_alike}
 use Rattle.schedule_checker.{specs.Routes.TargetIsAlike}
 use Rattle.schedule_checker.proofs.both_channels.Kin.enters_all_alike.Goals as goal
 

@@ -1,5 +1,5 @@
 use Rattle.std.{proofs.{Common.{rules, tests, ℕ}, lemmas.Iterator.{YieldsList-from_slice, cases_from_any}}, specs.Prelude.{IsSomeAnd, slice_get}}
-use Rattle.schedule_checker.{proofs.{Elements.any_decides, EntryPlaces.enters_end_system, SomePlaces.some_there}}
+use Rattle.schedule_checker.proofs.Elements.{any_decides, enters_end_system, some_there}
 use Rattle.schedule_checker.{specs.Routes.IsEnteringEnd}
 use Rattle.schedule_checker.proofs.both_channels.Kin.enters_end_system.Goals as goal
 

@@ -1,5 +1,5 @@
 use Rattle.std.{proofs.{Common.{rules, tests, ℕ}, lemmas.Iterator.{YieldsList-from_slice, cases_from_any}}, specs.Prelude.{IsSomeAnd, slice_get}}
-use Rattle.schedule_checker.{proofs.{Elements.any_decides, EntryPlaces.leaves_on, SomePlaces.some_there}}
+use Rattle.schedule_checker.proofs.Elements.{any_decides, leaves_on, some_there}
 use Rattle.schedule_checker.{specs.Routes.IsLeaving}
 use Rattle.schedule_checker.proofs.both_channels.Kin.leaves.Goals as goal
 

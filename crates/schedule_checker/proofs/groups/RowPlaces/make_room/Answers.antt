@@ -1,4 +1,4 @@
-use Rattle.schedule_checker.proofs.EntryPlaces.{more_room}
+use Rattle.schedule_checker.proofs.Elements.{more_room}
 use Rattle.std.{proofs.Common.{◌∙◌, ◌∷◌, [], ap, arith, length, length-append, refl}}
 use Rattle.schedule_checker.proofs.groups.RowPlaces.make_room.Goals as goal
 

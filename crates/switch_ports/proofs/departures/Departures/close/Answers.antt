@@ -1,4 +1,5 @@
-use Rattle.switch_ports.{proofs.{RowKeys.{closes, fit_closed, of_closed, ready_changed}, Words.{◌==◌, refl}}, specs.{Leaving.closed}}
+use Rattle.switch_ports.{proofs.{RowKeys.{closes, fit_closed, of_closed, ready_changed}, Words.{◌==◌, refl}}}
+use Rattle.switch_ports.{specs.Leaving.closed}
 use Rattle.switch_ports.proofs.departures.Departures.close.Goals as goal
 
 pub first-self-requires-clause-ready : goal.first-self-requires-clause-ready

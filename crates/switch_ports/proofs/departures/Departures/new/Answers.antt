@@ -1,5 +1,6 @@
 use Rattle.{device_rules.specs.least_key.Trees.no_key, switch_ports.proofs.Words.{◌∙◌, ◌≡◌, AreLeaving, ap, arith, length, refl, subst}}
-use Rattle.{std.proofs.Common.replicate, switch_ports.proofs.{RowKeys.fresh_keys, RowOrder.leaving_none}}
+use Rattle.std.proofs.Common.{replicate}
+use Rattle.switch_ports.proofs.RowKeys.{fresh_keys, leaving_none}
 use Rattle.switch_ports.proofs.departures.Departures.new.Goals as goal
 
 pub loop-place-init : goal.loop-place-init

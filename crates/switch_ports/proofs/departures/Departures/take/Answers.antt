@@ -1,5 +1,7 @@
 use Rattle.switch_ports.proofs.Words.{◌==◌, ◌∙◌, IsTakingAt, amount, ap, refl, slice_set, subst, sym, with_taking}
-use Rattle.switch_ports.{proofs.RowKeys.{fit_taken, mine_held, of_taken, other_same, own_row, ready_changed, taking_on, taken_all}, specs.Leaving.key_by}
+use Rattle.switch_ports.{specs.Leaving.key_by}
+use Rattle.switch_ports.proofs.RowKeys.{fit_taken, mine_held, of_taken, other_same, own_row, ready_changed, taken_all}
+use Rattle.switch_ports.proofs.RowKeys.{taking_on}
 use Rattle.switch_ports.proofs.departures.Departures.take.Goals as goal
 
 pub rows-preserved : goal.rows-preserved

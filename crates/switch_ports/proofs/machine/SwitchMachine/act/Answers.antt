@@ -1,5 +1,5 @@
 use Rattle.{run_law.specs.records.Frames.integration_frame, std.proofs.lemmas.Option.none-some, sync_state.specs.Verdicts.HasVerdict}
-use Rattle.switch_ports.proofs.{Emissions.{first_emission, may_before, reached_by, sent_stands, with_sent}}
+use Rattle.switch_ports.proofs.Emissions.{first_emission, may_before, reached_by, sent_stands, with_sent}
 use Rattle.switch_ports.proofs.{Pending.{EmitsNone, first_correction, its_next, value_reached}, Ranges.site_in_range}
 use Rattle.switch_ports.proofs.{SwitchStates.{IsComing, corrects_stands, is_point}}
 use Rattle.switch_ports.proofs.SwitchSteps

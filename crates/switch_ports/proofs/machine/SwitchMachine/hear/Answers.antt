@@ -1,7 +1,7 @@
 use Rattle.device_rules.proofs.Takings.{is_whole}
+use Rattle.switch_ports.proofs.Dispatching
+use Dispatching.{alive, arrival_stands, called_stands, control_none, is_no_type, is_type, point_same}
 use Rattle.switch_ports.proofs.{Words.{◌∙◌, ◌≡◌, ◌≤◌, StandsAs, after_arrival, ap, arith, called, refl, subst, sym, ℕ}}
-use Rattle.switch_ports.proofs.Standings.{alive, arrival_stands, called_stands, control_none, is_no_type, is_type}
-use Rattle.switch_ports.proofs.Standings.{point_same}
 use Rattle.pcf_codec.specs.Decoding.{decoded}
 use Rattle.run_law.specs.{control.{Arrivals.control_arrival, Wires.{control, signal_of, timed}}, machines.Nodes.{arriving, last_taken_by, standpoint_at}}
 use Rattle.run_law.specs.{machines.Answers.arrival_at, timed.Arrivals.timed_arrival}

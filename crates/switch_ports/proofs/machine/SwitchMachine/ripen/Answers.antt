@@ -1,13 +1,14 @@
 use Rattle.std.specs.Prelude.{MatchBool}
 use Rattle.compression.specs.Clusters.{point_at}
 use Rattle.run_law.specs.control.Permanence.{IsCollectedOrDropped}
-use Rattle.switch_ports.proofs.{Emissions.{IsBit, all_later, has_room, is_bit, master_small}, Ranges.site_in_range}
-use Rattle.switch_ports.proofs.{Standings.{alive, called_stands}, SwitchStates.IsComing}
+use Rattle.run_law.specs.{control.Collections.point_fault, machines.{Calls.{MayRipen, MayTake}, Nodes.ripening}}
+use Rattle.run_law.specs.{scenario.Devices.channel_of_link}
+use Rattle.switch_ports.proofs.{Dispatching.{alive, called_stands, channel_same}}
+use Rattle.switch_ports.proofs.{Emissions.{IsBit, all_later, cm_linked, has_room, is_bit, master_small, not_child}}
+use Rattle.switch_ports.proofs.{Ranges.site_in_range, SwitchStates.IsComing, Words.{subst, sym, true, ℕ, ℤ}}
 use Rattle.switch_ports.proofs.{SwitchSteps.{collected_stands, heard_so, heard_stands, taken_so}}
 use Rattle.tte_units.specs.Reading.{least_reading}
-use Rattle.{run_law.specs.{control.Collections.point_fault, machines.Nodes.ripening, scenario.Devices.channel_of_link}, switch_ports.proofs.Sites.channel_same}
 use Rattle.{run_law.specs.device.States.is_off, std.proofs.Common.not}
-use Rattle.{run_law.specs.machines.Calls.{MayRipen, MayTake}, switch_ports.proofs.{CmLinks.{cm_linked, not_child}, Words.{subst, sym, true, ℕ, ℤ}}}
 use Rattle.switch_ports.proofs.Words.{◌∙◌, ◌≡◌, ◌≤ℤ◌, ◌⊎◌, Bool, DeviceId, LinkId, Moment, Network, Node, Option, Pcf, Port, Reason, Standing}
 use Rattle.switch_ports.proofs.Words.{StandsAs, State, Switch, Units, after_permanence, ap, arith, called, false, inl, inr, ints, is_cm, master_of, pos, refl}
 use Rattle.run_law.specs.declared.steps.Ripe.TheVariants as ripe

@@ -1,6 +1,6 @@
 use Rattle.device_rules.proofs.Takings.{is_whole}
+use Rattle.switch_ports.proofs.Dispatching.{alive, arrival_stands, point_same}
 use Rattle.run_law.specs.timed.Arrivals.{timed_arrival}
-use Rattle.switch_ports.proofs.Standings.{alive, arrival_stands, point_same}
 use Rattle.run_law.specs.machines.{Answers.arrival_at, Nodes.{arriving, last_taken_by}}
 use Rattle.switch_ports.proofs.Words.{◌∙◌, StandsAs, after_arrival, ap, called, subst, sym}
 use Rattle.switch_ports.proofs.machine.SwitchTellsKind.hear_heading.Goals as goal

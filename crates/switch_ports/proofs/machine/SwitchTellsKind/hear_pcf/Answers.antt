@@ -1,7 +1,7 @@
 use Rattle.run_law.specs.control.Arrivals.{frame_fault, frame_or_fault}
 use Rattle.run_law.specs.machines.{Answers.arrival_at, Nodes.{arriving, standpoint_at}}
 use Rattle.std.specs.Prelude.{Ok}
-use Rattle.switch_ports.proofs.Standings.{alive, called_stands, control_none, point_same}
+use Rattle.switch_ports.proofs.Dispatching.{alive, called_stands, control_none, point_same}
 use Rattle.switch_ports.proofs.Words.{◌∙◌, ◌≡◌, StandsAs, after_arrival, ap, called, subst, sym}
 use Rattle.switch_ports.proofs.machine.SwitchTellsKind.hear_pcf.Goals as goal
 

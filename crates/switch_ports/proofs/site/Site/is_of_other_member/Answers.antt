@@ -1,4 +1,4 @@
-use Rattle.switch_ports.{proofs.{Sites.member_same, Words.{◌∙◌, Port, ap}}, specs.Sites.is_other_member}
+use Rattle.switch_ports.{proofs.{Dispatching.member_same, Words.{◌∙◌, Port, ap}}, specs.Sites.is_other_member}
 use Rattle.switch_ports.proofs.site.Site.is_of_other_member.Goals as goal
 
 pub returns : goal.returns

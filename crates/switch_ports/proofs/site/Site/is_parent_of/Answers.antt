@@ -1,4 +1,4 @@
-use Rattle.switch_ports.{proofs.{Sites.parent_same, Words.{◌∙◌, Port, ap}}, specs.Sites.is_below}
+use Rattle.switch_ports.{proofs.{Dispatching.parent_same, Words.{◌∙◌, Port, ap}}, specs.Sites.is_below}
 use Rattle.switch_ports.proofs.site.Site.is_parent_of.Goals as goal
 
 pub returns : goal.returns

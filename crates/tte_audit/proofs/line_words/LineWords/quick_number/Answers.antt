@@ -1,4 +1,5 @@
-use Rattle.{std.proofs.lemmas.List.nil_from_length, tte_audit.proofs.{Decimals.{number_alone, number_first}, Words.{◌<◌, ◌^◌, ◌∙◌, ◌∷◌, ◌≡◌, [], arith, rules}}}
+use Rattle.std.proofs.lemmas.List.{nil_from_length}
+use Rattle.tte_audit.proofs.{Telling.{number_alone, number_first}, Words.{◌<◌, ◌^◌, ◌∙◌, ◌∷◌, ◌≡◌, [], arith, rules}}
 use Rattle.trace_text.specs.Steps.{space, words}
 use Rattle.tte_audit.proofs.line_words.LineWords.quick_number.Goals as goal
 

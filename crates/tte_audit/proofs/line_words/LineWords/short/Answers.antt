@@ -1,4 +1,4 @@
-use Rattle.tte_audit.proofs.{Decimals.first_number, Words.arith}
+use Rattle.tte_audit.proofs.{Telling.first_number, Words.arith}
 use Rattle.tte_audit.proofs.line_words.LineWords.short.Goals as goal
 
 pub returns-then-number-from-clause-is : goal.returns-then-number-from-clause-is

@@ -1,7 +1,7 @@
 use Rattle.{report_text.specs.Ranges.IsNoteOf, run_law.specs.declared.note.NoteBody.TheVariants.Event}
 use Rattle.tte_audit.proofs.Words.{◌∙◌, ◌≡◌, Follows, MayCome, Note, arith, events_of, false, is_some, refl, subst, sym, with_event}
 use Rattle.tte_audit.proofs.{RightEvents.{match_false, match_true}}
-use Rattle.tte_audit.proofs.{Telling.{fault_stays, few, followed, goes_on, stops}}
+use Rattle.tte_audit.proofs.Telling.{fault_stays, few, followed, goes_on, stops}
 use Rattle.tte_audit.proofs.passes.RecordsTold.take.Goals as goal
 
 pub returns-then-is_some : goal.returns-then-is_some

@@ -1,5 +1,5 @@
 use Rattle.{std.proofs.Common.{◌∙◌, Err, ap, subst}, tte_forms.specs.{Answering.Gives, Putting.shown_by}}
-use Rattle.tte_observers.{proofs.captures_lemmas.Packets.{answers-long, answers-read}}
+use Rattle.tte_observers.proofs.captures_lemmas.Packets.{answers-long, answers-read}
 use Rattle.tte_observers.{specs.captures.{Answer.opened_answer, pcap.Reading.opened}}
 use Rattle.tte_observers.proofs.captures.capturing.capture_file.Goals as goal
 

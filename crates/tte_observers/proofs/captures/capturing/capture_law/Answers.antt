@@ -1,4 +1,4 @@
-use Rattle.tte_observers.proofs.captures_lemmas.Laws.{shows_octets, shows_packets}
+use Rattle.tte_observers.proofs.captures_lemmas.Packets.{shows_octets, shows_packets}
 use Rattle.tte_observers.proofs.captures.capturing.capture_law.Goals as goal
 
 pub returns-clause-octets : goal.returns-clause-octets

@@ -1,7 +1,8 @@
 use Rattle.{std.proofs.lemmas.Int.ints, tte_forms.specs.{Answering.{Gives, line_answer}, Putting.shown_by}, tte_traces.specs.Ending.RunEnds}
 use Rattle.tte_observers.{proofs.stamps_lemmas.{Stamped.{first_stamps, stamps_along}, Words.{unsigned_abs, ℕ}}}
 use Rattle.tte_observers.{specs.stamps.Answer.granule_line}
-use Rattle.tte_observers.{proofs.stamps_lemmas.Ends.{less_of, no_granule, not_less_of, not_read, stamp_status}, specs.declared.stamps.stamper.Stamper.Stamper}
+use Rattle.tte_observers.{proofs.stamps_lemmas.LineStamps.{less_of, no_granule, not_less_of, not_read, stamp_status}}
+use Rattle.tte_observers.{specs.declared.stamps.stamper.Stamper.Stamper}
 use Rattle.tte_observers.proofs.stamps_lemmas.Words.{◌≡◌, GranuleRefused, IsTraceAnswer, ap, arith, inl, inr, least_granule, refl, stamp_lines, subst, told_by}
 use Rattle.tte_observers.proofs.stamps.stamping.stamp_network.Goals as goal
 

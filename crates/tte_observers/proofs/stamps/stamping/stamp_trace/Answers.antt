@@ -1,7 +1,8 @@
 use Rattle.tte_forms.{proofs.networks.Answers.{files_accepted, files_refused}, specs.{Putting.shown_by, networks.Accepting.refusal_lines}}
-use Rattle.tte_observers.proofs.stamps_lemmas.{Ends.{general_of, little_of, stops_of}, Safely.stamp_safe, Words.{IsStampAnswer, amount, inl, inr, refl}}
-use Rattle.tte_observers.specs.stamps.Safely.{IsStampRefusal, IsStampedRun, IsStampedToFault}
+use Rattle.tte_observers.proofs.stamps_lemmas.{LineStamps.{general_of, little_of, stamp_safe, stops_of}}
+use Rattle.tte_observers.proofs.stamps_lemmas.{Words.{IsStampAnswer, amount, inl, inr, refl}}
 use Rattle.tte_traces.proofs.Runs.{safely_accepted, safely_refused}
+use Rattle.tte_observers.specs.stamps.Safely.{IsStampRefusal, IsStampedRun, IsStampedToFault}
 use Rattle.tte_observers.proofs.stamps.stamping.stamp_trace.Goals as goal
 
 pub returns-in-Ok-clause-general : goal.returns-in-Ok-clause-general

@@ -1,4 +1,4 @@
-use Rattle.tte_observers.proofs.votes_lemmas.{Ends.vl_read, Words.sym}
+use Rattle.tte_observers.proofs.votes_lemmas.{VoteLines.vl_read, Words.sym}
 use Rattle.tte_observers.proofs.votes.naming.may_vote.Goals as goal
 
 pub returns : goal.returns

@@ -1,4 +1,4 @@
-use Rattle.tte_observers.proofs.votes_lemmas.{VoteLines.{line_of, line_text, put_one}}
+use Rattle.tte_observers.proofs.votes_lemmas.VoteLines.{line_of, line_text, put_one}
 use Rattle.tte_observers.proofs.votes_lemmas.{Words.{◌∙◌, ap, arith, length, lines_at, sym}}
 use Rattle.tte_observers.proofs.votes.putting.put_vote.Goals as goal
 

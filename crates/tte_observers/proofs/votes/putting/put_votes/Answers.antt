@@ -1,4 +1,4 @@
-use Rattle.tte_observers.proofs.votes_lemmas.{VoteLines.{next_within, puts_all, puts_fail, puts_first, puts_next}}
+use Rattle.tte_observers.proofs.votes_lemmas.VoteLines.{next_within, puts_all, puts_fail, puts_first, puts_next}
 use Rattle.tte_observers.proofs.votes_lemmas.{Words.{◌+◌, ◌∙◌, arith, key_of, refl, shown_by}}
 use Rattle.tte_observers.proofs.votes_lemmas.{ballots_lemmas.Ballots.held_from_first}
 use Rattle.tte_observers.proofs.votes.putting.put_votes.Goals as goal

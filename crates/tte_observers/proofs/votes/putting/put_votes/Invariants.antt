@@ -1,4 +1,4 @@
-use Rattle.tte_observers.proofs.votes_lemmas.{VoteLines.lines_to}
+use Rattle.tte_observers.proofs.votes_lemmas.VoteLines.{lines_to}
 use Rattle.tte_observers.proofs.votes_lemmas.Words.{◌^◌, ◌≡◌, ◌≤◌, HoldsVotes, List, PutsLines, happenings, shown_by, ℕ}
 use Rattle.tte_observers.specs.{declared.votes.law.voters.Voters.{Voters as VotersValue}, votes.ballots.Keeping.{HoldsFrom, kept_count}}
 use Rattle.run_law.specs.declared.note.Note.{Note as NoteValue}

@@ -1,5 +1,5 @@
 use Rattle.{tte_forms.specs.Faults.PutFailed, tte_traces.specs.{Taking.GaveEvents, declared.fault.TraceFault.TraceFault}, world_drive.specs.Observing.FailsBy}
-use Rattle.tte_observers.proofs.votes_lemmas.Along.{IsOwn, ends_all, ends_fault, vote_sees, vote_stops, votes_along}
+use Rattle.tte_observers.proofs.votes_lemmas.VoteLines.{IsOwn, ends_all, ends_fault, vote_sees, vote_stops, votes_along}
 use Rattle.tte_traces.proofs.{Taken.gave_none}
 use Rattle.tte_traces.proofs.Ends.{IsStatusOf, ends_for, ends_memory, ends_read, ends_unpassed, ends_write}
 use Rattle.tte_traces.proofs.Ends.{memory_cause}

@@ -1,5 +1,5 @@
 use Rattle.{tte_forms.specs.Answering.line_answer, tte_observers.specs.votes.Answer.{IsFirstUnknown, name_line, the_names, vote_refused}}
-use Rattle.tte_observers.proofs.votes_lemmas.Ends.{named_there, not_read, of_run, vote_status}
+use Rattle.tte_observers.proofs.votes_lemmas.VoteLines.{named_there, not_read, of_run, vote_status}
 use Rattle.tte_observers.proofs.votes_lemmas.Words.{AreNamed, MayThey, NameRefused, VoteRefused, false, inl, inr, refl, subst, true}
 use Rattle.tte_observers.proofs.votes.voting.vote_network.Goals as goal
 

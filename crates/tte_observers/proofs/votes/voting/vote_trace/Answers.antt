@@ -1,7 +1,8 @@
 use Rattle.{tte_forms.proofs.networks.Answers.{files_accepted, files_refused}, tte_observers.specs.votes.Safely.{IsNoVote, IsVotedRun, IsVotedToFault}}
 use Rattle.tte_forms.specs.networks.Accepting.{refusal_lines}
+use Rattle.tte_observers.proofs.votes_lemmas.{Safely.vote_safe, VoteLines.{general_of, little_of, stops_of}}
+use Rattle.tte_observers.proofs.votes_lemmas.{Words.{IsVoteAnswer, inl, inr, refl, shown_by}}
 use Rattle.tte_traces.proofs.Runs.{safely_accepted, safely_refused}
-use Rattle.tte_observers.proofs.votes_lemmas.{Ends.{general_of, little_of, stops_of}, Safely.vote_safe, Words.{IsVoteAnswer, inl, inr, refl, shown_by}}
 use Rattle.tte_observers.specs.votes.Answer.{the_names}
 use Rattle.tte_observers.proofs.votes.voting.vote_trace.Goals as goal
 

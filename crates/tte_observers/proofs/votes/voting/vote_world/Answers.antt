@@ -1,4 +1,4 @@
-use Rattle.tte_observers.proofs.votes_lemmas.{Along.IsOwn, Words.{no_lines, refl}}
+use Rattle.tte_observers.proofs.votes_lemmas.{VoteLines.IsOwn, Words.{no_lines, refl}}
 use Rattle.tte_traces.proofs.Ends.{no_memory}
 use Rattle.tte_observers.proofs.votes.voting.vote_world.Goals as goal
 

@@ -1,5 +1,6 @@
 use Rattle.{run_law.specs.declared.note.Note.Note, std.proofs.Common.{◌-◌, ◌∙◌, ◌≤◌, List, ap, length, subst, sym, ℕ}, std.specs.Prelude.drop}
-use Rattle.tte_reports.{proofs.Placed.{none_read, note_read, place_read}, specs.{Places.ArePlaces, Reports.{AreLeft, AreLines}}}
+use Rattle.tte_reports.{proofs.Reports.{none_read, note_read, place_read}}
+use Rattle.tte_reports.{specs.{Places.ArePlaces, Reports.{AreLeft, AreLines}}}
 use Rattle.tte_reports.proofs.reading.AuditedReport.record.Goals as goal
 
 pub split_at-requires : goal.split_at-requires

@@ -1,4 +1,4 @@
-use Rattle.tte_traces.proofs.Reported.{PutsNote, further, own_note, report_goes}
+use Rattle.tte_traces.proofs.Runs.{PutsNote, further, own_note, report_goes}
 use Rattle.tte_traces.proofs.report.ReportObserver.event.Goals as goal
 
 pub put_event-requires-clause-of_network : goal.put_event-requires-clause-of_network

@@ -1,4 +1,5 @@
-use Rattle.tte_traces.proofs.{Reported.{PutsNote, further_err, further_ok, own_note, report_fails, report_more}, Words.{Err, Ok}}
+use Rattle.tte_traces.proofs.{Runs.{PutsNote, further_err, further_ok, own_note, report_fails, report_more}}
+use Rattle.tte_traces.proofs.{Words.{Err, Ok}}
 use Rattle.tte_traces.proofs.report.ReportObserver.record.Goals as goal
 
 pub put_note-requires-clause-of_network : goal.put_note-requires-clause-of_network

@@ -1,6 +1,6 @@
 use Rattle.std.proofs.{Common.{◌≡◌, None, Some, ap, length, refl, subst, sym}, lemmas.Option.{slice_get_past, slice_get_read}}
 use Rattle.{std.specs.{List.slice_get, Option.option_and_then, Prelude.MatchOption}}
-use Rattle.world_state.{proofs.Queues.{first_of_queue, no_queue}}
+use Rattle.world_state.proofs.Queues.{first_of_queue, no_queue}
 use Rattle.world_state.{specs.Frames.{IsFirstAt, NoneAt, first_frame, first_of, frames_in}}
 use Rattle.world_state.proofs.frames.Frames.first.Goals as goal
 

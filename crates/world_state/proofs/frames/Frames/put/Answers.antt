@@ -1,6 +1,6 @@
 use Rattle.std.proofs.{Common.{◌∷◌, inl, inr, length, refl, slice_get, subst, sym}, lemmas.List.Sorted.{IsPermutation-map, IsPermutation-sym}}
 use Rattle.std.{proofs.lemmas.Option.slice_get_read}
-use Rattle.world_state.{proofs.{Queues.{content_of, has_room, one_more_in, set_queued}, queue_lemmas.Slots.in_permuted}}
+use Rattle.world_state.proofs.{Queues.{content_of, has_room, one_more_in, set_queued}, queue_lemmas.Slots.in_permuted}
 use Rattle.world_state.{specs.{Frames.IsQueued, declared.{contents.Waits.Waits, queue.Entry.Entry}}}
 use Rattle.world_state.proofs.frames.Frames.put.Goals as goal
 

@@ -1,5 +1,5 @@
 use Rattle.std.proofs.lemmas.Fn.{always_returns_same}
-use Rattle.audit_devices.{proofs.Kept.kept_front}
+use Rattle.audit_devices.proofs.Kept.{kept_front}
 use Rattle.audit_devices.specs.{declared.stretches.kept.Entry.Entry}
 use Rattle.audit_devices.specs.{stretches.Keeping.{StandsFor, Stretches, entry_before}}
 use Rattle.compression.proofs.Middles.{slice_get-last}

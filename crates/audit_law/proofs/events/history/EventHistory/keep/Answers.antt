@@ -1,6 +1,6 @@
 use Rattle.std.proofs.Common.{arith, refl, sym}
 use Rattle.audit_law.proofs.events_lemmas.{Histories.{devices_ready, nothing_set}, Keeping.soon}
-use Rattle.{run_law.proofs.scenario.Rated.slow_what}
+use Rattle.run_law.proofs.scenario.Devices.{slow_what}
 use Rattle.net_plan.specs.declared.event.What.TheVariants as events
 use Rattle.audit_law.proofs.events.history.EventHistory.keep.Goals as goal
 

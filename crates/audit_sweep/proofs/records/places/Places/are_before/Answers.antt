@@ -1,7 +1,8 @@
 use Rattle.{audit_sweep.proofs.records_lemmas.AscendingPlaces.{all_by_last, in_map, last_in, none_last, of_map}, run_law.specs.records.Order.{IsBefore, IsIn}}
 use Rattle.compression.proofs.Middles.{slice_get-last}
 use Rattle.run_law.specs.records.Ranks.{place_of}
-use Rattle.{run_law.proofs.records.Order.{before_is, is_there}, std.{proofs.Common.{◌∙◌, ◌≡◌, List, None, Some, ap, refl, subst, sym, ℕ}, specs.List.last_or}}
+use Rattle.std.{proofs.Common.{◌∙◌, ◌≡◌, List, None, Some, ap, refl, subst, sym, ℕ}, specs.List.last_or}
+use Rattle.run_law.proofs.records.Order.{before_is, is_there}
 use Rattle.audit_sweep.proofs.records.places.Places.are_before.Goals as goal
 
 pub returns-in-Some : goal.returns-in-Some

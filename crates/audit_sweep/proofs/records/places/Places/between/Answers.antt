@@ -1,4 +1,5 @@
-use Rattle.{audit_sweep.proofs.records_lemmas.AscendingPlaces.in_take, run_law.{proofs.records.Order.in_drop, specs.records.Order.IsIn}}
+use Rattle.audit_sweep.proofs.records_lemmas.AscendingPlaces.{in_take}
+use Rattle.run_law.{proofs.records.Order.in_drop, specs.records.Order.IsIn}
 use Rattle.std.proofs.Common.{◌∙◌, List, subst, ℕ}
 use Rattle.audit_sweep.proofs.records.places.Places.between.Goals as goal
 

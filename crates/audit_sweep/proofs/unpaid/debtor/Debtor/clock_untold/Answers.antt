@@ -1,4 +1,4 @@
-use Rattle.audit_sweep.proofs.unpaid_lemmas.{ClockDebts.below_next, Words.{DeviceId, HasClockAt, refl}}
+use Rattle.audit_sweep.proofs.unpaid_lemmas.{Debts.below_next, Words.{DeviceId, HasClockAt, refl}}
 use Rattle.audit_sweep.proofs.unpaid.debtor.Debtor.clock_untold.Goals as goal
 
 pub devices-preserved : goal.devices-preserved

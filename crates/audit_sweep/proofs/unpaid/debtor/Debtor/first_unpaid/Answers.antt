@@ -1,5 +1,5 @@
-use Rattle.audit_law.proofs.law_lemmas.FirstUnpaid.{IsOfFirst, first_of_next, first_of_none}
-use Rattle.audit_sweep.proofs.unpaid_lemmas.Brought.{first_of_records}
+use Rattle.audit_law.proofs.law_lemmas.Owed.{IsOfFirst, first_of_next, first_of_none}
+use Rattle.audit_sweep.proofs.unpaid_lemmas.Debts.{first_of_records}
 use Rattle.audit_sweep.proofs.unpaid_lemmas.Words.{◌+◌, IsRecordDebtOf, Option, TellsFirst, arith, scenario_of, subst, sym, ℕ}
 use Rattle.audit_sweep.proofs.unpaid.debtor.Debtor.first_unpaid.Goals as goal
 

@@ -1,4 +1,4 @@
-use Rattle.audit_law.proofs.law_lemmas.FirstUnpaid.{IsOfFirst}
+use Rattle.audit_law.proofs.law_lemmas.Owed.{IsOfFirst}
 use Rattle.audit_sweep.proofs.unpaid_lemmas.Words.{◌+◌, AreKnown, Event, Happening, IsRecordDebtOf, List, TellsFirst, scenario_of, ℕ}
 use Rattle.audit_sweep.proofs.unpaid.debtor.Debtor.first_unpaid.Given as goal
 

@@ -1,4 +1,4 @@
-use Rattle.audit_sweep.proofs.unpaid_lemmas.{ClockDebts.{all_told, none_owed, one_untold}, Words.scenario_of}
+use Rattle.audit_sweep.proofs.unpaid_lemmas.{Debts.{all_told, none_owed, one_untold}, Words.scenario_of}
 use Rattle.audit_sweep.proofs.unpaid.debtor.Debtor.first_unpaid_clock.Goals as goal
 
 pub returns-then-self-end : goal.returns-then-self-end

@@ -1,4 +1,5 @@
-use Rattle.audit_sweep.proofs.unpaid_lemmas.{PaidPermanences.{none_waits, waits_until}, Words.{ap, device_named, numbered_in, scenario_of}}
+use Rattle.audit_sweep.proofs.unpaid_lemmas.{Debts.{none_waits, waits_until}}
+use Rattle.audit_sweep.proofs.unpaid_lemmas.{Words.{ap, device_named, numbered_in, scenario_of}}
 use Rattle.audit_sweep.proofs.unpaid.debtor.Debtor.permanence.Goals as goal
 
 pub returns-in-Some : goal.returns-in-Some

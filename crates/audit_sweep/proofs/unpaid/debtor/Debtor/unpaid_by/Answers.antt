@@ -1,4 +1,5 @@
-use Rattle.{audit_law.specs.law.FirstDebts.earlier_of, audit_sweep.proofs.unpaid_lemmas.Brought.first_of_record}
+use Rattle.audit_law.specs.law.FirstDebts.{earlier_of}
+use Rattle.audit_sweep.proofs.unpaid_lemmas.Debts.{first_of_record}
 use Rattle.audit_sweep.proofs.unpaid_lemmas.Words.{◌∙◌, ◌≡◌, IsRecordDebtOf, Option, TellsFirst, ap, scenario_of, subst, sym, ℕ}
 use Rattle.audit_sweep.proofs.unpaid.debtor.Debtor.unpaid_by.Goals as goal
 

@@ -1,5 +1,6 @@
-use Rattle.audit_law.proofs.law_lemmas.FirstUnpaid.{IsOfFirst, first_of_more, first_of_next, first_of_one}
-use Rattle.audit_sweep.{proofs.unpaid_lemmas.DepartureDebts.{IsLeavingAt, leaving_within, none_leaves}, specs.unpaid.Leavings.may_give}
+use Rattle.audit_law.proofs.law_lemmas.Owed.{IsOfFirst, first_of_more, first_of_next, first_of_one}
+use Rattle.audit_sweep.{proofs.unpaid_lemmas.Debts.{IsLeavingAt, leaving_within, none_leaves}}
+use Rattle.audit_sweep.{specs.unpaid.Leavings.may_give}
 use Rattle.audit_sweep.proofs.unpaid_lemmas.Words.{◌+◌, ◌∙◌, IsLeavingDebtOf, KeptRecord, Option, TellsFirst, ap, arith, both_ways, length, refl}
 use Rattle.audit_sweep.proofs.unpaid_lemmas.Words.{scenario_of, subst, sym, ℕ}
 use Rattle.audit_law.specs.law.Owed as debts

@@ -1,5 +1,5 @@
-use Rattle.audit_law.proofs.law_lemmas.FirstUnpaid.{IsOfFirst}
-use Rattle.audit_sweep.proofs.unpaid_lemmas.DepartureDebts.{IsLeavingAt}
+use Rattle.audit_law.proofs.law_lemmas.Owed.{IsOfFirst}
+use Rattle.audit_sweep.proofs.unpaid_lemmas.Debts.{IsLeavingAt}
 use Rattle.audit_sweep.proofs.unpaid_lemmas.Words.{◌≡◌, AreKnown, Event, Happening, List, Some, TellsFirst, numbered, scenario_of}
 use Rattle.audit_sweep.specs.records.Keeping.{record_of}
 use Rattle.audit_sweep.proofs.unpaid.debtor.Debtor.unpaid_departure.Given as goal

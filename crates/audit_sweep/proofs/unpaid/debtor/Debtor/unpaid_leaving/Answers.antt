@@ -1,5 +1,5 @@
 use Rattle.{audit_law.specs.law.Departures.leaves_at, run_law.specs.control.Leaving.{Departs, departure}}
-use Rattle.audit_sweep.proofs.unpaid_lemmas.DepartureDebts.{departure_paid, giver_there, gives_named, owed_departs}
+use Rattle.audit_sweep.proofs.unpaid_lemmas.Debts.{departure_paid, giver_there, gives_named, owed_departs}
 use Rattle.audit_sweep.proofs.unpaid_lemmas.Words.{arith, both_ways, numbered_in, scenario_of, subst, sym, time_of}
 use Rattle.net_plan.specs.Belonging.{HasDevice}
 use Rattle.audit_sweep.proofs.unpaid.debtor.Debtor.unpaid_leaving.Goals as goal

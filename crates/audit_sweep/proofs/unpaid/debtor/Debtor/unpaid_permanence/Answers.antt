@@ -1,4 +1,4 @@
-use Rattle.audit_sweep.proofs.unpaid_lemmas.{PaidPermanences.{permanence_paid, permanence_unpaid}, Words.scenario_of}
+use Rattle.audit_sweep.proofs.unpaid_lemmas.{Debts.{permanence_paid, permanence_unpaid}, Words.scenario_of}
 use Rattle.audit_sweep.proofs.unpaid.debtor.Debtor.unpaid_permanence.Goals as goal
 
 pub returns-then-of : goal.returns-then-of

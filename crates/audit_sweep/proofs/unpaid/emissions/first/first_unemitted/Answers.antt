@@ -1,4 +1,4 @@
-use Rattle.audit_law.{proofs.law_lemmas.FirstUnpaid.{IsOfFirst, first_of_more, first_of_next, first_of_none}}
+use Rattle.audit_law.proofs.law_lemmas.Owed.{IsOfFirst, first_of_more, first_of_next, first_of_none}
 use Rattle.audit_law.{specs.law.FirstDebts.TellsFirst}
 use Rattle.audit_sweep.proofs.unpaid_lemmas.emissions_lemmas.FirstUnpaid.{emission_within, first_emission}
 use Rattle.{audit_law.specs.events.Readings.scenario_under, audit_sweep.specs.unpaid.Sorts.{IsEmissionDebt, IsEmissionDebtOf}}

@@ -1,4 +1,4 @@
-use Rattle.audit_law.{proofs.law_lemmas.FirstUnpaid.IsOfFirst}
+use Rattle.audit_law.proofs.law_lemmas.Owed.{IsOfFirst}
 use Rattle.audit_law.{specs.{events.Readings.scenario_under, law.{DueRecords.IsDue, FirstDebts.TellsFirst}}}
 use Rattle.{audit_sweep.specs.unpaid.{Sorts.IsEmissionDebtOf, emissions.Kept.IsKept}, net_plan.specs.declared.event.Event.Event}
 use Rattle.{run_law.specs.{records.{Happenings.Happening, Ranks.place_of}, runs.Runs.IsFounded}, std.proofs.Common.{List, ℕ}}

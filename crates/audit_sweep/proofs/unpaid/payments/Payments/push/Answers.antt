@@ -1,5 +1,6 @@
 use Rattle.audit_sweep.proofs.unpaid.payments.Payments.push.Goals.{then-cause-eq0-via-else-cause-eq0+then-count-cause, then-cause-eq0-via-then-cause-eq0}
-use Rattle.{audit_sweep.proofs.unpaid_lemmas.{Marks.{more_marked, more_unmarked}, Words.{slice_get, subst, sym}}, tte_units.proofs.general_lemmas.Lists.got_at}
+use Rattle.audit_sweep.proofs.unpaid_lemmas.{Debts.{more_marked, more_unmarked}, Words.{slice_get, subst, sym}}
+use Rattle.tte_units.proofs.general_lemmas.Lists.{got_at}
 use Rattle.audit_sweep.proofs.unpaid_lemmas.Words.{◌+◌, ◌<◌, ◌∙◌, ◌∷◌, ◌≡◌, ◌⊎◌, List, Paid, Some, [], ap, arith, cause_of, inl, inr, length, paid_by}
 use Rattle.{audit_sweep.specs.unpaid.Payments.{ArePayments, both, nothing}, std.proofs.Common.{◌++◌, ◌-◌, length-append, slice_set}}
 use Rattle.audit_sweep.proofs.unpaid.payments.Payments.push.Goals as goal

@@ -1,4 +1,4 @@
-use Rattle.audit_law.{proofs.law_lemmas.FirstUnpaid.IsOfFirst, specs.law.FirstDebts.TellsFirst}
+use Rattle.audit_law.{proofs.law_lemmas.Owed.IsOfFirst, specs.law.FirstDebts.TellsFirst}
 use Rattle.audit_sweep.specs.unpaid.Sorts.{IsPointDebtOf}
 use Rattle.audit_sweep.proofs.unpaid_lemmas.points_lemmas.Words.{Event, Happening, IsDue, IsFounded, IsKept, List, place_of, scenario_under, ℕ}
 use Rattle.audit_sweep.proofs.unpaid.points.correcting.first_untold.Given as goal

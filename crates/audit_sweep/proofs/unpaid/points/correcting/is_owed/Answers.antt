@@ -1,4 +1,4 @@
-use Rattle.audit_sweep.proofs.unpaid_lemmas.points_lemmas.{Telling.{not_alone, not_corrected, not_outnumbered, owed_so}}
+use Rattle.audit_sweep.proofs.unpaid_lemmas.points_lemmas.Telling.{not_alone, not_corrected, not_outnumbered, owed_so}
 use Rattle.audit_sweep.proofs.unpaid_lemmas.points_lemmas.{Words.{ap, inl, inr, refl}}
 use Rattle.device_rules.specs.Answers.{verdict_as}
 use Rattle.audit_sweep.proofs.unpaid.points.correcting.is_owed.Goals as goal

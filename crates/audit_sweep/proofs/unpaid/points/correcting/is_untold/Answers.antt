@@ -1,6 +1,7 @@
 use Rattle.audit_devices.specs.clocks.{Moments.{IsMoment, StandsAt}, Points.IsHeard}
 use Rattle.run_law.proofs.law.FirstDeliveries.{same_earlier, split}
-use Rattle.audit_sweep.proofs.unpaid_lemmas.points_lemmas.{Fronts.{by_front, heard_front}, Words.{scenario_under, subst, sym, true}}
+use Rattle.audit_sweep.proofs.unpaid_lemmas.points_lemmas.{Telling.{by_front, heard_front}}
+use Rattle.audit_sweep.proofs.unpaid_lemmas.points_lemmas.{Words.{scenario_under, subst, sym, true}}
 use Rattle.audit_sweep.proofs.unpaid_lemmas.points_lemmas.Words.{◌∙◌, ◌∷◌, IsDue, OwesAt, Shows, [], false, false≢true, place_of, refl}
 use Rattle.std.proofs.lemmas.Bool.{not-false, not-true}
 use Rattle.audit_sweep.proofs.unpaid.points.correcting.is_untold.Goals as goal

@@ -1,4 +1,4 @@
-use Rattle.audit_law.{proofs.law_lemmas.FirstUnpaid.IsOfFirst, specs.law.FirstDebts.TellsFirst}
+use Rattle.audit_law.{proofs.law_lemmas.Owed.IsOfFirst, specs.law.FirstDebts.TellsFirst}
 use Rattle.audit_sweep.specs.unpaid.Sorts.{IsSendingDebtOf}
 use Rattle.audit_sweep.proofs.unpaid_lemmas.points_lemmas.Words.{Event, Happening, IsKept, List, scenario_under, ℕ}
 use Rattle.audit_sweep.proofs.unpaid.points.sending.first_unsent.Given as goal

@@ -1,4 +1,4 @@
-use Rattle.lens.{proofs.draw_lemmas.{Keeping.own_more, Marking.{clocked_more, glanced_more}}}
+use Rattle.lens.proofs.draw_lemmas.{Keeping.own_more, Marking.{clocked_more, glanced_more}}
 use Rattle.lens.{specs.draw.Keeping.{AreOwn, own_flag}}
 use Rattle.{lens_svg.specs.{Clocks.clocks_with, declared.glance.Glance.Glance}, std.proofs.Common.{◌++◌, ◌∙◌, ◌∷◌, ◌≡◌, Bool, [], ap, subst, sym}}
 use Rattle.lens.proofs.draw.flags.GlancesRecordTaker.take.Goals as goal

@@ -1,5 +1,5 @@
-use Rattle.precision_law.proofs.traffic_lemmas.existence_lemmas.worked_lemmas.RoughDay
-use RoughDay.{rough_day_lawful, rough_day_under}
+use Rattle.precision_law.proofs.traffic_lemmas.existence_lemmas.worked_lemmas.WorkedNetwork
+use WorkedNetwork.{rough_day_lawful, rough_day_under}
 use Rattle.precision_law.proofs.traffic.existence.worked.rough_day_is_lawful.Goals as goal
 
 pub returns-clause-under : goal.returns-clause-under

@@ -1,5 +1,5 @@
-use Rattle.precision_law.proofs.traffic_lemmas.existence_lemmas.worked_lemmas.{Accepted.worked_keeps_rules}
-use Rattle.precision_law.proofs.traffic_lemmas.existence_lemmas.worked_lemmas.{RoughDay.worked_in_range}
+use Rattle.precision_law.proofs.traffic_lemmas.existence_lemmas.worked_lemmas.WorkedNetwork
+use WorkedNetwork.{worked_in_range, worked_keeps_rules}
 use Rattle.precision_law.proofs.traffic.existence.worked.worked_is_accepted.Goals as goal
 
 pub returns-clause-range : goal.returns-clause-range

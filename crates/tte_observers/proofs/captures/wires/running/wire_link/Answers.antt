@@ -1,7 +1,7 @@
 use Rattle.tte_observers.proofs.captures_lemmas.wires_lemmas.Words.{GivesOne, IsCapture, IsHeaded, for_all, for_more, inr, shown_by}
 use Rattle.tte_forms.specs.declared.status.Status.TheVariants.{WriteFault}
-use Rattle.tte_observers.proofs.captures_lemmas.wires_lemmas.Along
-use Along.{head_failed, head_put, headed_failed, headed_given, little_headed, stops_headed}
+use Rattle.tte_observers.proofs.captures_lemmas.wires_lemmas.Along.{head_failed, head_put, headed_failed, headed_given}
+use Rattle.tte_observers.proofs.captures_lemmas.wires_lemmas.Along.{little_headed, stops_headed}
 use Rattle.tte_observers.proofs.captures.wires.running.wire_link.Goals as goal
 
 pub returns-in-Ok-clause-general : goal.returns-in-Ok-clause-general

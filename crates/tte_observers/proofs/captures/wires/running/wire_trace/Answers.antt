@@ -1,6 +1,6 @@
 use Rattle.tte_forms.proofs.networks.Answers.{files_accepted, files_refused}
+use Rattle.tte_observers.proofs.captures_lemmas.wires_lemmas.{Along.wire_safe, Words.{inl, inr, refl, shown_by}}
 use Rattle.tte_traces.proofs.Runs.{safely_accepted, safely_refused}
-use Rattle.tte_observers.proofs.captures_lemmas.wires_lemmas.{Safely.wire_safe, Words.{inl, inr, refl, shown_by}}
 use Rattle.tte_observers.specs.captures.wires.{Answer.{IsWireAnswer, silent_lines}, Safely.{IsCaptureToFault, IsSilent, IsWholeCapture}}
 use Rattle.tte_observers.proofs.captures.wires.running.wire_trace.Goals as goal
 

@@ -1,4 +1,4 @@
-use Rattle.tte_observers.proofs.votes_lemmas.{VoteLines.number_given}
+use Rattle.tte_observers.proofs.votes_lemmas.VoteLines.{number_given}
 use Rattle.tte_observers.proofs.votes_lemmas.{Words.{◌++◌, ◌+◌, ◌∷◌, ◌≡◌, HoldsVotes, Note, [], length, subst, sym}}
 use Rattle.tte_observers.proofs.votes.voter.VoterObserver.record.Goals as goal
 

@@ -1,5 +1,5 @@
 use Rattle.audit_devices.proofs.Kept.{in_index}
-use Rattle.audit_law.{proofs.law_lemmas.FirstUnpaid.{IsOfFirst, first_of_more, first_of_next, first_of_none}}
+use Rattle.audit_law.proofs.law_lemmas.Owed.{IsOfFirst, first_of_more, first_of_next, first_of_none}
 use Rattle.audit_law.{specs.law.FirstDebts.TellsFirst}
 use Rattle.audit_sweep.proofs.{records_lemmas.dispatches_lemmas.Dispatches.no_row}
 use Rattle.audit_sweep.proofs.{unpaid_lemmas.dispatches_lemmas.RowDebts.{IsByRow, all_rows}}

@@ -1,5 +1,5 @@
 use Rattle.std.proofs.Common.{List}
-use Rattle.audit_law.{proofs.law_lemmas.FirstUnpaid.IsOfFirst, specs.law.FirstDebts.TellsFirst}
+use Rattle.audit_law.{proofs.law_lemmas.Owed.IsOfFirst, specs.law.FirstDebts.TellsFirst}
 use Rattle.audit_sweep.{proofs.unpaid_lemmas.dispatches_lemmas.RowDebts.IsByRow}
 use Rattle.audit_sweep.{specs.unpaid.dispatches.Debtors.{AreKnown, scenario_of}}
 use Rattle.{net_plan.specs.declared.event.Event.Event, run_law.specs.records.Happenings.Happening}

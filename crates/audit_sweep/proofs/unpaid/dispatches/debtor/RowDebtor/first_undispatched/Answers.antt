@@ -1,4 +1,4 @@
-use Rattle.audit_law.{proofs.law_lemmas.FirstUnpaid.{IsOfFirst, first_of_more, first_of_next, first_of_none}}
+use Rattle.audit_law.proofs.law_lemmas.Owed.{IsOfFirst, first_of_more, first_of_next, first_of_none}
 use Rattle.audit_law.{specs.law.FirstDebts.TellsFirst}
 use Rattle.audit_sweep.proofs.unpaid_lemmas.dispatches_lemmas.RowDebts.{link_within}
 use Rattle.audit_sweep.specs.unpaid.{Sorts.{IsDispatchDebt, IsDispatchDebtOn}, dispatches.Debtors.scenario_of}

@@ -1,4 +1,4 @@
-use Rattle.audit_law.{proofs.law_lemmas.FirstUnpaid.IsOfFirst, specs.law.FirstDebts.TellsFirst}
+use Rattle.audit_law.{proofs.law_lemmas.Owed.IsOfFirst, specs.law.FirstDebts.TellsFirst}
 use Rattle.audit_sweep.specs.unpaid.{Sorts.IsDispatchDebtOn, dispatches.Debtors.{AreKnown, scenario_of}}
 use Rattle.{net_plan.specs.declared.event.Event.Event, run_law.specs.records.Happenings.Happening, std.proofs.Common.{List, ℕ}}
 use Rattle.audit_sweep.proofs.unpaid.dispatches.debtor.RowDebtor.first_undispatched.Given as goal

@@ -1,26 +1,32 @@
--- What is owed is due, and what is due is owed, so a list with nothing wrong and no debts is the run.
-use Rattle.std.proofs.Common.{arith}
-use Rattle.audit_law.proofs.law_lemmas.{Arriving.arrival_law, Changing.change_law, Correcting.{by_point, point_law}}
-use Rattle.audit_law.proofs.law_lemmas.{Departing.departure_law, EventDebts.{clock_law, event_law, loss_law}}
-use Rattle.audit_law.proofs.law_lemmas.{Permanence.{permanence_law, recorded}}
+-- What is owed is due and what is due is owed, and the first debt that is not paid.
+use Rattle.std.{proofs.{Common.arith, lemmas.Bool.{and_left, lt-leb, ne_eqb, or_from}}, specs.Prelude.IsTrue}
+use Rattle.audit_law.proofs.law_lemmas.{Arriving.{arrival_law, by_octets, same_standpoint}}
+use Rattle.audit_law.proofs.law_lemmas.{Correcting.{by_point, comes_by, point_law}, Departing.departure_law}
+use Rattle.audit_law.proofs.law_lemmas.{EventDebts.{clock_law, event_law, loss_law}}
+use Rattle.audit_law.proofs.law_lemmas.{Permanence.{permanence_law, permanent_by, recorded}}
 use Rattle.audit_law.proofs.law_lemmas.Founded
-use Founded.{PaidAt, by_number, due_is_determined, due_there, earlier_in, next_is_due, next_of, split_at, timely}
-use Founded.{within}
+use Founded.{PaidAt, by_number, change_law, due_is_determined, due_there, earlier_in, next_is_due, next_of, number_is}
+use Founded.{split_at, timely, within}
 use Rattle.audit_law.proofs.law_lemmas.Sound
 use Sound.{due_by_part, due_in, founded_of_sound, lack_of_unpaid, lacks_in_gaps, lacks_nothing, next_exactly}
 use Sound.{none_unsound, one_due, one_unsound, run_exactly, unpaid_of_lack, within_of_sound}
 use Rattle.audit_law.proofs.law_lemmas.Words
-use Words.{◌+◌, ◌∙◌, ◌∷◌, ◌≡◌, ◌⊎◌, AllBefore, ArrivesAs, Bool, Debt, DeviceId, Dispatch, Happening, HasAccepted}
-use Words.{IsBefore, IsCaused, IsDue, IsDueIn, IsFounded, IsOwed, IsPaid, IsReach, IsRun, IsSplit, LinkId, List}
-use Words.{NoteBody, Pays, Scenario, Some, Units, VlId, [], amount, ap, append-nil, earlier, false, false_from_ne_true}
-use Words.{filter, filter-append, front_founded, inl, inr, is_before, is_there, is_turned_on_at, key, members_in}
-use Words.{none_kept, numbered, place_at, place_of, pos, rank, refl, ripe_as, same_earlier, split, state_after, subst}
-use Words.{sym, time_of, true, units_of, ℕ}
+use Words.{◌++◌, ◌+◌, ◌<◌, ◌∙◌, ◌∷◌, ◌≡◌, ◌≤◌, ◌⊎◌, AllBefore, ArrivesAs, Bool, Debt, DeviceId, Dispatch, Happening}
+use Words.{HasAccepted, IsBefore, IsCaused, IsDue, IsDueIn, IsFounded, IsIn, IsOwed, IsPaid, IsReach, IsRun, IsSplit}
+use Words.{LinkId, List, None, NoteBody, Option, Pays, Scenario, Some, Units, VlId, [], amount, and_right, ap}
+use Words.{append-nil, cases_lt, earlier, false, false_from_ne_true, filter, filter-append, front_founded}
+use Words.{heard_since_point, in_parts, inl, inr, ints, is_before, is_there, is_turned_on_at, key, le-ltb, members_in}
+use Words.{nat_le, nat_lt, none_kept, numbered, numbered_front, numbered_in, place_at, place_of, pos, rank, refl}
+use Words.{ripe_as, same_earlier, split, state_after, subst, sym, time_of, true, units_of, up_to, ℕ}
 use Rattle.audit_law.specs.law.{Arrivals.{IsDueByArrival, arrival_record}, Changes.IsDueByChange}
-use Rattle.audit_law.specs.law.{CorrectionPoints.IsDueByPoint, DebtLaws.{DebtLaw, DispatchLaw, EmissionLaw, SendingLaw}}
-use Rattle.audit_law.specs.law.{Debts.AreDebts, Departures.IsDueByLeaving, EndClocks.IsDueByEnd}
+use Rattle.audit_law.specs.law.{CorrectionPoints.IsDueByPoint, Debts.AreDebts, Departures.IsDueByLeaving}
+use Rattle.audit_law.specs.law.{EndClocks.IsDueByEnd}
+use Rattle.audit_law.specs.law.{FirstDebts.{FirstDebtLaw, JoinedSortsLaw, TellsFirst, TellsUnpaid, earlier_of}}
 use Rattle.audit_law.specs.law.{Laws.{AuditLaws, GapLaw, NextLaw}, LostSends.IsDueBySend, Owed.falls_due}
 use Rattle.audit_law.specs.law.{Permanences.IsDueByPermanence, TracedEvents.IsDueByEvent}
+use Rattle.audit_law.specs.law.DebtLaws
+use DebtLaws.{DebtLaw, DispatchLaw, EmissionLaw, IsFirstDebt, IsFirstLack, LackLaw, SendingLaw, SettledLaw}
+use DebtLaws.{ShowsInDebts}
 use Rattle.audit_law.specs.law.Dispatched
 use Dispatched.{IsDueByDispatch, IsDueBySending, OwesDispatch, OwesSending, Sending, TellsDispatch, TellsSending}
 use Dispatched.{dispatch_record, is_cut_then}
@@ -30,13 +36,18 @@ use Rattle.compression.specs.declared.compressed.Compressed.{Compressed}
 use Rattle.drift_clock.proofs.Drifts.{one_reach}
 use Rattle.run_law.proofs.{device.States.reaches_by, law.FirstDeliveries.accepted_in, records.Order.before_is}
 use Rattle.run_law.proofs.{timed.Rows.at_hand_by}
-use Rattle.run_law.specs.{control.Leaving.{leaves, on_cut_way, too_old}, declared.steps.Arrival.Arrival}
-use Rattle.run_law.specs.{records.Causes.cause_of, timed.Dispatching.{Dispatches, IsUp, Sends}}
+use Rattle.run_law.specs.{control.{Leaving.{leaves, on_cut_way, too_old}, Wires.{Signal, control, timed}}}
+use Rattle.run_law.specs.{declared.steps.Arrival.Arrival, records.Causes.cause_of}
+use Rattle.run_law.specs.timed.{Dispatching.{Dispatches, IsUp, Sends}}
+use Rattle.run_law.specs.timed.{Receptions.{arrival_of, is_taken_before, last_taken}}
+use Rattle.tte_units.proofs.general_lemmas.Naturals.{below_next}
 use Rattle.audit_law.specs.law.Owed as debts
 use Rattle.run_law.specs.declared.judgement.Why.TheVariants as whys
 use Rattle.run_law.specs.declared.note.NoteBody.TheVariants as notes
 use Rattle.run_law.specs.declared.steps.Arrival.TheVariants as arrivals
 use Rattle.run_law.specs.declared.steps.Ripe.TheVariants as ripe
+
+-- ---- what is owed is due, and what is due is owed, so a list with nothing wrong and no debts is the run
 
 -- ---- what is owed of schedules is due
 
@@ -47,10 +58,10 @@ up_by : {s : Scenario} {gs : List Happening} (hs : List Happening) {device : Dev
 up_by hs same h = grind (arith, is_turned_on_at, state_after)
 
 module _ (s : Scenario) (gs hs : List Happening) (device : DeviceId) (t : ℕ) where
-  pub sends_by : {cycle : ℕ} → earlier t gs ≡ earlier t hs → Sends s gs device t cycle → Sends s hs device t cycle
+  sends_by : {cycle : ℕ} → earlier t gs ≡ earlier t hs → Sends s gs device t cycle → Sends s hs device t cycle
   sends_by same h = grind (arith, up_by, reaches_by, amount)
 
-  pub dispatches_by : {link : LinkId} {cause : ℕ} {vl : VlId} {cycle : ℕ} → earlier t gs ≡ earlier t hs
+  dispatches_by : {link : LinkId} {cause : ℕ} {vl : VlId} {cycle : ℕ} → earlier t gs ≡ earlier t hs
       → Dispatches s gs device t link cause vl cycle → Dispatches s hs device t link cause vl cycle
   dispatches_by same h = grind (arith, up_by, reaches_by, amount, at_hand_by)
 
@@ -472,7 +483,7 @@ pub same_time : (x y : Happening) → place_of x ≡ place_of y → time_of x �
 same_time x y same = ap first_of same
 
 -- a debt falls due at one time, however it is owed
-pub one_time : (s : Scenario) (hs : List Happening) (until : ℕ) → IsFounded place_of (IsDue s) hs → (o : Debt)
+one_time : (s : Scenario) (hs : List Happening) (until : ℕ) → IsFounded place_of (IsDue s) hs → (o : Debt)
     (a b : IsOwed s hs until o) → falls_due s hs until o a ≡ falls_due s hs until o b
 one_time s hs until founded o a b =
     let x = is_payable s hs until founded o a in
@@ -570,3 +581,258 @@ gap_law s mark hs sound = record {
 
 pub next_law : NextLaw
 next_law s mark hs x run = next_exactly (IsDue s) x run
+
+-- ---- what is owed up to a time is told by the records up to then
+
+-- ---- two lists that tell the same up to a time
+
+record TellsSame (gs hs : List Happening) (until : ℕ) : Type 0 where
+  pub numbers : (n : ℕ) (h : Happening) → time_of h ≤ until → numbered gs n ≡ Some h → numbered hs n ≡ Some h
+  pub earliers : (t : ℕ) → t ≤ until → earlier t gs ≡ earlier t hs
+  pub ups : (t : ℕ) → t ≤ until → up_to t gs ≡ up_to t hs
+  pub befores : (t : ℕ) (ks : List ℕ) → t ≤ until → before_place gs (t ∷ ks) ≡ before_place hs (t ∷ ks)
+  pub takens : (device : DeviceId) (vl : VlId) (t : ℕ) (link : LinkId) (cause : ℕ) → t ≤ until
+      → last_taken gs device t link cause vl ≡ last_taken hs device t link cause vl
+
+-- what a filter keeps of a list is what it keeps of its front, where it keeps none of the rest
+of_front : (test : Happening → Bool) (gs rest : List Happening) → ((h : Happening) → IsIn h rest → test h ≡ false) → filter test gs ≡ filter test (gs ++ rest)
+of_front test gs rest fails = grind (arith, append-nil, filter, none_kept, filter-append)
+
+-- a later record is not taken before
+not_taken : (t u : ℕ) (device : DeviceId) (vl : VlId) (link : LinkId) (cause : ℕ) (body : NoteBody) → t < u
+    → is_taken_before device vl t link cause u body ≡ false
+not_taken t u device vl link cause (notes.Accepted other by from of_vl cycle) late = grind (arith, and_right, nat_lt, or_from, le-ltb, and_left, ne_eqb)
+not_taken t u device vl link cause (notes.Delivered other by from of_vl cycle) late = grind (arith, and_right, nat_lt, or_from, le-ltb, and_left, ne_eqb)
+not_taken t u device vl link cause other late = refl
+
+not_before : (h : Happening) (t : ℕ) (ks : List ℕ) → t < time_of h → is_before (place_of h) (t ∷ ks) ≡ false
+not_before h t ks late = grind (arith, false_from_ne_true, is_before, place_of, is_there)
+
+-- a list and its front, behind which all is later
+front_tells : (gs rest : List Happening) (until : ℕ) → ((h : Happening) → IsIn h rest → until < time_of h) → TellsSame gs (gs ++ rest) until
+front_tells gs rest until late = record {
+  numbers = λ n h le there. numbered_front gs rest n h there;
+  earliers = λ t le. of_front (λ h. nat_lt (time_of h) t) gs rest
+      (λ h i. le-ltb (time_of h) t (let l = late h i in omega arith));
+  ups = λ t le. of_front (λ h. nat_le (time_of h) t) gs rest
+      (λ h i. lt-leb (time_of h) t (let l = late h i in omega arith));
+  befores = λ t ks le. of_front (λ h. is_before (place_of h) (t ∷ ks)) gs rest
+      (λ h i. not_before h t ks (let l = late h i in omega arith));
+  takens = λ device vl t link cause le.
+      rw (of_front (λ h. is_taken_before device vl t link cause (time_of h) h.note.body) gs rest
+      (λ h i. not_taken t (time_of h) device vl link cause h.note.body (let l = late h i in omega arith)));
+}
+
+module _ (s : Scenario) (gs rest : List Happening) (until : ℕ) (founded : IsFounded place_of (IsDue s) (gs ++ rest))
+    (late : ((h : Happening) → IsIn h rest → until < time_of h)) where
+  -- a record up to the time is in the front
+  in_front : (n : ℕ) (h : Happening) → time_of h ≤ until → numbered (gs ++ rest) n ≡ Some h → numbered gs n ≡ Some h
+  in_front n h le there =
+      let number = number_is s (gs ++ rest) n h founded there in
+      elim (in_parts h gs rest (numbered_in (gs ++ rest) n h there)) [
+        | inl i ↦ rw (sym number) (by_number s gs h (front_founded place_of (IsDue s) gs rest founded) i)
+        | inr i ↦ let l = late h i in absurd (omega arith)
+      ]
+
+  tells_front : TellsSame (gs ++ rest) gs until
+  tells_front =
+      let same = front_tells gs rest until late in
+      record {
+        numbers = in_front;
+        earliers = λ t le. sym (same.earliers t le);
+        ups = λ t le. sym (same.ups t le);
+        befores = λ t ks le. sym (same.befores t ks le);
+        takens = λ device vl t link cause le. sym (same.takens device vl t link cause le);
+      }
+
+-- ---- debts
+
+same_outcome : (s : Scenario) {gs hs : List Happening} {until : ℕ} (device : DeviceId) (t : ℕ) (link : LinkId)
+    (cause : ℕ) (signal : Signal) → TellsSame gs hs until → t ≤ until
+    → arrival_of s gs device t link cause signal ≡ arrival_of s hs device t link cause signal
+same_outcome s {gs} {hs} device t link cause (control frame) same le =
+    rw (same_standpoint s device t gs hs (same.earliers t le))
+same_outcome s device t link cause (timed octets) same le = grind (arith, same_standpoint, by_octets)
+
+-- what comes to a time from an earlier one is not earlier
+sum_within : (t a b c until : ℕ) → t ≡ a + b + c → t ≤ until → a ≤ until
+sum_within t a b c until is le = omega arith
+
+-- what one of two such lists owes, the other does
+owed_by : (s : Scenario) {gs hs : List Happening} {until : ℕ} → TellsSame gs hs until → (o : Debt)
+    → IsOwed s gs until o → IsOwed s hs until o
+owed_by s same (debts.event line) o = o
+owed_by s {hs} {until} same (debts.arrival cause) o =
+    let a = o.arrives in
+    let arrives : ArrivesAs s hs o.device o.time o.link cause o.is = record {
+      putting = a.putting;
+      there = same.numbers cause a.putting (sum_within o.time (time_of a.putting) _ _ until a.arrives.at o.timely) a.there;
+      signal = a.signal;
+      arrives = a.arrives;
+      becomes = a.becomes ∙ same_outcome s o.device o.time o.link cause a.signal same o.timely;
+    } in
+    record { device = o.device; link = o.link; time = o.time; is = o.is; arrives = arrives; behind = o.behind; timely = o.timely }
+owed_by s same (debts.permanence cause) o = grind (arith, permanent_by, ints)
+owed_by s same (debts.emission device sent) o = grind (arith, rank, key)
+owed_by s {gs} {hs} same (debts.sending given) o =
+    record { sends = sends_by s gs hs given.device given.time (same.earliers given.time o.timely) o.sends; timely = o.timely }
+owed_by s same (debts.point device time) o = grind (arith, comes_by, up_to, earlier, heard_since_point)
+owed_by s same (debts.change cause) o = grind arith
+owed_by s same (debts.departure cause link) o = grind arith
+owed_by s same (debts.dispatch given) o = grind (arith, dispatches_by)
+owed_by s same (debts.loss cause) o = grind arith
+owed_by s same (debts.clock device time) o = o
+
+pub settled_law : SettledLaw
+settled_law s gs rest until founded late o =
+    (owed_by s (front_tells gs rest until late) o, owed_by s (tells_front s gs rest until founded late) o)
+
+-- ---- the first debt that is not paid: its time, and the record that is lacking
+
+-- ---- the first time at which a debt of a sort is not paid: of one, of two sorts, of one sort after another, and of all
+
+-- of one of two sorts
+abbrev pub EitherOf : (Debt → Type 0) → (Debt → Type 0) → Debt → Type 0
+EitherOf A B o = A o ⊎ B o
+
+-- of one of the first sorts, so many of them
+abbrev pub IsOfFirst : (ℕ → Debt → Type 0) → ℕ → Debt → Type 0
+IsOfFirst Is n o = (m : ℕ) × (m < n) × Is m o
+
+module _ (s : Scenario) (hs : List Happening) (until : ℕ) where
+  -- two sorts that are one
+  pub first_of_both : (A B C : Debt → Type 0) (a b : Option ℕ) → ((o : Debt) → C o → A o ⊎ B o)
+      → ((o : Debt) → A o → C o) → ((o : Debt) → B o → C o) → TellsFirst s hs until A a → TellsFirst s hs until B b
+      → TellsFirst s hs until C (earlier_of a b)
+  first_of_both A B C None None parts left right h g =
+      λ o is owed. elim (parts o is) [ inl p ↦ h o p owed | inr q ↦ g o q owed ]
+  first_of_both A B C None (Some u) parts left right h g = grind arith
+  first_of_both A B C (Some t) None parts left right h g = grind arith
+  first_of_both A B C (Some t) (Some u) parts left right h g =
+      elim (cases_lt u t) [
+        | inl less ↦
+            record {
+              debt = g.debt;
+              one = right g.debt g.one;
+              owed = g.owed;
+              unpaid = g.unpaid;
+              at = let due = g.at in omega arith;
+              first = λ other is in_c not.
+                  elim (parts other in_c) [
+                    | inl p ↦ let late = h.first other is p not in omega arith
+                    | inr q ↦ let late = g.first other is q not in omega arith
+                  ];
+            }
+        | inr more ↦
+            record {
+              debt = h.debt;
+              one = left h.debt h.one;
+              owed = h.owed;
+              unpaid = h.unpaid;
+              at = let due = h.at in omega arith;
+              first = λ other is in_c not.
+                  elim (parts other in_c) [
+                    | inl p ↦ let late = h.first other is p not in omega arith
+                    | inr q ↦ let late = g.first other is q not in omega arith
+                  ];
+            }
+      ]
+
+  pub first_of_either : (A B : Debt → Type 0) (a b : Option ℕ) → TellsFirst s hs until A a → TellsFirst s hs until B b
+      → TellsFirst s hs until (EitherOf A B) (earlier_of a b)
+  first_of_either A B a b = first_of_both A B (EitherOf A B) a b (λ o is. is) (λ o is. inl is) (λ o is. inr is)
+
+  -- one debt alone
+  pub first_of_one : IsFounded place_of (IsDue s) hs → (x : Debt) (r : Option ℕ) → TellsUnpaid s hs until x r
+      → TellsFirst s hs until (λ o. o ≡ x) r
+  first_of_one founded x None h = λ o is owed.
+      (rw (sym is) at h) owed
+  first_of_one founded x (Some t) h = record {
+    debt = x;
+    one = refl;
+    owed = h.owed;
+    unpaid = h.unpaid;
+    at = h.at;
+    first = λ other is same not.
+        subst (λ y. (owed : IsOwed s hs until y) → t ≤ falls_due s hs until y owed) (sym same)
+        (λ owed. let at = h.at in let one = one_time s hs until founded x h.owed owed in omega (arith, at, one)) is;
+  }
+
+  -- more of which no other is owed
+  pub first_of_more : (A B : Debt → Type 0) (a : Option ℕ) → ((o : Debt) → A o → B o)
+      → ((o : Debt) → B o → IsOwed s hs until o → A o) → TellsFirst s hs until A a → TellsFirst s hs until B a
+  first_of_more A B None wide narrow h = λ o is owed. h o (narrow o is owed) owed
+  first_of_more A B (Some t) wide narrow h = grind arith
+
+  -- ---- one sort after another
+
+  pub first_of_none : (Is : ℕ → Debt → Type 0) → TellsFirst s hs until (IsOfFirst Is 0) None
+  first_of_none Is = λ o is owed. let lt = is.1 in absurd (omega arith)
+
+  pub first_of_next : (Is : ℕ → Debt → Type 0) (n : ℕ) (first one : Option ℕ)
+      → TellsFirst s hs until (IsOfFirst Is n) first → TellsFirst s hs until (Is n) one
+      → TellsFirst s hs until (IsOfFirst Is (n + 1)) (earlier_of first one)
+  first_of_next Is n first one =
+      first_of_both (IsOfFirst Is n) (Is n) (IsOfFirst Is (n + 1)) first one
+      (λ o is.
+      elim (below_next is.0 n is.1) [
+        | inl less ↦ inl (is.0, less, is.2)
+        | inr same ↦ inr (rw same at is.2)
+      ])
+      (λ o is. let lt = is.1 in (is.0, omega arith, is.2))
+      (λ o is. (n, omega arith, is))
+
+pub joined_sorts : JoinedSortsLaw
+joined_sorts s hs until first second both a b are =
+    first_of_both s hs until (λ o. IsTrue (first o)) (λ o. IsTrue (second o)) (λ o. IsTrue (both o)) a b
+    (λ o. (are o).0) (λ o is. (are o).1 (inl is)) (λ o is. (are o).1 (inr is))
+
+pub first_debt_law : FirstDebtLaw
+first_debt_law s hs until None sound all = λ x lacks here.
+    let o = (debt_law s hs until sound).lacking x lacks here in
+    o.4 (all o.0 tt o.1)
+first_debt_law s hs until (Some t) sound h =
+    record { debt = h.debt; owed = h.owed; unpaid = h.unpaid; at = h.at; first = λ o is not. h.first o is tt not }
+
+-- ---- the first record that is lacking is that of the first debt that is not paid
+
+lack_to_debt : {s : Scenario} {hs : List Happening} {until time : ℕ} → ShowsInDebts s hs until
+    → IsFirstLack s hs until time → IsFirstDebt s hs until time
+lack_to_debt shows lack =
+    let there = shows.lacking lack.missing lack.lacking lack.within in
+    record {
+      debt = there.0;
+      owed = there.1;
+      unpaid = there.4;
+      at = lack.at ∙ there.3;
+      first = λ other is not.
+          let x = shows.unpaid other is not in
+          let late = lack.first x.0 x.1 in
+          omega (arith, x.4);
+    }
+
+debt_to_lack : {s : Scenario} {hs : List Happening} {until time : ℕ} → ShowsInDebts s hs until
+    → IsFirstDebt s hs until time → IsFirstLack s hs until time
+debt_to_lack {until} {time} shows debt =
+    let x = shows.unpaid debt.debt debt.owed debt.unpaid in
+    let place : Happening → List ℕ = λ h. rank h.note.body ∷ key (members_in h) h.note.body in
+    let at = debt.at ∙ sym x.4 in
+    record {
+      missing = x.0;
+      lacking = x.1;
+      within = x.2;
+      at = at;
+      first = λ other lacks.
+          elim (cases_lt until (time_of other)) [
+            | inl later ↦ let soon = timely (time_of x.0) until (place x.0) x.2 in omega arith
+            | inr here ↦
+                let p = shows.lacking other lacks (within (time_of other) until (place other) here) in
+                let late = debt.first p.0 p.1 p.4 in
+                omega (arith, p.3)
+          ];
+    }
+
+pub lack_law : LackLaw
+lack_law s hs until time sound =
+    let shows = debt_law s hs until sound in
+    (lack_to_debt shows, debt_to_lack shows)
