@@ -343,8 +343,7 @@ module _ (ow : ℤ) (o : Point) (ps : List Point) (p : Point) where
   window-push_in : Comes ow o ps p → p.reading ≤ℤ window_end ow o
       → counted (window_end ow o) o (ps ++ p ∷ []) ≡ with_first (counted (window_end ow o) o ps) p
   window-push_in comes first =
-      ap firsts (held-push_in o.cycle o.reading (window_end ow o) ps p comes.same comes.low first)
-      ∙ firsts-push (of_cycle_within o.cycle o.reading (window_end ow o) ps) p
+      search (arith, held-push_in, firsts-push)
 
   window-push_out : window_end ow o <ℤ p.reading → counted (window_end ow o) o (ps ++ p ∷ [])
       ≡ counted (window_end ow o) o ps

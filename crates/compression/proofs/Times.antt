@@ -176,13 +176,7 @@ module _ {ow : ℤ} {o : Point} {ps : List Point} {c : Cluster} {cs : List Clust
   -- one that is kept and lies up to the end is of the opener's cycle
   own_cycle : {q : Point} → IsKept (o ∷ ps) (c ∷ cs) b cycle q → q.reading ≤ℤ c.end → Holds c q
   own_cycle {q} k within =
-      let start = first_end ow o ps c f.some f.is in
-      let low : c.opened ≤ℤ q.reading =
-      rw start.0 (not_before o ps q f.order k.there) in
-      elim (cases_eq q.cycle c.cycle) [
-        | inl same ↦ (same, record { low = low; high = within })
-        | inr other ↦ absurd (k.kept (c, in_head c cs, other, record { low = low; high = within }))
-      ]
+      search (arith, first_end, not_before, in_head)
 
   -- where one that is kept lies up to the end, so do all
   all_within : {q r : Point} → IsKept (o ∷ ps) (c ∷ cs) b cycle q → IsKept (o ∷ ps) (c ∷ cs) b cycle r

@@ -1,9 +1,8 @@
 -- When a device acts by itself it has a task that is due, and after the act the tasks that it had or later ones.
 use Rattle.std.proofs.{Common.Contains, lemmas.{Bool.and_from, List.Elements.Contains-append_left}}
 use Rattle.compression.specs.Emission.{compressed}
+use Rattle.run_law.specs.{control.{Hearing.{heard_enough, last_cycle}, Permanence.ripe_as}}
 use Rattle.run_law.specs.{device.States.is_synchronised, scenario.Devices.is_cm}
-use Rattle.run_law.specs.control.{Hearing.{heard_by_schedule, heard_enough, is_in_schedule, last_cycle}}
-use Rattle.run_law.specs.control.{Permanence.ripe_as}
 use Rattle.run_law.specs.machines.{Answers.{with_clique, with_corrected, with_done}}
 use Rattle.run_law.specs.machines.{Tasks.{IsDeedOf, IsUndone, IsWaiting}}
 use Rattle.sync_state.proofs.VerdictLemmas.{no_longer, no_point}
@@ -97,11 +96,9 @@ heard_so plan precision Off adjustment point cycle members P within outside inte
 heard_so plan precision Integrating adjustment point cycle members P within outside integrates ignored =
     elim (nat_le plan.threshold (count_of members) && nat_le cycle last_cycle) as (λ b. P (ripe_as (heard_enough b))) [ true ↦ integrates | false ↦ ignored ]
 heard_so plan precision Joining adjustment point cycle members P within outside integrates ignored =
-    elim (nat_le cycle last_cycle && is_in_schedule plan precision cycle (point +ℤ adjustment)) as (λ b. P (ripe_as (heard_by_schedule b)))
-    [ true ↦ within | false ↦ outside ]
+    search arith
 heard_so plan precision Synchronised adjustment point cycle members P within outside integrates ignored =
-    elim (nat_le cycle last_cycle && is_in_schedule plan precision cycle (point +ℤ adjustment)) as (λ b. P (ripe_as (heard_by_schedule b)))
-    [ true ↦ within | false ↦ outside ]
+    search arith
 
 emitted_more : (node : Node) (sent c : Compressed) → Contains node.emitted c → Contains (node.emitted ++ sent ∷ []) c
 emitted_more node sent c there = Contains-append_left node.emitted (sent ∷ []) c there
@@ -175,10 +172,7 @@ module _ (network : Network) (device : DeviceId) (node : Node) (moment : Moment)
       → IsCarried network device node
       (called moment acting (after_correction node moment heard cycle Cleared)) moment task
   cleared_by heard (emitting sent) next in_time wide p =
-      inl (
-        (p.0, record { cm = p.1.cm; clusters = p.1.clusters; are = p.1.are; cluster = p.1.cluster; there = p.1.there; is = p.1.is; not_yet = p.1.not_yet }),
-        refl,
-      )
+      search arith
   cleared_by heard {cycle} (doing (sending n)) next in_time wide p =
       inl (
         (
@@ -210,9 +204,7 @@ module _ (network : Network) (device : DeviceId) (node : Node) (moment : Moment)
         refl,
       )
   cleared_by heard {cycle} (doing (correcting n)) next in_time wide p =
-      inr (next_turn (amount network.cycle) (amount network.correction) cycle n node.standing.adjustment.0
-      moment.reading.0 network.precision.0
-      (one_more node.standing.state node.standing.number next p.1.own) in_time wide)
+      search (arith, next_turn, one_more)
 
   after_point : (heard : Summary) {cycle : ℕ} (verdict : Verdict) (task : Task)
       → next_point node.standing ≡ Some cycle → moment.reading.0 <ℤ

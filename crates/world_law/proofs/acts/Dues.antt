@@ -12,18 +12,17 @@ use Rattle.world_law.proofs.{acts.Acting.{IsUnmoved, point_number}, giving.Given
 use Rattle.world_law.proofs.{lists.{Lists.{behind_no, map_none}, Orders.cases_int}}
 use Rattle.world_law.proofs.{rows.{AtHand.{has_frame, value_is}, Dispatching.{IsLawful, dispatching_task, lawful}}}
 use Rattle.world_law.proofs.Words
-use Words.{if◌then◌else◌, ◌++◌, ◌+◌, ◌-ℤ◌, ◌<ℤ◌, ◌∙◌, ◌∷◌, ◌≡◌, ◌≤ℤ◌, ◌≤◌, ◌⊎◌, AreOfNetwork, Bool, ClockTask}
-use Words.{Compressed, Device, DeviceId, Dispatches, Emits, HadComeTo, Happening, HasDoneTask, HaveBefallen}
-use Words.{Integrating, IsActing, IsAtCorrection, IsBefore, IsDue, IsFounded, IsHeld, IsIn, IsKept, IsLeft, IsPending}
-use Words.{IsSendLost, Judgement, LinkId, List, Network, Node, None, Note, NoteBody, Off, Reaches, RowId, Scenario}
-use Words.{Sends, Some, Stands, State, Task, VlId, World, [], act_place, adjustment_before, after_last, ap, append-nil}
-use Words.{append_assoc, arith, before_later, by_number, cases_Bool, cases_lt, chain, changed_at, correcting, device_at}
-use Words.{dispatch_body, dispatching, doing, earlier, emitting, ends_stretch, false, filter, filter_map, frames_taken}
-use Words.{happenings, in_filter, in_left, in_parts, in_right, inl, inr, ints, is_accepted, is_at_source, is_broken}
-use Words.{is_cut, is_timed, is_turning, last_in, length, moves, nat_lt, never_both, next_cycle, next_point, numbered}
-use Words.{option_map_or, place_of, plan_of, point_by, point_in, points_of, pos, rank, reading_for, refl, sending}
-use Words.{slice_get_within, state_after, state_before, state_with, subst, sym, task_place, time_of, value_of, way_from}
-use Words.{ℕ, ℤ}
+use Words.{◌++◌, ◌+◌, ◌-ℤ◌, ◌<ℤ◌, ◌∙◌, ◌∷◌, ◌≡◌, ◌≤ℤ◌, ◌≤◌, ◌⊎◌, AreOfNetwork, Bool, ClockTask, Compressed, Device}
+use Words.{DeviceId, Dispatches, Emits, HadComeTo, Happening, HasDoneTask, HaveBefallen, Integrating, IsActing}
+use Words.{IsAtCorrection, IsBefore, IsDue, IsFounded, IsHeld, IsIn, IsKept, IsLeft, IsPending, IsSendLost, Judgement}
+use Words.{LinkId, List, Network, Node, None, Note, NoteBody, Off, Reaches, RowId, Scenario, Sends, Some, Stands, State}
+use Words.{Task, VlId, World, [], act_place, adjustment_before, after_last, ap, append-nil, append_assoc, arith}
+use Words.{before_later, by_number, cases_Bool, cases_lt, chain, changed_at, correcting, device_at, dispatch_body}
+use Words.{dispatching, doing, earlier, emitting, ends_stretch, false, filter, filter_map, frames_taken, happenings}
+use Words.{in_filter, in_left, in_parts, in_right, inl, inr, ints, is_accepted, is_at_source, is_broken, is_cut}
+use Words.{is_timed, is_turning, last_in, length, moves, nat_lt, never_both, next_cycle, numbered, option_map_or}
+use Words.{place_of, plan_of, point_by, point_in, points_of, pos, rank, reading_for, refl, sending, slice_get_within}
+use Words.{state_after, state_before, state_with, subst, sym, task_place, time_of, value_of, way_from, ℕ, ℤ}
 use Rattle.world_law.proofs.devices.{Standing.{IsPast, IsQuiet, IsWorked, are_past, at_rest, by_last, quiet_rest}}
 use Rattle.world_law.proofs.devices.{Unmoved.keeps_state, Working.came_sooner}
 use Rattle.world_law.proofs.runs.{Agreement.in_earlier}
@@ -109,52 +108,20 @@ module _ {s : Scenario} {js : List Happening} {now : ℕ} {device : DeviceId} {n
 
   pub sending_due : {cycle : ℕ} → IsPresent s js now device node → Sends s js device now cycle
       → (Contains node.done (sending cycle) → ⊥) → IsDueTask s device node now (doing (sending cycle))
-  sending_due w d not = (
-    (
-      w.left.counted.broken ∙ w.sound,
-      record {
-        own = (d.master, w.left.state ∙ d.up.synchronised, d.begun);
-        ahead = ahead_so w d.reached;
-        not_yet = not;
-      },
-    ),
-    read_so w d.reached,
-  )
+  sending_due w d not = search (arith, ahead_so, read_so)
 
 -- by other records that leave it the same points
 pub emitting_due : {s : Scenario} {js gs : List Happening} {now : ℕ} {device : DeviceId} {node : Node}
     {c : Compressed} {verdict : Judgement} → IsPresent s js now device node
     → points_of gs device ≡ points_of js device → Emits s gs device now c verdict → (Contains node.emitted c → ⊥)
     → IsDueTask s device node now (emitting c)
-emitting_due {s} w points e not = (
-  (
-    w.left.counted.broken ∙ w.sound,
-    record {
-      cm = e.cm;
-      clusters = e.clusters;
-      are = rw (points ∙ sym (w.left.points e.cm)) at e.are;
-      cluster = e.cluster;
-      there = e.there;
-      is = e.is;
-      not_yet = not;
-    },
-  ),
-  e.reached.reached,
-)
+emitting_due {s} w points e not = search arith
 
 pub correcting_due : {s : Scenario} {js : List Happening} {now : ℕ} {device : DeviceId} {node : Node} {cycle : ℕ}
     → IsPresent s js now device node → IsAtCorrection s js now device cycle
     → (Contains node.done (correcting cycle) → ⊥) → IsDueTask s device node now (doing (correcting cycle))
 correcting_due {s} {js} {now} {device} {node} {cycle} w c not =
-    let point = point_number (standing_before s js device now).state (standing_before s js device now).number cycle c.next in
-    let timed : is_timed node.standing.state ≡ true = ap is_timed w.left.state ∙ point.0 in
-    let own : next_point node.standing ≡ Some cycle = ap next_point (same_standing w.left timed) ∙ c.next in (
-      (
-        w.left.counted.broken ∙ w.sound,
-        record { own = own; ahead = ahead_so w c.reached; not_yet = not },
-      ),
-      read_so w c.reached,
-    )
+    search (arith, point_number, is_timed, same_standing, ahead_so, read_so)
 
 pub dispatching_due : {s : Scenario} {js : List Happening} {now : ℕ} {device : DeviceId} {node : Node}
     {link : LinkId} {cause : ℕ} {vl : VlId} {cycle : ℕ} → IsPresent s js now device node
@@ -196,13 +163,7 @@ pub act_due : {s : Scenario} {js hs : List Happening} {now : ℕ} {device : Devi
     → IsDueTask s device node now task
 act_due w f same points (IsActing.emits sent verdict e) not = emitting_due w points e not
 act_due {s} {js} {hs} {now} {device} {node} w f same points (IsActing.sends cycle d) not =
-    sending_due w
-    (record {
-      master = d.master;
-      up = up_back s hs js now device same d.up;
-      begun = d.begun;
-      reached = reaches_back s hs js now device same d.reached;
-    }) not
+    search (arith, sending_due, up_back, reaches_back)
 act_due {s} {js} {hs} {now} {device} w f same points (IsActing.corrects cycle c) not =
     correcting_due w
     (record {
@@ -285,9 +246,7 @@ module _ (s : Scenario) (device : DeviceId) (now : ℕ) (link : LinkId) (cause :
   -- the record of a dispatch stands behind all others of the acts
   pub dispatch_late : 9 ≤ rank (dispatch_body s device now link cause vl cycle)
   dispatch_late =
-      elim (is_cut s link (way_from s.network device link) now) as (λ b. 9 ≤ rank
-      (if b then kinds.Lost device link cause
-      else kinds.TtSent device link cause vl cycle)) [ true ↦ omega arith | false ↦ omega arith ]
+      search (arith, rank)
 
 -- ---- where nothing that a world has under way is before a place, and nothing to come, no act of a device that is not worked off
 -- is before it.

@@ -546,18 +546,14 @@ module _ {s : Scenario} {hs : List Happening} {device : DeviceId} {now : ℕ} (q
 
   adjustment_quiet : adjustment_before s hs device (now + 1) ≡ adjustment_before s hs device now
   adjustment_quiet =
-      fold_still (λ adjustment h. adjustment_with s device (cycle_in h) adjustment h.note.body) now (now + 1)
-      (omega arith) hs (λ h i from lt z.
-      quiet_adjustment s device (cycle_in h) z h.note.body
-      (q.quiet h i (omega arith))) _
+      search (arith, fold_still, cycle_in, quiet_adjustment)
 
   integration_quiet : integration_cycle (earlier (now + 1) hs) device ≡ integration_cycle (earlier now hs) device
   integration_quiet = grind (arith, fold_still, is_joined_by, cycle_in, quiet_joins)
 
   cycle_quiet : recorded_cycle (earlier (now + 1) hs) device ≡ recorded_cycle (earlier now hs) device
   cycle_quiet =
-      fold_still (λ next h. cycle_after device next h h.note.body) now (now + 1) (omega arith) hs (λ h i from lt z.
-      quiet_cycle device z h h.note.body (q.quiet h i (omega arith))) 1
+      search (arith, fold_still, quiet_cycle)
 
   change_quiet : changed_at hs device (now + 1) ≡ changed_at hs device now
   change_quiet = grind (arith, option_map_or, time_of, last_or, filter_still, changes_adjustment, quiet_changes)
@@ -768,10 +764,7 @@ module _ {M : Type 0} {stands : M → Network → DeviceId → Node → Type 0} 
       → ((task : Task) → IsPending s.network device k.node task
       → pos (s.reading device now) <ℤ reading_for s.network k.node task) → Rests s hs device now k.node
   at_rest k befallen past worked no_later idle =
-      elim k.acted [
-        | inr over ↦ rests_over k over.0 befallen past no_later
-        | inl yet ↦ rests_next k yet.0 befallen past worked no_later idle
-      ]
+      search (arith, rests_over, rests_next)
 
 -- ---- what the records say of a device's state and adjustment is what its machine shows, whether or not it has acted
 

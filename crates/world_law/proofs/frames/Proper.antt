@@ -7,8 +7,7 @@ use Rattle.run_law.{proofs.law.FirstDeliveries.{front_founded, numbered_in}}
 use Rattle.run_law.specs.{device.Standpoints.first_reason, machines.Calls.{IsLinkAt, IsOfMaster, IsOneMaster}}
 use Rattle.run_law.specs.{scenario.{Devices.{IsParentOf, has_role, is_parent_of, member_of}, Ways.receiver_of}}
 use Rattle.run_law.specs.control.Arrivals
-use Arrivals.{are_others, clock_on_arrival, frame_fault, frame_or_fault, frame_taken, is_cold_start, is_gate_shut}
-use Arrivals.{is_of_other_domain, is_of_other_member}
+use Arrivals.{are_others, clock_on_arrival, frame_fault, frame_or_fault, frame_taken, is_cold_start, is_of_other_member}
 use Rattle.schedule_tables.{proofs.Margins.shape_rules, specs.declared.rule.Rule.TheVariants.Joints}
 use Rattle.tte_units.{proofs.general_lemmas.{Lists.in_all, Options.{at_known, closed, opened}}}
 use Rattle.tte_units.{specs.declared.frames.{members.Members.Members, pcf.PcfKind.{PcfKind, TheVariants.Integration}}}
@@ -18,12 +17,10 @@ use Rattle.world_law.proofs.Words
 use Words.{if◌then◌else◌, ◌&&◌, ◌++◌, ◌==◌, ◌^◌, ◌∙◌, ◌∷◌, ◌≡◌, ◌≤◌, ◌⊎◌, Arrival, Arrives, ArrivesAs, Bool, Device}
 use Words.{DeviceId, Down, Event, Gives, Happening, IsArrivedRecord, IsCaused, IsDue, IsFounded, IsIn, IsInRange}
 use Words.{KeepsRules, Launch, Link, LinkId, List, Network, None, NoteBody, Ok, Option, Pcf, Reason, Scenario, Send}
-use Words.{Signal, Some, Standpoint, Units, Up, Way, [], amount, ap, arrival_of, both_ways, cases_Bool, cases_lt}
-use Words.{control, device_at, eq-eqb, eqb-true, false, founded_at, frame_by, inl, inr, is_cut, is_end, launched}
-use Words.{length, length-append, link_at, lt-ltb, nat_lt, not, numbered, option_map, option_map_or, place_of, refl}
-use Words.{signal_of, slice_get, standpoint, subst, suc, sym, target_by, time_of, timed, timed_arrival, true, way_from}
-use Words.{with_clock, zero, ℕ}
-use Rattle.run_law.specs.declared.judgement.Reason.TheVariants as reasons
+use Words.{Signal, Some, Standpoint, Units, Up, Way, [], amount, ap, arrival_of, both_ways, cases_Bool, control}
+use Words.{device_at, eq-eqb, eqb-true, false, founded_at, frame_by, inl, inr, is_cut, is_end, launched, length}
+use Words.{length-append, link_at, not, numbered, option_map, option_map_or, place_of, refl, signal_of, slice_get}
+use Words.{standpoint, subst, suc, sym, target_by, time_of, timed, timed_arrival, true, way_from, with_clock, zero, ℕ}
 use Rattle.run_law.specs.declared.note.NoteBody.TheVariants as kinds
 use Rattle.run_law.specs.declared.steps.Arrival.TheVariants as arrivals
 
@@ -191,31 +188,7 @@ pub is_sound : {network : Network} {device : DeviceId} {link : LinkId} {at : Sta
     network device link at came frame
     → IsSound network device link at came frame
 is_sound {network} {device} {link} {at} {came} taken =
-    let clock = clock_on_arrival network link came in
-    let gate : List (Bool × Reason) = (is_gate_shut network device at, reasons.Gate) ∷ [] in
-    let aged : List (Bool × Reason) = (nat_lt (amount network.dmax) clock, reasons.Old) ∷ gate in
-    let others : List (Bool × Reason) = (is_of_other_member network device link came.members, reasons.Member) ∷ aged in
-    let foreign : List (Bool × Reason) = (is_of_other_domain network came, reasons.Domain) ∷ others in
-    let cold_start : List (Bool × Reason) = (is_cold_start came.kind, reasons.ColdStart) ∷ foreign in
-    let off = no_reason (not at.takes_part) reasons.Off cold_start taken.none in
-    let cold = no_reason (is_cold_start came.kind) reasons.ColdStart foreign off.1 in
-    let domain = no_reason (is_of_other_domain network came) reasons.Domain others cold.1 in
-    let member = no_reason (is_of_other_member network device link came.members) reasons.Member aged domain.1 in
-    let old = no_reason (nat_lt (amount network.dmax) clock) reasons.Old gate member.1 in
-    let same = both_true (came.priority == network.priority) (came.domain == network.domain) domain.0 in
-    let least : clock ≤ amount network.dmax = elim (cases_lt (amount network.dmax) clock) [
-      | inl lt ↦ absurd (Rattle.std.proofs.lemmas.Bool.both_ways (nat_lt (amount network.dmax) clock) old.0 (lt-ltb (amount network.dmax) clock lt))
-      | inr ge ↦ ge
-    ] in
-    record {
-      takes_part = not-false at.takes_part off.0;
-      kind = rw taken.is (kind_of came.kind cold.0);
-      priority = rw taken.is (eqb-true came.priority network.priority same.0);
-      domain = rw taken.is (eqb-true came.domain network.domain same.1);
-      clock = rw taken.is least;
-      member = rw taken.is member.0;
-      members = rw taken.is;
-    }
+    search (arith, no_reason, both_true, not-false, kind_of)
 
 -- ---- the link is at the device
 

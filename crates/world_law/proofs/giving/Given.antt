@@ -4,22 +4,23 @@ use Rattle.world_law.proofs.{lists.Lists.behind_yes, rows.AtHand.frames_by_other
 use Rattle.world_law.proofs.devices.{Working.worked_on}
 use Rattle.world_law.proofs.devices.Standing
 use Standing.{adjustments_plain, changes_at_plain, filter_plain, plains_parts, states_plain, told_by_others}
-use Rattle.world_law.proofs.runs.{Foremost.{StandsOver, over_of}, TaskPlaces.acts_before}
 use Rattle.world_law.proofs.runs.Worlds.{AreSettled, acting_back, arrives_later, arriving_more, departing_more}
 use Rattle.world_law.proofs.runs.Worlds.{earlier_still, first_is_next, gives_rank, length_is, no_higher, none_pending}
 use Rattle.world_law.proofs.runs.Worlds.{numbered_more, numbered_still}
+use Rattle.world_law.proofs.runs.{TaskPlaces.acts_before}
 use Rattle.world_law.specs.world.World.{AreUntold, Befell, IsActedUpTo, IsAtRest, IsJustTold, Stored, is_turning, note_of}
 use Rattle.std.proofs.lemmas.{List.length_push, Option.slice_get_cases}
-use Rattle.world_law.proofs.Words.{◌++◌, ◌+◌, ◌<◌, ◌∙◌, ◌∷◌, ◌≡◌, ◌≤◌, ◌⊎◌, AreAtPorts, AreOfNetwork, AreOnWires, AreWaiting}
+use Rattle.world_law.proofs.Words.{◌++◌, ◌+◌, ◌<◌, ◌∙◌, ◌∷◌, ◌≡◌, ◌⊎◌, AreAtPorts, AreOfNetwork, AreOnWires, AreWaiting}
 use Rattle.world_law.proofs.Words.{AtPort, Bool, Device, DeviceId, Happening, Integrating, IsActedOut, IsActing, IsBefore}
 use Rattle.world_law.proofs.Words.{IsHeld, IsIn, IsJoiningNow, IsKept, IsSource, List, Network}
 use Rattle.world_law.proofs.Words.{NoSourceBefore, Node, Note, NoteBody, OnWire, Pcf, Scenario, Some, World}
 use Rattle.world_law.proofs.Words.{Task, Waiting, [], act_place, adjustment_after, amount, ap, append-nil, append_assoc, arith, before_behind}
 use Rattle.world_law.proofs.Words.{before_next_time, behind, cases_Bool, chain, changed_at, clock_place, device_at, earlier, ends_stretch, eqb-true, false}
 use Rattle.world_law.proofs.Words.{filter, filter_map, happening, happenings, in_left, in_parts, in_right, inl, inr, ints}
-use Rattle.world_law.proofs.Words.{is_joined_by, key, length, members_in, moves, nat_le, never_self, no_cluster}
+use Rattle.world_law.proofs.Words.{is_joined_by, key, length, members_in, nat_le, never_self, no_cluster}
 use Rattle.world_law.proofs.Words.{numbered, numbers_end, observation_window, place_of, plains, point_by, points_of, port_place, rank, refl}
 use Rattle.world_law.proofs.Words.{ripe_place, state_after, state_before, subst, suc, sym, time_of, true, units_of, up_to, wire_place, ℕ}
+use Rattle.world_law.proofs.runs.Over.{StandsOver, over_of}
 use Rattle.world_law.{proofs.giving.Storing.stored_then, specs.world.Moves.{AreAwaited, AreGiven, ArePut, AreTaken, GivenStep, StandsAt}}
 use Rattle.world_law.proofs.giving.GivenAs.{coming_then}
 use Rattle.world_law.proofs.giving.GivenParts.{IsGiving, over_itself, same_permanent, some_same, up_to_place, worked_by_then}
@@ -246,17 +247,7 @@ module _ {s : Scenario} {hs : List Happening} {z : Happening} {rest : List Happe
   act_back : {device : DeviceId} → IsBefore (act_place now device) (behind (place_of z)) → {task : Task}
       → IsActing s (hs ++ with_number n z ∷ []) now device task → IsActing s hs now device task
   act_back {device} b a =
-      let at = g.are.of_now z (inl refl) in
-      elim (no_higher now 4 (time_of z) (rank z.note.body) (device.0 ∷ []) (key (members_in z) z.note.body)
-      (up_to_place (act_place now device) (place_of z) b)) [
-        | inl lt ↦ absurd (omega arith)
-        | inr same ↦
-            acting_back hs (with_number n z ∷ []) (λ y i. let t = alone_now y i in omega arith)
-            (λ y i. elim i [
-              | inl e ↦ let same_rank : rank y.note.body ≡ rank z.note.body = rw e in omega (arith, same.1)
-              | inr none ↦ absurd none
-            ]) a
-      ]
+      search (arith, no_higher, rank, key, up_to_place, place_of, acting_back, alone_now)
 
   acted_then : {up : ℕ} {device : DeviceId} (node : Node) → IsActedUpTo s hs now device node to up
       → IsActedUpTo s (hs ++ with_number n z ∷ []) now device node (behind (place_of z)) up
@@ -301,15 +292,7 @@ module _ {s : Scenario} {hs : List Happening} {z : Happening} {rest : List Happe
 
   earlier_then : earlier now (hs ++ z ∷ rest) ≡ earlier now ((hs ++ with_number n z ∷ []) ++ rest)
   earlier_then =
-      let late : (y : Happening) → IsIn y rest → now ≤ time_of y = λ y i. let t = g.are.of_now y (inr i) in
-      omega arith in
-      let at = g.are.of_now z (inl refl) in
-      let all : (y : Happening) → IsIn y (z ∷ rest) → now ≤ time_of y = λ y i. let t = g.are.of_now y i in
-      omega arith in
-      let given : (y : Happening) → IsIn y (with_number n z ∷ rest) → now ≤ time_of y = λ y i.
-      elim i [ inl e ↦ let t : time_of y ≡ time_of z = ap time_of e in omega arith | inr more ↦ late y more ] in
-      earlier_still now hs (z ∷ rest) all ∙ sym (earlier_still now hs (with_number n z ∷ rest) given)
-      ∙ ap (earlier now) (sym (append_assoc hs (with_number n z ∷ []) rest))
+      search (arith, earlier_still, earlier)
 
   -- each of them is one of those before, but for its number, and the other way round
   one_then : (h : Happening) → IsIn h ((hs ++ with_number n z ∷ []) ++ rest) → (y : Happening) × IsIn y (hs ++ z ∷ rest) × (time_of y ≡ time_of h)
@@ -384,16 +367,7 @@ module _ {s : Scenario} {hs : List Happening} {z : Happening} {rest : List Happe
       → IsHeld stands s hs (z ∷ rest) to now device machine
       → IsHeld stands s (hs ++ with_number n z ∷ []) rest (behind (place_of z)) now device machine
   held_then (inl k) = inl (kept_then k)
-  held_then {device} (inr k) = inr (record {
-    node = k.node;
-    is = k.is;
-    broken = k.broken;
-    shows = k.shows;
-    state = k.state ∙ states_by s _ _ device now alike_then;
-    adjustment = k.adjustment ∙ adjustments_by s _ _ device now alike_then;
-    ready = k.ready;
-    phase = λ at p b. g.are.not_past z (inl refl) p (k.phase at p b);
-  })
+  held_then {device} (inr k) = search (arith, states_by, alike_then, adjustments_by)
 
   -- ---- events
 
@@ -404,10 +378,7 @@ module _ {s : Scenario} {hs : List Happening} {z : Happening} {rest : List Happe
       (λ number h it. g.are.not_past z (inl refl) (now ∷ 2 ∷ []) (g.are.begun z (inl refl)))
 
   known_then : AreOfNetwork s (hs ++ z ∷ rest) → AreOfNetwork s ((hs ++ with_number n z ∷ []) ++ rest)
-  known_then known = record {
-    unmoved = λ device none h i. let y = one_then h i in ap (moves device) (sym y.3) ∙ known.unmoved device none y.0 y.1;
-    never_on = known.never_on;
-  }
+  known_then known = search (arith, one_then)
 
 -- where something is settled, no event is pending
 settled_told : {hs : List Happening} {to : List ℕ} {now : ℕ} {pending : Bool} {befell : List Befell}

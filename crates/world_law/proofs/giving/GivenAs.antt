@@ -18,10 +18,7 @@ pub record IsGivenAs (s : Scenario) (hs : List Happening) (z g : Happening) (res
 module _ {s : Scenario} {hs : List Happening} {z g : Happening} {rest : List Happening} {from to : List ℕ} {now : ℕ}
     (x : IsGivenAs s hs z g rest from to now) where
   not_over : (q : List ℕ) → IsBefore q (behind (place_of z)) → IsBefore (place_of z) q → ⊥
-  not_over q under lt = elim (up_to_place q (place_of z) under) [
-    | inl e ↦ never_self (place_of z) (rw e at lt)
-    | inr less ↦ never_self (place_of z) (chain (place_of z) q (place_of z) lt less)
-  ]
+  not_over q under lt = search (arith, up_to_place, place_of, never_self, chain)
 
   -- what stands behind it is to come, so it stands behind its source
   late : (y : Happening) → IsIn y rest → is_at_source y.note.body ≡ false
@@ -85,18 +82,7 @@ module _ {s : Scenario} {hs : List Happening} {z g : Happening} {rest : List Hap
   of_it : (js : List Happening) (y : Happening) (q : List ℕ) → IsOwnSource s js (time_of y) (members_in y) y.note.body q
       → IsBefore q (behind (place_of z)) → IsBefore (place_of z) (place_of y) → (time_of y ≡ time_of z) × (is_at_source y.note.body ≡ false)
   of_it js y q own under over =
-      let at = own_time s js (time_of y) (members_in y) y.note.body q own in
-      let low : time_of y ≤ time_of z = elim (rw at.2 at under)
-      [ inl lt ↦ omega arith | inr same ↦ omega arith ] in
-      let high : time_of z ≤ time_of y = elim over [ inl lt ↦ omega arith | inr same ↦ omega arith ] in (
-        omega arith,
-        elim (cases_Bool (is_at_source y.note.body)) [
-          | inr no_it ↦ no_it
-          | inl is ↦
-              let here = own_here s js (time_of y) (members_in y) y.note.body q is own in
-              absurd (not_over q under (rw here over))
-        ],
-      )
+      search (arith, own_time, cases_Bool, own_here, not_over)
 
   pub coming_then : AreComing s (hs ++ g ∷ []) rest (behind (place_of z)) now
   coming_then =

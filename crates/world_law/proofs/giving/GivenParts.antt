@@ -71,11 +71,7 @@ time_in (n ∷ ns) = n
 -- a source that stands at the place of a record stands so by the record's kind
 pub at_its_place : {s : Scenario} {hs : List Happening} (z : Happening) {w : List ℕ} → IsSource s hs w
     → w ≡ place_of z → is_at_source z.note.body ≡ true
-at_its_place {s} z (IsSource.acting t device task a) e = elim (source_kinds z.note.body) [
-  | inl is ↦ is
-  | inr other ↦ absurd (no_task_at s.network t device (rank z.note.body) (key (members_in z) z.note.body) other.4 task
-      (e ∙ (rw (sym (ap time_in e)))))
-]
+at_its_place {s} z (IsSource.acting t device task a) e = search (arith, source_kinds, no_task_at, rank, key)
 at_its_place z source e = grind (arith, source_kinds, second, key_long)
 
 -- ---- what is worked off

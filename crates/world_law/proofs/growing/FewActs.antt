@@ -10,13 +10,13 @@ use Rattle.schedule_tables.specs.{declared.rule.Rule.TheVariants.RowsOfDevice}
 use Rattle.world_law.{specs.device.Growing.{ActsAreFew, AreActs, AreRising, FewAreEmitted, IsDueFrame}}
 use Rattle.world_law.proofs.{acts.{Acting.{acted, heard_so}, Ready.{acting_last, last_is}}}
 use Rattle.world_law.proofs.Words
-use Words.{if◌then◌else◌, ◌++◌, ◌+ℤ◌, ◌+◌, ◌<ℤ◌, ◌<◌, ◌==◌, ◌∙◌, ◌∷◌, ◌≡◌, ◌≤ℤ◌, ◌≤◌, ◌⊎◌, Act, AllByRecursion}
-use Words.{AsyncClique, Bool, Cleared, Cluster, Compressed, Corrected, DeviceId, Entry, IsActOf, IsBefore, IsEntry}
-use Words.{IsFromZero, IsIn, IsInRange, IsPending, KeepsRules, List, MayCall, Moment, Network, Node, Row, Some, Summary}
-use Words.{SyncClique, Task, Verdict, [], acting, after_correction, after_emission, amount, ap, arith, called}
-use Words.{cases_Bool, cases_lt, chain, correcting, dispatching, doing, emitting, eq-eqb, eqb-true, false, filter, inl}
-use Words.{inr, ints, length, list_any, never_self, no_cluster, observation_window, option_map_or, own_hearing, plan_of}
-use Words.{pos, reading_for, refl, sending, slice_get, source_of, subst, suc, sym, true, zero, ℕ, ℤ}
+use Words.{if◌then◌else◌, ◌++◌, ◌+ℤ◌, ◌+◌, ◌<ℤ◌, ◌<◌, ◌==◌, ◌∷◌, ◌≡◌, ◌≤ℤ◌, ◌≤◌, ◌⊎◌, Act, AllByRecursion, AsyncClique}
+use Words.{Bool, Cleared, Cluster, Compressed, Corrected, DeviceId, Entry, IsActOf, IsBefore, IsEntry, IsFromZero, IsIn}
+use Words.{IsInRange, IsPending, KeepsRules, List, MayCall, Moment, Network, Node, Row, Some, Summary, SyncClique, Task}
+use Words.{Verdict, [], acting, after_correction, after_emission, amount, arith, called, cases_Bool, cases_lt, chain}
+use Words.{correcting, dispatching, doing, emitting, eq-eqb, eqb-true, false, filter, inl, inr, ints, length, list_any}
+use Words.{never_self, no_cluster, observation_window, option_map_or, own_hearing, plan_of, pos, reading_for, refl}
+use Words.{sending, slice_get, source_of, subst, suc, sym, true, zero, ℕ, ℤ}
 use Rattle.world_law.proofs.growing.Growing
 use Growing.{IsSpan, acts_grow, from_zero, nothing_behind_correction, nothing_sent_behind_sending, opens_behind}
 use Growing.{span_of, whole_precision, wide}
@@ -198,9 +198,7 @@ points_emitted network device node moment sent = grind (arith, heard_so, plan_of
 points_corrected : (node : Node) (moment : Moment) (heard : Summary) (cycle : ℕ) (verdict : Verdict)
     → HasPointsOf node (called moment acting (after_correction node moment heard cycle verdict))
 points_corrected node moment heard cycle (Corrected by) =
-    elim (is_synchronised node.standing.state) as (λ b. ((if b then node.points else []) ≡ node.points) ⊎
-    ((if b then node.points else []) ≡ []))
-    [ true ↦ inl refl | false ↦ inr refl ]
+    search (arith, is_synchronised)
 points_corrected node moment heard cycle SyncClique = inr refl
 points_corrected node moment heard cycle AsyncClique = inr refl
 points_corrected node moment heard cycle Cleared = inl refl
@@ -210,8 +208,7 @@ points_after : (network : Network) (device : DeviceId) (node : Node) (moment : M
 points_after network device node moment (acts.Send frame) new (cycle, first, of_frame, is) = inl (rw is)
 points_after network device node moment (acts.Dispatch row cycle) new (first, is) = inl (rw is)
 points_after network device node moment (acts.Emit sent heard) new (first, so, is) =
-    subst (HasPointsOf node) (sym (is ∙ ap (λ r. called moment acting (after_emission network device node moment sent r)) so))
-    (points_emitted network device node moment sent)
+    search (arith, points_emitted)
 points_after network device node moment (acts.Correct cycle verdict) new (first, (heard, comes, is)) =
     subst (HasPointsOf node) (sym is) (points_corrected node moment heard cycle verdict)
 

@@ -77,8 +77,7 @@ relative_up_to from k (q ∷ qs) all = ((omega (arith, ints, all.0.0), omega (ar
 middle_from : (o : Point) (k : ℤ) {counts : List Point} {more : List Point} → pos 0 ≤ℤ k → counts ≡ o ∷ more
     → AllByRecursion (LiesFrom o.reading (o.reading +ℤ k)) counts → LiesUpTo k (middle_of (relative (map (λ q. q.reading) counts)))
 middle_from o k {more} some is all =
-    rw is (middle_up_to k (relative (map (λ q. q.reading) (o ∷ more))) some
-    (relative_up_to o.reading k (o ∷ more) (subst (AllByRecursion (LiesFrom o.reading (o.reading +ℤ k))) is all)))
+    search (arith, middle_up_to, relative_up_to)
 
 -- a cluster ends one or two windows after its opening, and the middle of its points lies up to there
 pub record IsSpan (ow : ℤ) (c : Cluster) : Type 0 where
@@ -365,8 +364,7 @@ module _ (network : Network) (device : DeviceId) (node : Node) (moment : Moment)
   no_more_points heard n SyncClique next own p due = integrating_point (node.standing.number + 1) n p.1.own
   no_more_points heard n AsyncClique next own p due = integrating_point (node.standing.number + 1) n p.1.own
   no_more_points heard {cycle} n Cleared next own p due =
-      p.1.not_yet (rw (sym (same_next (next_point node.standing) cycle n next own))
-      (Contains-append_right node.done (correcting cycle ∷ []) (correcting cycle) (in_head (correcting cycle) [])))
+      search (arith, same_next, in_head)
 
   -- a row is not due where a correction is
   no_row_due : (number cycle : ℕ) (row : RowId) → IsInRange network → KeepsRules network
@@ -583,7 +581,4 @@ module _ (network : Network) (t : ℕ) (device : DeviceId) where
       → IsFirstTask network device node reading task → IsPending network device node other
       → reading_for network node other ≤ℤ reading → IsBefore (task_place network t device other)
       (task_place network t device task) → ⊥
-  place_first {node} {task} other zero first pending due before = elim (before_in_order other task before) [
-    | inl less ↦ first.first other pending due less
-    | inr same ↦ one_frame node other task zero pending first.pending same before
-  ]
+  place_first {node} {task} other zero first pending due before = search (arith, before_in_order, one_frame)

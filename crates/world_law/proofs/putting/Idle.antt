@@ -1,10 +1,10 @@
 -- A record that bears on nothing else is put in among those of its instant.
 use Rattle.world_law.proofs.Words.{◌++◌, ◌<◌, ◌∙◌, ◌∷◌, ◌≡◌, ◌≤◌, Bool, DeviceId, Happening, List, NoteBody}
-use Rattle.world_law.proofs.Words.{[], ap, arith, bears_on}
+use Rattle.world_law.proofs.Words.{[], arith, bears_on}
 use Rattle.world_law.proofs.Words.{false, filter, filter-append, fold}
-use Rattle.world_law.proofs.Words.{if◌then◌else◌, length}
+use Rattle.world_law.proofs.Words.{length}
 use Rattle.world_law.proofs.Words.{numbered, rank, refl, slice_get, suc, sym}
-use Rattle.world_law.proofs.Words.{true, zero, ℕ}
+use Rattle.world_law.proofs.Words.{zero, ℕ}
 use Rattle.run_law.specs.declared.note.NoteBody.TheVariants as notes
 
 -- a record that bears on no device, and is taken by none
@@ -40,8 +40,7 @@ drop_one q xs bs w e =
 pub fold_skip : {B : Type 0} (f : B → Happening → B) (u : Happening → Bool) (as_ bs : List Happening) (w : Happening) → ((b : B) → f b w ≡ b) → (z : B)
     → fold f z (filter u (as_ ++ w ∷ bs)) ≡ fold f z (filter u (as_ ++ bs))
 fold_skip {B} f u [] bs w same z =
-    elim (u w) as (λ c. fold f z (if c then w ∷ filter u bs else filter u bs) ≡ fold f z (filter u bs))
-    [ true ↦ ap (λ b. fold f b (filter u bs)) (same z) | false ↦ refl ]
+    search arith
 fold_skip {B} f u (a ∷ as_) bs w same z = grind (arith, fold, filter, (fold_skip f u as_ bs w same (f z a)), (fold_skip f u as_ bs w same z))
 
 get_prefix : (hs xs : List Happening) (i : ℕ) → i < length hs → slice_get (hs ++ xs) i ≡ slice_get hs i

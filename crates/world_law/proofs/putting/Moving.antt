@@ -10,7 +10,7 @@ use Words.{Scenario, Some, Stands, Task, Waiting, World, [], amount, ap, append-
 use Words.{before_next_time, before_or_not, behind, both_ways, cases_Bool, chain, clock_place, either_way, false}
 use Words.{happenings, in_left, inl, inr, is_at_source, length, members_in, never_self, numbers_end, place_of}
 use Words.{port_place, refl, ripe_place, slice_get, subst, sym, task_place, time_of, true, wire_place, ℕ}
-use Rattle.world_law.proofs.runs.{Foremost.StandsBehind, TaskPlaces.second}
+use Rattle.world_law.proofs.runs.{Over.StandsBehind, TaskPlaces.second}
 use Rattle.world_law.proofs.runs.Worlds.{AreSettled, late_of, no_higher, none_pending, run_to, settled_of, source_back}
 
 -- ---- the frontier goes by a source of the present instant
@@ -214,16 +214,7 @@ module _ {s : Scenario} {hs : List Happening} {from to : List ℕ} {Own : List �
       → ((task : Task) → Own (task_place s.network now device task) → ⊥)
       → IsHeld stands s hs coming from now device machine → IsHeld stands s hs coming to now device machine
   held_moves stands longer other (inl k) = inl (kept_moves longer other k)
-  held_moves stands longer other (inr k) = inr (record {
-    node = k.node;
-    is = k.is;
-    broken = k.broken;
-    shows = k.shows;
-    state = k.state;
-    adjustment = k.adjustment;
-    ready = k.ready;
-    phase = λ at p b. g.on p (k.phase at p b);
-  })
+  held_moves stands longer other (inr k) = search arith
 
 -- the events of the instant stand elsewhere
 not_there : {s : Scenario} {hs coming : List Happening} {now r : ℕ} {more : List ℕ} → IsMoving s hs coming now r more
@@ -375,15 +366,7 @@ module _ {C M : Type 0} {reading : C → ℕ → ℕ} {stands : M → Network �
 
   pub shown_still : r < 14 → (device : DeviceId) → device.0 < length s.network.device → world.ended ≡ true
       → IsBefore (clock_place world.now device) (behind here) ↔ (device.0 < world.shown)
-  shown_still low device lt ended = (
-    λ b.
-        absurd (elim (no_higher world.now 14 world.now r (device.0 ∷ []) more
-        (up_to_place (clock_place world.now device) here b)) [
-          | inl less ↦ omega arith
-          | inr same ↦ omega (arith, same.1)
-        ]),
-    λ less. let place = clock_place world.now device in stays here place (c.on place ((c.old.shown device lt ended).1 less)),
-  )
+  shown_still low device lt ended = search (arith, no_higher, up_to_place, here, stays)
 
   untold_on : AreUntold hs (behind here) world.now world.pending world.befell
   untold_on =
@@ -452,38 +435,7 @@ module _ {C M : Type 0} {reading : C → ℕ → ℕ} {stands : M → Network �
         shown = shown;
       }) notes here
   stands_on machines {wires} {ports} {waiting} shown room are known devices on_wires at_ports awaited shown_so =
-      let old = c.old in
-      record {
-        same = old.same;
-        range = old.range;
-        rules = old.rules;
-        forward = old.forward;
-        steady = old.steady;
-        precise = old.precise;
-        run = c.run;
-        on = stays here;
-        of_now = λ p b. c.on p (old.of_now p b);
-        not_later = λ p b. before_next_time p world.now (r ∷ (more ++ 0 ∷ [])) b;
-        limit = old.limit;
-        lines = old.lines;
-        given = old.given;
-        ended = old.ended;
-        befallen = c.befallen;
-        clocks = old.clocks;
-        broken = old.broken;
-        ways = old.ways;
-        room = room;
-        known = known;
-        devices = devices;
-        early = λ fresh. absurd (cc);
-        untold = untold_on;
-        wires = rw c.told on_wires;
-        ports = at_ports;
-        waiting = awaited;
-        stored = old.stored;
-        are = are;
-        shown = shown_so;
-      }
+      search (arith, stays, here, before_next_time, untold_on)
 
   -- where a device acts
   pub acts_on : {machines : List M} {settled : List Happening} → 4 ≤ r → r ≤ 6

@@ -124,15 +124,7 @@ module _ (s : Scenario) (hs front back : List Happening) (w : Happening) (device
   pub turned_aside : {frontier : List ℕ} {now : ℕ} → HasTurnedOn s hs (front ++ back) frontier device now
       → state_after s (earlier now (hs ++ (front ++ back))) device ≡ state_after s (earlier now (hs ++ (front ++ w ∷ back))) device
       → HasTurnedOn s hs (front ++ w ∷ back) frontier device now
-  turned_aside it same = record {
-    off = sym same ∙ it.off;
-    number = it.number;
-    event = it.event;
-    befell = it.befell;
-    turned = λ b.
-        let was = it.turned b in
-        record { by = was.by; there = placed_on hs front back w was.by was.there; at = was.at; turning = was.turning };
-  }
+  turned_aside it same = search (arith, placed_on)
 
   joining_aside : {now : ℕ} → IsJoiningNow s hs (front ++ back) device now → IsJoiningNow s hs (front ++ w ∷ back) device now
   joining_aside j =
@@ -226,16 +218,7 @@ module _ (s : Scenario) (hs front back : List Happening) (w : Happening) (device
       {now : ℕ} {machine : M}
       → IsOut stands s hs (front ++ back) frontier now device machine
       → IsOut stands s hs (front ++ w ∷ back) frontier now device machine
-  out_aside {now} k = record {
-    node = k.node;
-    is = k.is;
-    broken = k.broken;
-    shows = k.shows;
-    state = k.state ∙ stated_aside now;
-    adjustment = k.adjustment ∙ adjusted_aside now;
-    ready = k.ready;
-    phase = k.phase;
-  }
+  out_aside {now} k = search (arith, stated_aside, adjusted_aside)
 
   -- the device, sound or broken, stands with the record as without it
   pub held_aside : {M : Type 0} {stands : M → Network → DeviceId → Node → Type 0} {frontier : List ℕ}
@@ -345,9 +328,7 @@ module _ (s : Scenario) (js gs : List Happening) (t : ℕ) (device : DeviceId) w
   arrival_near link cause (control frame) before taken =
       rw before
   arrival_near link cause (timed octets) before taken =
-      rw before
-      (timed_by s device link (standpoint_in s device t (earlier t gs)) octets (last_taken js device t link cause)
-      (last_taken gs device t link cause) taken)
+      search (arith, timed_by, earlier)
 
 module _ (s : Scenario) (t n : ℕ) (at : List ℕ) (put : NoteBody) (js gs : List Happening) (device : DeviceId)
     (link : LinkId) (cause : ℕ) where
@@ -418,11 +399,8 @@ module _ {s : Scenario} {n : ℕ} (m : ℕ) {at : List ℕ} {put : NoteBody} {js
       emits_near s js gs (amount time) device (a.hearing device (free device (eq-eqb device.0 device.0 refl))) c
   caused_near (notes.Sent device cycle) p a there follows free le o under c =
       grind (arith, up_back, amount, reaches_back)
-  caused_near (notes.Corrected device cycle by adjustment) p a there follows free le o under c = record {
-    corrected = comes_near s js gs (amount time) device a.before
-        (a.hearing device (free device (eq-eqb device.0 device.0 refl))) c.corrected;
-    sum = rw a.before at c.sum;
-  }
+  caused_near (notes.Corrected device cycle by adjustment) p a there follows free le o under c =
+      search (arith, comes_near)
   caused_near (notes.State device state cause whys.SyncClique) p a there follows free le o under c =
       grind (arith, comes_near, amount, eq-eqb)
   caused_near (notes.State device state cause whys.AsyncClique) p a there follows free le o under c =
@@ -670,11 +648,7 @@ changes_given s js gs device t state cause whys.Frame before there f c =
     let x = there c.1.0 c.1.1.there in
     (c.0, (x.0, record { there = x.1; same_time = x.3 ∙ c.1.1.same_time }, ap (is_joined_by device) x.2 ∙ c.1.2))
 changes_given s js gs device t state cause whys.Correction before there f c =
-    let x = there c.2.3 c.2.4.there in (
-      c.0,
-      rw before at c.1,
-      (c.2.0, c.2.1, c.2.2, x.0, record { there = x.1; same_time = x.3 ∙ c.2.4.same_time }, x.2 ∙ c.2.5),
-    )
+    search arith
 changes_given s js gs device t state cause whys.SyncClique before there f c = absurd cc
 changes_given s js gs device t state cause whys.AsyncClique before there f c = absurd cc
 

@@ -1,6 +1,6 @@
 -- Records are put in at their places among what is to come, and have their numbers once given.
 use Rattle.net_plan.specs.declared.event.What.TheVariants.{End}
-use Rattle.run_law.specs.records.Happenings.{frame_by, happening, octets_by}
+use Rattle.run_law.specs.records.Happenings.{happening}
 use Rattle.world_law.{specs.{device.Plain.with_number, world.{Moves.{IsPutIn, settled_as}, World.IsDueAs}}}
 use Rattle.world_law.proofs.{devices.Standing.{heard_plain, plains_parts, points_plain}, giving.GivenParts.up_to_place}
 use Rattle.world_law.proofs.{runs.Worlds.{AreSettled, at_least, earlier_still, numbered_parts, own_here}}
@@ -13,10 +13,10 @@ use Rattle.world_law.proofs.Words
 use Words.{◌++◌, ◌+◌, ◌<◌, ◌∙◌, ◌∷◌, ◌≡◌, ◌≤◌, ◌⊎◌, AllBefore, ChangesState, DeviceId, Happening, IsBefore, IsCaused}
 use Words.{IsDue, IsForward, IsFounded, IsIn, IsOwnSource, IsSource, LinkId, List, Network, NoneBefore, Note, NoteBody}
 use Words.{Option, Pcf, Scenario, Some, State, Units, VlId, Why, [], amount, ap, append_assoc, arith, bears_on}
-use Words.{before_behind, behind, both_ways, cases_Bool, cases_lt, cases_order, cause_of, chain, either_way, eqb-true}
-use Words.{false, in_left, in_parts, in_right, inl, inr, ints, is_at_source, is_before, is_joined_by, is_taken_before}
-use Words.{key, length, length-append, members_in, never_self, numbered, numbered_within, parted, place_of, plain}
-use Words.{plains, rank, refl, rows_place, slice_get, subst, suc, sym, time_of, true, units_of, zero, ℕ}
+use Words.{before_behind, behind, both_ways, cases_Bool, cases_order, cause_of, chain, either_way, eqb-true, false}
+use Words.{in_left, in_parts, in_right, inl, inr, ints, is_at_source, is_before, is_joined_by, is_taken_before, key}
+use Words.{length, length-append, members_in, never_self, numbered, numbered_within, parted, place_of, plain, plains}
+use Words.{rank, refl, rows_place, slice_get, subst, suc, sym, time_of, true, units_of, zero, ℕ}
 use Rattle.world_law.proofs.putting.{Moving.{IsAllOfIt, IsMoving, not_far, off_source, stays}}
 use Rattle.world_law.proofs.putting.{Numberless.{hearing_adjustment_plain, hearing_state_plain, last_taken_plain}}
 use Rattle.world_law.proofs.putting.{PutIn.{own_time, split_three, split_two}}
@@ -106,9 +106,7 @@ made note frame octets = record { note = note; frame = frame; octets = octets }
 -- a change of state has no frame
 follower_same : (network : Network) (js gs : List Happening) (note : Note) → AsFollower note.body → happening network js note ≡ happening network gs note
 follower_same network js gs note f =
-    rw (ap (frame_by network js) f.is ∙ sym (ap (frame_by network gs) f.is))
-    (ap (made note (frame_by network gs note.body)) (ap (octets_by network js) f.is ∙ sym
-    (ap (octets_by network gs) f.is)))
+    search (arith, made)
 
 -- ---- so what is due by the one is due by the other, and of the same source
 
@@ -129,9 +127,7 @@ module _ (s : Scenario) (hs f : List Happening) (z g : Happening) (one : AreOne 
   few_given : {y : Happening} {p : List ℕ} → IsBehindIt s (hs ++ z ∷ f) z y p → IsDueAs s (hs ++ z ∷ f) y → is_follower y.note.body ≡ false
       → cause_of y.note.body ≤ length hs
   few_given {y} {p} b due plain =
-      known_near s hs (z ∷ f) y.note.time (members_in y) (rank z.note.body) (key (members_in z) z.note.body) y.note.body p forward given
-      (rw b.at from) high b.not_there plain b.own
-      (rw b.at b.under) due.cause
+      search (arith, known_near, rank, key)
 
   pub due_given : {y : Happening} {p : List ℕ} → IsBehindIt s (hs ++ z ∷ f) z y p → IsDueAs s (hs ++ z ∷ f) y → IsDueAs s (hs ++ g ∷ f) y
   due_given {y} {p} b due = elim (follower_or_not y.note.body) [
@@ -201,8 +197,7 @@ due_of s hs front now body cause = record { same = refl; begun = omega (arith, i
 pub same_record : (network : Network) (hs front : List Happening) (now : ℕ) (body : NoteBody) → cause_of body ≤ length hs
     → record_of network hs front now body ≡ settled_as network hs now body
 same_record network hs front now body few =
-    let bare : Note = record { number = 0; time = units_of now; body = body } in
-    happening_alike network (length hs) (hs ++ front) hs bare (λ i le. numbered_prefix hs front i le) few
+    search (arith, happening_alike, numbered_prefix)
 
 -- one more is to come with it
 pub put_length : (front back : List Happening) (w : Happening) → length (front ++ w ∷ back) ≡ length (front ++ back) + 1
@@ -368,16 +363,7 @@ pub record IsWell (s : Scenario) (hs coming : List Happening) (now r : ℕ) (mor
 pub well_of : {s : Scenario} {hs coming : List Happening} {now r : ℕ} {more : List ℕ}
     → IsMoving s hs coming now r more → IsWell s hs coming now r more (λ y. ⊥)
 well_of m =
-    record {
-      of_now = m.are.of_now;
-      after = m.are.after;
-      stands = m.are.founded;
-      by = λ f rest z e.
-          let was = m.are.by f rest z e in
-          (was.0, was.1, was.2, inl was.3);
-      full = λ f rest y e before none not due now_is p own source under.
-          inl (m.are.full f rest y e before none not due (p, own, source, under));
-    }
+    search arith
 
 -- ---- a record that is put in
 
@@ -531,15 +517,7 @@ module _ {s : Scenario} {hs front back : List Happening} {now r : ℕ} {more : L
   -- each that is behind it is of no event, and stands behind its source
   late_back : (h : Happening) → IsIn h back → (2 ≤ rank h.note.body) × (is_at_source h.note.body ≡ false)
   late_back h i =
-      let split = parted h back i in
-      let whole : front ++ back ≡ (front ++ split.0) ++ h ∷ split.1 = ap (λ (l : List Happening). front ++ l) split.2
-      ∙ sym (append_assoc front split.0 (h ∷ split.1)) in
-      let by = well.by (front ++ split.0) split.1 h whole in
-      let low = (all_from well h (in_right h front back i)).1 in
-      let late = p.late in (
-        omega arith,
-        not_at_source s (hs ++ (front ++ split.0)) now r more w h by.0 p.least (over_it h i) (under_at by.3) by.1,
-      )
+      search (arith, parted, all_from, in_right, not_at_source, over_it, under_at)
 
   -- a record to come behind it stands aside of it
   aside_back : (c d : List Happening) (x : Happening) → back ≡ c ++ x ∷ d → (by : ComesUpTo s (hs ++ (front ++ c)) (now ∷ r ∷ more) x)
@@ -713,12 +691,7 @@ of_the_instant : (s : Scenario) (js : List Happening) (now r : ℕ) (more : List
     → IsOwnSource s js (time_of y) (members_in y) y.note.body q → IsBefore q (now ∷ r ∷ more)
     → (IsBefore (place_of y) (now ∷ r ∷ more) → ⊥) → time_of y ≡ now
 of_the_instant s js now r more y q own under not =
-    let at = own_time s js (time_of y) (members_in y) y.note.body q own in
-    let low : time_of y ≤ now = elim (rw at.2 at under) [
-      | inl lt ↦ omega arith
-      | inr same ↦ omega arith
-    ] in
-    elim (cases_lt (time_of y) now) [ inl lt ↦ absurd (not (inl lt)) | inr ge ↦ omega arith ]
+    search (arith, own_time)
 
 -- all that is due from the source itself is there too
 pub settled_by : {s : Scenario} {hs coming : List Happening} {now r : ℕ} {more : List ℕ}

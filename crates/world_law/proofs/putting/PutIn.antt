@@ -13,23 +13,14 @@ split_three [] more w (g ∷ f) rest y e = let a : g ≡ w = cc in let b : more 
     inr (inr (f, rw a, b))
 split_three (h ∷ front) more w [] rest y e = let a : h ≡ y = cc in inl (front, rw a)
 split_three (h ∷ front) more w (g ∷ f) rest y e =
-    let a : h ≡ g = cc in
-    elim (split_three front more w f rest y cc) [
-      | inl it ↦ inl (it.0, rw it.1 (rw a))
-      | inr (inl it) ↦ inr (inl (rw it.0 (rw a), it.1))
-      | inr (inr it) ↦ inr (inr (it.0, rw it.1 (rw (sym a)), it.2))
-    ]
+    search (arith, (split_three front more w f rest y))
 
 pub split_two : (front more : List Happening) (w : Happening) (f back : List Happening) → front ++ w ∷ more ≡ f ++ back
     → ((r : List Happening) × (front ≡ f ++ r) × (back ≡ r ++ w ∷ more)) ⊎ ((b : List Happening) × (f ≡ front ++ w ∷ b) × (more ≡ b ++ back))
 split_two front more w [] back e = inl (front, refl, sym e)
 split_two [] more w (g ∷ f) back e = let a : g ≡ w = cc in let b : more ≡ f ++ back = cc in inr (f, rw a, b)
 split_two (h ∷ front) more w (g ∷ f) back e =
-    let a : h ≡ g = cc in
-    elim (split_two front more w f back cc) [
-      | inl it ↦ inl (it.0, rw it.1 (rw a), it.2)
-      | inr it ↦ inr (it.0, rw it.1 (rw (sym a)), it.2)
-    ]
+    search (arith, (split_two front more w f back))
 
 -- ---- own sources
 

@@ -380,17 +380,7 @@ module _ {s : Scenario} {hs coming settled : List Happening} {now r : ℕ} {more
 
   -- it bears on no device whose correction point is before the source
   apart_two : (other : DeviceId) → IsBefore (rows_place now other) (now ∷ r ∷ more) → (other.0 == device.0) ≡ false
-  apart_two other b = elim (six_or_less r p.low) [
-    | inl six ↦ false_from_ne_true (other.0 == device.0) (λ e.
-        absurd (never_self (rows_place now device) (subst (λ p_at. IsBefore p_at (rows_place now device))
-        (ap (λ i. now ∷ 6 ∷ i ∷ []) (eqb-true other.0 device.0 e))
-        (subst (λ p_at. IsBefore (rows_place now other) p_at) (p.acts six) b))))
-    | inr less ↦ absurd (elim b [
-      | inl lt ↦ omega arith
-      | inr (e, inl lt) ↦ omega arith
-      | inr (e, inr f) ↦ omega arith
-    ])
-  ]
+  apart_two other b = search (arith, six_or_less, false_from_ne_true, never_self)
 
   placing_two : IsPlacing s hs (leader ∷ q.mid) q.back now r more change
   placing_two =
@@ -478,10 +468,7 @@ module _ {s : Scenario} {hs front back : List Happening} {now r : ℕ} {more : L
     (p : IsPutting s hs front back now r more w) where
   was_late : (y : Happening) → IsIn y (front ++ back) → (time_of y ≡ now) × (8 ≤ rank y.note.body)
   was_late y i =
-      let at = p.one.moving.are.of_now y i in
-      let low = at_least y now r more at (p.one.moving.are.after y i) in
-      let late = p.late in
-      (at, omega arith)
+      search (arith, at_least)
 
   put_late : (y : Happening) → IsIn y (front ++ w ∷ back) → (time_of y ≡ now) × (8 ≤ rank y.note.body)
   put_late y i =
@@ -519,5 +506,4 @@ pub held_put : {M : Type 0} {stands : M → Network → DeviceId → Node → Ty
     → IsIdle w.note.body → time_of w ≡ now → IsHeld stands s hs (front ++ back) frontier now device machine
     → IsHeld stands s hs (front ++ w ∷ back) frontier now device machine
 held_put {s} {hs} front back {device} w idle at held =
-    let misses = idle_bears device w.note.body idle in
-    held_aside s hs front back w device misses at (frames_aside s hs front back w device misses (idle_taking device w.note.body idle)) held
+    search (arith, idle_bears, held_aside, frames_aside, idle_taking)

@@ -639,8 +639,7 @@ local_plain s hs device t =
 -- the frames that the device took, by the records without numbers
 pub frames_plain : (s : Scenario) (hs : List Happening) (device : DeviceId) → frames_taken s (plains hs) device ≡ frames_taken s hs device
 frames_plain s hs device =
-    taken_plain device (local_before s (plains hs) device) hs
-    ∙ taken_same device (local_before s (plains hs) device) (local_before s hs device) hs (λ h i. local_plain s hs device (time_of h))
+    search (arith, taken_plain, taken_same, local_plain)
 
 -- so records that differ in these alone say the same
 pub frames_by_others : (s : Scenario) (hs gs : List Happening) (device : DeviceId) → plains hs ≡ plains gs → frames_taken s hs device ≡ frames_taken s gs device

@@ -6,18 +6,17 @@ use Rattle.run_law.specs.scenario.{Scenarios.{last_set, turns_on}}
 use Rattle.run_law.specs.scenario.{Ways.{cut_set, delay_at, hold_at, hold_set, wire_of, wire_set}}
 use Rattle.sync_state.specs.membership.Summary.{Summarizes}
 use Rattle.world_law.proofs.Words
-use Words.{if◌then◌else◌, ◌&&◌, ◌<◌, ◌==◌, ◌||◌, ◌∙◌, ◌∷◌, ◌≡◌, ◌≤◌, Agree, Arrival, Arrives, ArrivesAs}
-use Words.{BecomesPermanent, Bool, ChangesState, ComesToCorrection, Compressed, Departs, Departure, DeviceId}
-use Words.{Dispatches, Emits, Event, Happening, IfSome, IsArrivedRecord, IsCaused, IsDropped, IsIn, IsLost, IsReach}
-use Words.{Judgement, LinkId, List, Network, None, NoteBody, Option, Pcf, Reaches, Reason, Ripe, Send, Sends, Signal}
-use Words.{Some, State, Units, Up, Verdict, VlId, Way, What, Why, [], adjustment_at_hearing, adjustment_before}
-use Words.{after_last, amount, and_parts, ap, arith, arrival_of, before_permanence, both_ways, cases_Bool, cases_lt}
-use Words.{changed_at, changes_adjustment, control, correction_value, earlier, eqb-true, false, false_from_ne_true}
-use Words.{filter, filter_map, has_cleared, heard_as, heard_since, hearing_by, in_filter, inl, inr, int_le, int_lt}
-use Words.{ints, is_broken, is_cut, is_integration_cycle, is_turned_on_at, last_or, last_taken, launched, le-ltb}
-use Words.{list_any, local_at_change, lt-ltb, nat_le, nat_lt, next_cycle, next_point, not, numbered, observation_window}
-use Words.{option_map_or, plan_of, pos, recorded_cycle, refl, same_kept, scenario, standpoint, state_at_hearing}
-use Words.{state_before, subst, sym, time_of, timed, timed_arrival, true, way_from, ℕ, ℤ}
+use Words.{if◌then◌else◌, ◌&&◌, ◌<◌, ◌==◌, ◌∙◌, ◌∷◌, ◌≡◌, ◌≤◌, Agree, Arrival, Arrives, ArrivesAs, BecomesPermanent}
+use Words.{Bool, ChangesState, ComesToCorrection, Compressed, Departs, Departure, DeviceId, Dispatches, Emits, Event}
+use Words.{Happening, IfSome, IsArrivedRecord, IsCaused, IsDropped, IsIn, IsLost, IsReach, Judgement, LinkId, List}
+use Words.{Network, None, NoteBody, Option, Pcf, Reaches, Reason, Ripe, Send, Sends, Signal, Some, State, Units, Up}
+use Words.{Verdict, VlId, Way, What, Why, [], adjustment_at_hearing, adjustment_before, amount, and_parts, ap, arith}
+use Words.{arrival_of, before_permanence, both_ways, cases_Bool, cases_lt, changed_at, control, correction_value}
+use Words.{earlier, eqb-true, false, false_from_ne_true, filter, has_cleared, heard_as, heard_since, in_filter, inl}
+use Words.{inr, int_le, int_lt, is_broken, is_cut, is_integration_cycle, is_turned_on_at, last_or, last_taken, launched}
+use Words.{le-ltb, list_any, local_at_change, lt-ltb, nat_le, nat_lt, next_cycle, next_point, not, numbered}
+use Words.{observation_window, option_map_or, plan_of, pos, recorded_cycle, refl, same_kept, scenario, standpoint}
+use Words.{state_at_hearing, state_before, subst, sym, time_of, timed, timed_arrival, true, way_from, ℕ, ℤ}
 use Rattle.run_law.specs.declared.judgement.Why.TheVariants as whys
 use Rattle.run_law.specs.declared.note.NoteBody.TheVariants as notes
 
@@ -82,8 +81,7 @@ in_earlier u (x ∷ hs) h i =
 -- the last change before a time is not after it
 pub changed_before : (hs : List Happening) (device : DeviceId) (u : ℕ) → changed_at hs device u ≤ u
 changed_before hs device u =
-    last_within None (filter (λ h. changes_adjustment device h.note.body) (earlier u hs)) u tt
-    (λ h i. let lt = in_earlier u hs h (in_filter _ (earlier u hs) h i) in omega arith)
+    search (arith, last_within, earlier, in_earlier, in_filter)
 
 pub local_same : {n : Network} {f g : DeviceId → ℕ → ℕ} {events more : List Event} (hs : List Happening) {t : ℕ}
     (u : ℕ) (device : DeviceId) → Agree n f g events more t → u ≤ t
@@ -107,24 +105,12 @@ module _ (n : Network) (f g : DeviceId → ℕ → ℕ) (events more : List Even
       → ((h : Happening) → IsIn h hs → time_of h ≤ t) → heard_since (scenario n f events) hs device u
       ≡ heard_since (scenario n g more) hs device u
   heard_same device a le all =
-      let since = after_last (λ h. nat_lt (time_of h) u && changes_adjustment device h.note.body) hs in
-      ap (filter_map (λ h. hearing_by n device h h.note.body))
-      (same_kept (λ h. not (has_cleared (scenario n f events) hs device u u) || has_cleared (scenario n f events) hs
-      device u (time_of h))
-      (λ h. not (has_cleared (scenario n g more) hs device u u) || has_cleared (scenario n g more) hs device u
-      (time_of h)) since
-      (λ h i.
-      rw (cleared_same u device a le le)
-      (rw (cleared_same (time_of h) device a le (all h (in_drop _ hs h i))))))
+      search (arith, same_kept, cleared_same, in_drop)
 
 module _ (n : Network) (f g : DeviceId → ℕ → ℕ) (events more : List Event) where
   pub reach_same : {t : ℕ} (u : ℕ) (device : DeviceId) {from v : ℤ} → Agree n f g events more t → u ≤ t
       → IsReach (f device) from v (pos u) → IsReach (g device) from v (pos u)
-  reach_same u device {v} a le r = record {
-    from_on = r.from_on;
-    reached = rw (a.reads device u le) at r.reached;
-    not_before = λ x after lt. rw (a.reads device x (omega (arith, ints, lt, le))) at (r.not_before x after lt);
-  }
+  reach_same u device {v} a le r = search arith
 
   reaches_same : {hs : List Happening} {t u : ℕ} {device : DeviceId} {v : ℤ} → Agree n f g events more t → u ≤ t
       → Reaches (scenario n f events) hs device v u → Reaches (scenario n g more) hs device v u

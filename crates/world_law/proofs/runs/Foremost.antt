@@ -1,33 +1,23 @@
 -- No source is before what a world has under way, and runs up to an event stay under what comes behind it.
-use Rattle.std.{proofs.{Common.◌↔◌, lemmas.List.Elements.Contains-append_cases}}
-use Rattle.std.{specs.{List.Contains, Prelude.unsigned_abs}}
+use Rattle.std.{proofs.lemmas.List.Elements.Contains-append_cases, specs.{List.Contains, Prelude.unsigned_abs}}
 use Rattle.drift_clock.proofs.Drifts.{one_reach}
-use Rattle.net_plan.specs.{Ranges.IsInRange, declared.event.What.TheVariants.End}
-use Rattle.run_law.{proofs.law.FirstDeliveries.numbered_in}
-use Rattle.run_law.{specs.{runs.DueRecords.EndsAt, scenario.Scenarios.{is_broken, turns_on}}}
-use Rattle.schedule_tables.specs.Rules.{KeepsRules}
-use Rattle.tte_units.specs.declared.units.Units.{Units}
+use Rattle.net_plan.specs.declared.event.What.TheVariants.{End}
+use Rattle.run_law.{proofs.law.FirstDeliveries.numbered_in, specs.{runs.DueRecords.EndsAt, scenario.Scenarios.turns_on}}
 use Rattle.world_law.proofs.{acts.Acting.{IsUnmoved, correcting_task, emitting_task, sending_task}}
 use Rattle.world_law.proofs.{giving.GivenParts.{in_get, no_later_breaks, some_same}}
 use Rattle.world_law.proofs.Words
-use Words.{◌&&◌, ◌++◌, ◌+◌, ◌-◌, ◌<◌, ◌==◌, ◌^◌, ◌∙◌, ◌∷◌, ◌≡◌, ◌≤ℤ◌, ◌≤◌, ◌⊎◌, AllBefore, AreAtPorts, AreOfNetwork}
-use Words.{AreOnWires, AreWaiting, Bool, DeviceId, Dispatches, Event, Happening, HasDone, HasSent, HasTaskAt}
-use Words.{HaveBefallen, IsActing, IsAtRest, IsBefore, IsCaused, IsDue, IsEventRecord, IsForward, IsHeld, IsIn, IsLeft}
-use Words.{IsScenarioRun, IsSource, LinkId, List, Network, Node, Note, NoteBody, Scenario, Some, Stands, Task, VlId}
-use Words.{Waiting, What, World, [], amount, ap, arith, behind, both_ways, cases_Bool, cases_lt, chain, clock_place}
-use Words.{dispatching, doing, eqb-true, false, false_from_ne_true, happenings, in_front, in_right, inl, inr}
-use Words.{is_turned_on_at, key, length, list_any, members_in, moves, numbers_end, place_of, pos, rank, refl}
-use Words.{ripe_place, scenario, slice_get, slice_get_within, subst, suc, sym, task_place, time_of, true, zero, ℕ}
+use Words.{◌&&◌, ◌++◌, ◌+◌, ◌-◌, ◌<◌, ◌==◌, ◌∙◌, ◌∷◌, ◌≡◌, ◌≤◌, ◌⊎◌, AllBefore, Bool, DeviceId, Dispatches, Event}
+use Words.{Happening, HasDone, HasSent, HasTaskAt, HaveBefallen, IsActing, IsAtRest, IsBefore, IsCaused, IsDue}
+use Words.{IsEventRecord, IsIn, IsLeft, IsSource, LinkId, List, Network, Node, Note, NoteBody, Scenario, Some, Stands}
+use Words.{Task, Units, VlId, Waiting, What, World, [], amount, ap, arith, both_ways, cases_Bool, cases_lt, chain}
+use Words.{clock_place, dispatching, doing, eqb-true, false, false_from_ne_true, happenings, in_front, in_right, inl}
+use Words.{inr, is_turned_on_at, key, length, list_any, members_in, moves, place_of, pos, rank, refl, ripe_place}
+use Words.{scenario, slice_get, slice_get_within, subst, suc, sym, task_place, time_of, true, zero, ℕ}
 use Rattle.world_law.proofs.runs.{Agreement.caused_same}
 use Rattle.world_law.proofs.runs.Worlds
-use Worlds.{AreSettled, agree_back, arrives_later, clock_cause, coming_of, earlier_by_rank, event_cause, event_place}
-use Worlds.{kinds, run_to, settled_of, up_to_it}
-use Rattle.world_law.specs.{device.Ready.IsSteady}
+use Worlds.{agree_back, arrives_later, clock_cause, earlier_by_rank, event_cause, event_place, kinds, up_to_it}
 use Rattle.world_law.specs.{source.{Applying.{MayFollow, RunStaysUnderMore, place_of_event}, Sources.IsRipening}}
-use Rattle.world_law.specs.world.{Moves.{NothingBefore, StandsAt}}
-use Rattle.world_law.specs.world.{World.{AreStored, AreUntold, AreWays, IsClockOf, IsWaitingFor}}
-
--- ---- no source is before what a world has under way, also while one is worked off and its record not given
+use Rattle.world_law.specs.{world.{Moves.NothingBefore, World.IsWaitingFor}}
 
 -- ---- where nothing that a world has under way is before a place, no source that is not worked off is, but for acts
 
@@ -43,11 +33,7 @@ pub none_but_acts : {C M : Type 0} {reading : C → ℕ → ℕ} {stands : M →
     → NothingBefore stands s world p → NoActBefore s (happenings s.network notes) old.frontier p → {w : List ℕ}
     → IsSource s (happenings s.network notes) w → (IsBefore w old.frontier → ⊥) → IsBefore w p → ⊥
 none_but_acts {world} {p} old none acts (IsSource.arriving t device link cause a) not b =
-    let later = arrives_later old.forward a.arrives in
-    let found = old.wires.all t device link cause a
-    (λ open_ at. none.befell open_ (chain (world.now ∷ 2 ∷ []) (t ∷ 2 ∷ device.0 ∷ link.0 ∷ cause ∷ []) p
-    (inl (omega arith)) b)) not in
-    none.wires found.0 found.1 (rw found.2 b)
+    search (arith, arrives_later, chain)
 none_but_acts {s} {world} {notes} old none acts (IsSource.ripening t device link cause point r) not b =
     let e : Waiting = record { device = device; link = link; cause = cause; frame = r.frame; point = point } in
     let p_is = r.permanent in
@@ -76,21 +62,7 @@ none_but_acts old none acts (IsSource.acting t device task a) not b = acts t dev
 none_but_acts {p} old none acts (IsSource.departing t device link cause d) not b =
     let found = old.ports.all t device link cause d not in none.ports found.0 found.1 (rw found.2 b)
 none_but_acts {s} {world} {notes} {p} old none acts (IsSource.following t cause h it) not b =
-    let i = numbered_in (happenings s.network notes) cause h it.there in
-    elim (old.not_later (place_of h) (old.run.within h i)) [
-      | inr bad ↦ bad.1
-      | inl few ↦ elim (cases_lt t world.now) [
-        | inl past ↦ not (old.of_now (t ∷ 2 ∷ []) (inl past))
-        | inr ge ↦
-            let at = it.same_time in
-            let now : t ≡ world.now = omega arith in
-            elim (cases_Bool world.pending) [
-              | inl open_ ↦ none.befell open_ (rw now at b)
-              | inr told ↦ not
-                  (rw now (old.untold.done told cause h (record { there = it.there; same_time = at ∙ now })))
-            ]
-      ]
-    ]
+    search (arith, numbered_in, place_of, cases_Bool)
 none_but_acts old none acts (IsSource.befalling time line what it) not b =
     let told = old.befallen.told it.before it.event it.is in
     let at : amount it.event.time ∷ 1 ∷ [] ≡ amount time ∷ 1 ∷ [] = rw (sym it.at) in
@@ -148,131 +120,6 @@ pub unmoved_by : (s : Scenario) (device : DeviceId) (now : ℕ) (body : NoteBody
     → moves device body ≡ false
 unmoved_by s device now body off (inl e) = e
 unmoved_by s device now body off (inr on) = absurd (both_ways _ off on.1)
-
--- ---- a world while a source is worked off and its own record is not given yet
-
--- up to the first place the records given are the run, and each source before the second is worked off
-pub record StandsOver {C M : Type 0} (reading : C → ℕ → ℕ) (stands : M → Network → DeviceId → Node → Type 0)
-    (s : Scenario) (world : World C M) (notes : List Note) (from to : List ℕ) : Type 0 where
-  pub same : world.network ≡ s.network
-  pub range : IsInRange s.network
-  pub rules : KeepsRules s.network
-  pub forward : IsForward s
-  pub steady : (device : DeviceId) → IsSteady (s.reading device) (amount s.network.precision)
-  pub precise : pos 0 ≤ℤ s.network.precision.0
-  pub run : IsScenarioRun s from notes
-  pub on : (p : List ℕ) → IsBefore p from → IsBefore p to
-  pub of_now : (p : List ℕ) → IsBefore p (world.now ∷ []) → IsBefore p from
-  pub not_later : (p : List ℕ) → IsBefore p to → IsBefore p ((world.now + 1) ∷ [])
-  pub limit : world.now ≤ 2 ^ 60
-  pub lines : world.lines ≡ length s.events
-  pub given : world.given ≡ length notes
-  pub ended : (time : Units) → EndsAt s.events time ↔ ((world.ended ≡ true) × (time.0 ≡ pos world.now))
-  pub befallen : HaveBefallen s from world.now
-  pub clocks : (device : DeviceId) → device.0 < length s.network.device → (clock : C)
-      × (slice_get world.clocks device.0 ≡ Some clock) × IsClockOf reading s world.now device clock
-  pub broken : (device : DeviceId) → device.0 < length s.network.device
-      → slice_get world.broken device.0 ≡ Some (is_broken s device world.now)
-  pub ways : AreWays s world.now world.ups world.downs
-  pub room : length notes + length world.settled < numbers_end
-  pub known : AreOfNetwork s (happenings s.network notes ++ world.settled)
-  pub devices : (device : DeviceId) → device.0 < length s.network.device → (machine : M)
-      × (slice_get world.machines device.0 ≡ Some machine)
-      × IsHeld stands s (happenings s.network notes) world.settled to world.now device machine
-  pub early : world.early ≡ true → (p : List ℕ) → IsBefore p to → IsBefore p (world.now ∷ 2 ∷ [])
-  pub untold : AreUntold (happenings s.network notes) to world.now world.pending world.befell
-  pub wires : AreOnWires s (happenings s.network notes) to world.now world.pending world.wires
-  pub ports : AreAtPorts s (happenings s.network notes) to world.ports
-  pub waiting : AreWaiting s (happenings s.network notes) to world.now world.waiting
-  pub stored : AreStored (happenings s.network notes) world.stored
-  pub are : AreSettled s (happenings s.network notes) world.settled from to world.now
-  pub shown : (device : DeviceId) → device.0 < length s.network.device → world.ended ≡ true
-      → IsBefore (clock_place world.now device) to ↔ (device.0 < world.shown)
-
--- the source at this place is worked off, and its records are among those to come
-abbrev pub StandsBehind : {C M : Type 0} → (C → ℕ → ℕ) → (M → Network → DeviceId → Node → Type 0) → Scenario → World C M
-    → List Note → List ℕ → Type 0
-StandsBehind reading stands s world notes at = StandsOver reading stands s world notes at (behind at)
-
-module _ {C M : Type 0} {reading : C → ℕ → ℕ} {stands : M → Network → DeviceId → Node → Type 0} {s : Scenario}
-    {world : World C M} {notes : List Note} where
-  pub over_of : (st : Stands reading stands s world notes)
-      → StandsOver reading stands s world notes st.frontier st.frontier
-  over_of st = record {
-    same = st.same;
-    range = st.range;
-    rules = st.rules;
-    forward = st.forward;
-    steady = st.steady;
-    precise = st.precise;
-    run = st.run;
-    on = λ p b. b;
-    of_now = st.of_now;
-    not_later = st.not_later;
-    limit = st.limit;
-    lines = st.lines;
-    given = st.given;
-    ended = st.ended;
-    befallen = st.befallen;
-    clocks = st.clocks;
-    broken = st.broken;
-    ways = st.ways;
-    room = st.room;
-    known = st.known;
-    devices = st.devices;
-    early = st.early;
-    untold = st.untold;
-    wires = st.wires;
-    ports = st.ports;
-    waiting = st.waiting;
-    stored = st.stored;
-    are = settled_of st.are;
-    shown = st.shown;
-  }
-
-  -- where nothing to come is before the second place, that is the frontier
-  pub stand_of : {from to : List ℕ} → StandsOver reading stands s world notes from to
-      → ((z : Happening) → IsIn z world.settled → IsBefore (place_of z) to → ⊥)
-      → StandsAt reading stands s world notes to
-  stand_of {from} {to} o none = (
-    record {
-      same = o.same;
-      range = o.range;
-      rules = o.rules;
-      forward = o.forward;
-      steady = o.steady;
-      precise = o.precise;
-      frontier = to;
-      run = run_to notes to o.run o.are (λ w source waits b. waits b) none o.on;
-      of_now = λ p b. o.on p (o.of_now p b);
-      not_later = o.not_later;
-      limit = o.limit;
-      lines = o.lines;
-      given = o.given;
-      ended = o.ended;
-      befallen = record {
-        past = o.befallen.past;
-        told = λ i e at. o.on _ (o.befallen.told i e at);
-        begun = o.befallen.begun;
-        sent = o.befallen.sent;
-      };
-      clocks = o.clocks;
-      broken = o.broken;
-      ways = o.ways;
-      room = o.room;
-      known = o.known;
-      devices = o.devices;
-      early = o.early;
-      untold = o.untold;
-      wires = o.wires;
-      ports = o.ports;
-      waiting = o.waiting;
-      stored = o.stored;
-      are = coming_of o.are o.on none;
-      shown = o.shown;
-    },
-    refl,
-  )
 
 -- ---- a run up to the record of an event is the same under this event and those behind it
 

@@ -52,11 +52,7 @@ module _ (network : Network) (t : ℕ) (device : DeviceId) where
   pub no_task_at : (r : ℕ) (more : List ℕ) → (r < 4) ⊎ (6 < r) → (task : Task)
       → task_place network t device task ≡ t ∷ r ∷ more → ⊥
   no_task_at r more other task e =
-      let p = placed_so task in
-      let same : p.rank ≡ r = ap second (sym p.is ∙ e) in
-      let late = p.late in
-      let low = p.low in
-      elim other [ inl less ↦ omega arith | inr more ↦ omega arith ]
+      search (arith, placed_so, second)
 
   -- the place before all that the device does is before each task
   pub acts_first : (task : Task) → IsBefore (act_place t device) (task_place network t device task)

@@ -280,10 +280,7 @@ module _ {s : Scenario} (hs : List Happening) (x : Happening) {t : ℕ} {device 
       → IsArriving s hs t device link cause ⊎ ((cause ≡ length hs + 1)
       × ((signal : Signal) × Arrives s x device link t signal))
   arriving_more a =
-      elim (numbered_more hs x cause a.there) [
-        | inl old ↦ inl (record { putting = a.putting; there = old; signal = a.signal; arrives = a.arrives })
-        | inr new ↦ inr (new.0, (a.signal, rw new.1 a.arrives))
-      ]
+      search (arith, numbered_more)
 
   -- what leaves was given before, or is the frame that the new record gives
   pub departing_more : IsDeparting s (hs ++ x ∷ []) t device link cause
@@ -548,14 +545,7 @@ pub record AreSettled (s : Scenario) (hs coming : List Happening) (from to : Lis
 -- at one frontier nothing to come stands at its source
 pub late_of : {s : Scenario} {hs coming : List Happening} {frontier : List ℕ} {now : ℕ}
     → AreComing s hs coming frontier now → (z : Happening) → IsIn z coming → is_at_source z.note.body ≡ false
-late_of {s} {hs} {coming} {frontier} are z i = elim (cases_Bool (is_at_source z.note.body)) [
-  | inr no_it ↦ no_it
-  | inl is ↦
-      let split = parted z coming i in
-      let off = are.by split.0 split.1 z split.2 in
-      let here = own_here s (hs ++ split.0) (time_of z) (members_in z) z.note.body off.0 is off.1 in
-      absurd (are.after z i (rw here at off.3))
-]
+late_of {s} {hs} {coming} {frontier} are z i = search (arith, cases_Bool, parted, own_here)
 
 pub settled_of : {s : Scenario} {hs coming : List Happening} {frontier : List ℕ} {now : ℕ}
     → AreComing s hs coming frontier now → AreSettled s hs coming frontier frontier now
@@ -576,30 +566,14 @@ settled_of {frontier} are = record {
 pub coming_of : {s : Scenario} {hs coming : List Happening} {from to : List ℕ} {now : ℕ}
     → AreSettled s hs coming from to now → ((p : List ℕ) → IsBefore p from → IsBefore p to)
     → ((z : Happening) → IsIn z coming → IsBefore (place_of z) to → ⊥) → AreComing s hs coming to now
-coming_of are on none = record {
-  of_now = are.of_now;
-  after = none;
-  founded = are.founded;
-  by = are.by;
-  full = λ front back y e before least not due off. are.full front back y e before least
-      (λ b. not (on (place_of y) b)) due off;
-  begun = are.begun;
-}
+coming_of are on none = search (arith, place_of)
 
 -- where no event is pending, and what follows events is worked off, the outcomes of events are settled
 pub none_pending : {hs : List Happening} {frontier : List ℕ} {now : ℕ} {pending : Bool} {befell : List Befell}
     → pending ≡ false → befell ≡ []
     → ((number : ℕ) (h : Happening) → IsOfThisTime hs now number h → IsBefore (now ∷ 2 ∷ []) frontier)
     → AreUntold hs frontier now pending befell
-none_pending told none done = record {
-  done = λ same. done;
-  none = λ same. none;
-  waits = λ open_. absurd (both_ways _ told open_);
-  early = λ open_. absurd (both_ways _ told open_);
-  real = λ e i. absurd (rw none at i);
-  all = λ open_. absurd (both_ways _ told open_);
-  in_order = rw none tt;
-}
+none_pending told none done = search arith
 
 -- nothing has no part
 pub no_part : (front rest : List Happening) (z : Happening) → [] ≡ front ++ z ∷ rest → ⊥
@@ -610,16 +584,7 @@ no_part (f ∷ front) rest z e = cc
 pub none_to_come : {s : Scenario} {hs : List Happening} {from to : List ℕ} {now : ℕ}
     → ((front : List Happening) (y : Happening) → (IsBefore (place_of y) from → ⊥) → IsDueAs s (hs ++ front) y
     → IsWorkedOff s (hs ++ front) to y → ⊥) → AreSettled s hs [] from to now
-none_to_come none = record {
-  of_now = λ z i. absurd i;
-  after = λ z i. absurd i;
-  founded = λ front rest z e. absurd (no_part front rest z e);
-  by = λ front rest z e. absurd (no_part front rest z e);
-  full = λ front back y e before least not due off. absurd (none front y not due off);
-  not_past = λ z i. absurd i;
-  worked = λ z i. absurd i;
-  begun = λ z i. absurd i;
-}
+none_to_come none = search (arith, no_part)
 
 -- ---- each record that is due has a source
 
@@ -806,9 +771,7 @@ module _ {s : Scenario} {hs : List Happening} {z : Happening} {rest : List Happe
       never_self (place_of z) (chain (place_of z) p (place_of z)
       (rw e at under) here)
   none_under other (inr i) p here under =
-      let order = first_before other i in
-      never_self (place_of z) (chain (place_of z) (place_of other) (place_of z) order
-      (chain (place_of other) p (place_of z) under here))
+      search (arith, first_before, never_self, place_of, chain)
 
   not_at : (other : Happening) → IsIn other (z ∷ rest) → {p : List ℕ} → p ≡ place_of other → IsBefore p (place_of z)
       → ⊥

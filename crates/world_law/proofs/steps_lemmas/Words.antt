@@ -26,7 +26,7 @@ pub use Rattle.world_law.proofs.{acts.Dues.{dispatch_late, points_same}}
 pub use Rattle.world_law.proofs.{putting.Near.{hears, held_aside, known_aside, turned_aside}}
 pub use Rattle.world_law.proofs.devices.Standing.{all_up_to, are_past, by_last, moves_no_other, next_is_up_to}
 pub use Rattle.world_law.proofs.devices.Standing.{quiet_rest}
-pub use Rattle.world_law.proofs.runs.{Agreement.changed_before, Foremost.{StandsBehind, not_on_after}}
+pub use Rattle.world_law.proofs.runs.{Agreement.changed_before, Foremost.not_on_after}
 pub use Rattle.world_law.proofs.runs.Worlds.{AreSettled, at_least, dispatches_same, earlier_still, length_is, no_higher}
 pub use Rattle.world_law.proofs.runs.Worlds.{numbered_parts, reaches_back, up_back}
 pub use Rattle.world_law.proofs.devices.{Unmoved.{change_still, keeps_adjustment, not_turned_on, same_before}}
@@ -36,6 +36,7 @@ pub use Rattle.world_law.proofs.putting.Moving.{devices_then, ports_move, ports_
 pub use Rattle.world_law.proofs.putting.Moving.{waiting_still, wires_move, wires_still}
 pub use Rattle.world_law.proofs.putting.Placing.{AsState, IsShownPut, due_of, one_shown, put_length, record_of}
 pub use Rattle.world_law.proofs.putting.Placing.{two_shown}
+pub use Rattle.world_law.proofs.runs.{Over.StandsBehind}
 pub use Rattle.run_law.proofs.runs.Places.{before_behind, chain, either_way, in_left, in_parts, in_right, never_self, parted}
 pub use Rattle.run_law.proofs.control.Points.{no_cluster}
 pub use Rattle.run_law.specs.control.Arrivals.{control_arrival, frame_fault, frame_or_fault}

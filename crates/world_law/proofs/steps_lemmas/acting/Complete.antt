@@ -1,13 +1,13 @@
 -- All that is due of a device that has acted is among the records to come.
 use Rattle.run_law.specs.runs.DueRecords.{IsCorrectedRecord}
-use Rattle.world_law.proofs.steps_lemmas.Words.{◌∙◌, ◌∷◌, ◌≡◌, AsyncClique, Bool}
+use Rattle.world_law.proofs.steps_lemmas.Words.{◌∷◌, ◌≡◌, AsyncClique}
 use Rattle.world_law.proofs.steps_lemmas.Words.{ComesToCorrection, DeviceId}
 use Rattle.world_law.proofs.steps_lemmas.Words.{Dispatches, Happening, Integrating, IsCaused, IsOwnSource}
 use Rattle.world_law.proofs.steps_lemmas.Words.{LinkId, List, NoteBody, Scenario, SyncClique, Units, VlId, []}
 use Rattle.world_law.proofs.steps_lemmas.Words.{amount, ap, arith, cases_Bool, dispatch_body}
-use Rattle.world_law.proofs.steps_lemmas.Words.{false, if◌then◌else◌, inl, inr, is_cut}
+use Rattle.world_law.proofs.steps_lemmas.Words.{inl, inr}
 use Rattle.world_law.proofs.steps_lemmas.Words.{place_of, same_device}
-use Rattle.world_law.proofs.steps_lemmas.Words.{sym, time_of, true, way_from, ℕ}
+use Rattle.world_law.proofs.steps_lemmas.Words.{sym, time_of, ℕ}
 use Rattle.world_law.proofs.steps_lemmas.Words.{length, row_order, rows_place}
 use Rattle.schedule_tables.specs.Dispatches.{dispatch_order}
 use Rattle.run_law.specs.declared.judgement.Why.TheVariants as whys
@@ -76,18 +76,4 @@ pub same_told : (s : Scenario) {now : ℕ} (device : DeviceId) (link : LinkId) (
     → x.note.body ≡ dispatch_body s device now link cause vl cycle → y.note.body ≡ dispatch_body s device now link cause vl cycle → time_of x ≡ now
     → time_of y ≡ now → place_of x ≡ place_of y
 same_told s {now} device link cause vl cycle x y told e at_x at =
-    let lost : (h : Happening) → h.note.body ≡ kinds.Lost device link cause → time_of h ≡ now → place_of h ≡ now ∷ 9 ∷ device.0 ∷ link.0 ∷ cause ∷ [] =
-    λ h body time.
-    rw body
-    (rw time) in
-    let sent : (h : Happening) → h.note.body ≡ kinds.TtSent device link cause vl cycle → time_of h ≡ now
-    → place_of h ≡ now ∷ 10 ∷ device.0 ∷ link.0 ∷ cause ∷ vl.0 ∷ cycle ∷ [] = λ h body time.
-    rw body
-    (rw time) in
-    let by_cut : (b : Bool) → is_cut s link (way_from s.network device link) now ≡ b
-    → dispatch_body s device now link cause vl cycle ≡ (if b then kinds.Lost device link cause else kinds.TtSent device link cause vl cycle) = λ b is.
-    rw is in
-    elim (cases_Bool (is_cut s link (way_from s.network device link) now)) [
-      | inl cut ↦ lost x (told ∙ by_cut true cut) at_x ∙ sym (lost y (e ∙ by_cut true cut) at)
-      | inr whole ↦ sent x (told ∙ by_cut false whole) at_x ∙ sym (sent y (e ∙ by_cut false whole) at)
-    ]
+    search (arith, place_of, cases_Bool)

@@ -51,8 +51,7 @@ hand_within s {hs} {device} entry {t} founded (inr took) =
 pub dispatch_cause : (s : Scenario) (device : DeviceId) (now : ℕ) (link : LinkId) (cause : ℕ) (vl : VlId) (cycle : ℕ)
     → cause_of (dispatch_body s device now link cause vl cycle) ≡ cause
 dispatch_cause s device now link cause vl cycle =
-    elim (is_cut s link (way_from s.network device link) now) as (λ b. cause_of (if b then kinds.Lost device link cause
-    else kinds.TtSent device link cause vl cycle) ≡ cause) [ true ↦ refl | false ↦ refl ]
+    search (arith, cause_of)
 
 -- a device that has to dispatch a row, whose frame it has at hand by the records given, dispatches it by any records of the instant
 pub dispatches_it : {s : Scenario} {hs coming : List Happening} (other : List Happening) {now : ℕ}
@@ -223,15 +222,11 @@ dispatching_record {s} {hs} front back {now} {device} row {entry} {cause} {cycle
 module _ (s : Scenario) (device of : DeviceId) (now : ℕ) (link : LinkId) (cause : ℕ) (vl : VlId) (cycle : ℕ) where
   none_heard_by : (h : Happening) → hearing_by s.network device h (dispatch_body s of now link cause vl cycle) ≡ None
   none_heard_by h =
-      elim (is_cut s link (way_from s.network of link) now) as (λ b. hearing_by s.network device h
-      (if b then kinds.Lost of link cause
-      else kinds.TtSent of link cause vl cycle) ≡ None) [ true ↦ refl | false ↦ refl ]
+      search arith
 
   none_moved : moves device (dispatch_body s of now link cause vl cycle) ≡ false
   none_moved =
-      elim (is_cut s link (way_from s.network of link) now) as (λ b. moves device
-      (if b then kinds.Lost of link cause
-      else kinds.TtSent of link cause vl cycle) ≡ false) [ true ↦ refl | false ↦ refl ]
+      search arith
 
   none_taken : Rattle.world_law.proofs.rows.AtHand.IsNoTaking device (dispatch_body s of now link cause vl cycle)
   none_taken = grind (arith, is_cut, way_from)

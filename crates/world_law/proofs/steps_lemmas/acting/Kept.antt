@@ -11,14 +11,14 @@ use Words.{if◌then◌else◌, ◌++◌, ◌+◌, ◌<◌, ◌^◌, ◌∙◌, 
 use Words.{ComesFirst, Corrected, DeviceId, Dispatches, Entry, HadComeTo, Happening, HasCleared, HasDoneFrom}
 use Words.{HasDoneTask, HasSentFrom, HasTaskBy, HasTurnedOn, HasWorkedTo, IsActOf, IsActedOut, IsActing, IsAllOfIt}
 use Words.{IsBefore, IsCaused, IsFirstTask, IsIn, IsJoiningNow, IsKept, IsLawful, IsNoTaking, IsOwnSource, IsPending}
-use Words.{IsReadyAt, IsSource, IsSteady, LinkId, List, MayCall, Moment, Network, Node, None, Note, NoteBody, Pcf}
-use Words.{RowId, Scenario, Stands, SyncClique, Task, Units, VlId, World, [], act_place, acting, amount, ap, append-nil}
-use Words.{append_assoc, arith, before_behind, behind, both_ways, chain, changed_at, changed_before, changes_adjustment}
-use Words.{correcting, dispatch_body, dispatches_same, dispatching, doing, earlier, earlier_still, emitting, false}
-use Words.{filter, frames_taken, happenings, in_left, in_right, inl, inr, ints, is_broken, is_cm, is_cut}
-use Words.{is_synchronised, is_turned_on_at, le-ltb, length, local_before, members_in, moment_of, nat_lt, place_of}
-use Words.{placed_so, points_same, pos, quiet_rest, rank, reading_for, refl, rows_place, same_device, sending, subst}
-use Words.{sym, task_place, time_of, true, unsigned_abs, way_from, whole, ℕ}
+use Words.{IsReadyAt, IsSource, IsSteady, LinkId, List, MayCall, Moment, Network, Node, Note, NoteBody, Pcf, RowId}
+use Words.{Scenario, Stands, SyncClique, Task, Units, VlId, World, [], act_place, acting, amount, ap, append-nil}
+use Words.{append_assoc, arith, before_behind, behind, both_ways, chain, changed_at, changed_before, correcting}
+use Words.{dispatch_body, dispatches_same, dispatching, doing, earlier, earlier_still, emitting, false, frames_taken}
+use Words.{happenings, in_left, in_right, inl, inr, ints, is_broken, is_cm, is_cut, is_synchronised, is_turned_on_at}
+use Words.{le-ltb, length, local_before, members_in, moment_of, nat_lt, place_of, placed_so, points_same, pos}
+use Words.{quiet_rest, rank, reading_for, refl, rows_place, same_device, sending, subst, sym, task_place, time_of, true}
+use Words.{unsigned_abs, way_from, whole, ℕ}
 use Rattle.world_law.proofs.steps_lemmas.acting.{Complete.same_told, Over.IsOver}
 use Rattle.world_law.proofs.steps_lemmas.acting.Work
 use Work.{IsAtWork, all_earlier, at_correction, emits, not_over, own_judgement, reaches, sends}
@@ -55,10 +55,7 @@ one_link : {s : Scenario} {js : List Happening} {device : DeviceId} {now : ℕ} 
     → dispatch_order s.network (record { 0 = d.place }) ≡ order
     → dispatch_order s.network (record { 0 = e.place }) ≡ order → link ≡ other
 one_link other from with number order d e one two =
-    let both =
-    sym (order_is d.row) ∙ one ∙ sym two ∙ order_is e.row in
-    let links : d.entry.row.link.0 ≡ e.entry.row.link.0 = cc in
-    sym d.by ∙ ap (λ (n : ℕ). (record { 0 = n })) links ∙ e.by
+    search (arith, order_is)
 
 -- so what is dispatched from the same place by records of the instant is told by the same
 same_row : {s : Scenario} (hs new front : List Happening) {now : ℕ} {device : DeviceId} {order : List ℕ}
@@ -312,8 +309,7 @@ act_next {stands} {s} {world} {notes} {old} {device} {machine} act first apart x
 -- the last change before the next unit of time is not after this one
 pub changed_soon : (hs : List Happening) (device : DeviceId) (now : ℕ) → changed_at hs device (now + 1) ≤ now
 changed_soon hs device now =
-    last_within None (filter (λ h. changes_adjustment device h.note.body) (earlier (now + 1) hs)) now tt
-    (λ h i. let lt = in_earlier (now + 1) hs h (in_filter _ (earlier (now + 1) hs) h i) in omega arith)
+    search (arith, last_within, earlier, in_earlier, in_filter)
 
 module _ {M : Type 0} {stands : M → Network → DeviceId → Node → Type 0} {s : Scenario} {hs coming : List Happening}
     {frontier : List ℕ} {now : ℕ} {device : DeviceId} {machine : M} where
@@ -339,21 +335,7 @@ module _ {M : Type 0} {stands : M → Network → DeviceId → Node → Type 0} 
       → ((h : Happening) → IsIn h (hs ++ coming) → time_of h ≤ now)
       → ((z : Happening) → IsIn z coming → 4 ≤ rank z.note.body) → k.up ≡ now → IsAtWork s hs coming now device k.node
   at_work k later of past late up =
-      let js = hs ++ coming in
-      let le : now ≤ k.up = omega arith in
-      let done : HasDoneFrom s.network (s.reading device) device k.node (changed_at js device now) now (now + 1) =
-      rw up at (done_by now k.worked later now le) in
-      let sent = sent_by now k.worked later now le in
-      record {
-        left = rw up at k.left;
-        done = done;
-        sent = sent;
-        ready = k.ready;
-        still = k.still up;
-        past = past;
-        of_now = λ z i. (of z i, late z i);
-        sound = k.sound;
-      }
+      search (arith, done_by, sent_by)
 
 -- ---- its acts are not worked off
 
@@ -532,24 +514,7 @@ pub kept_on : {M : Type 0} (stands : M → Network → DeviceId → Node → Typ
     → HadComeTo s device after (changed_at (hs ++ new) device now) now task
     ⊎ IsBefore (task_place s.network now device task) frontier) → IsKept stands s hs new frontier now device machine
 kept_on stands {hs} {new} frontier {now} {device} machine {after} is work cleared taken bare turned phase past falls
-    did worked = record {
-      node = after;
-      is = is;
-      sound = work.sound;
-      up = now;
-      acted = inl (refl, did);
-      told = λ over. absurd (no_step over);
-      left = work.left;
-      taken = taken;
-      bare = bare;
-      worked = to_worked now frontier work.done work.sent worked (changed_before (hs ++ new) device now) falls
-          past;
-      ready = work.ready;
-      still = λ same. work.still;
-      turned = turned;
-      cleared = cleared;
-      phase = λ at. acted_phase after device now frontier phase past;
-    }
+    did worked = search (arith, no_step, to_worked, changed_before, acted_phase)
 
 -- no row of it is dispatched at the instant
 abbrev pub NoneDispatched : Scenario → List Happening → ℕ → DeviceId → Type 0

@@ -80,10 +80,7 @@ StageOf stands s hs coming now device machine node act =
 reaches_acts : (network : Network) (now : ℕ) (device : DeviceId) (act : Act)
     → IsBefore (act_place now device) (behind (now ∷ rank_of_act act ∷ act_rest network device act))
 reaches_acts network now device act =
-    let here = now ∷ rank_of_act act ∷ act_rest network device act in
-    chain (act_place now device) here (behind here)
-    (subst (λ q. IsBefore (act_place now device) q) (act_stands network now device act) (acts_first network now device (task_of act)))
-    (before_behind here)
+    search (arith, chain, behind, act_stands, acts_first, before_behind)
 
 -- so it is where a world stands, and the device acts
 pub stage_of : {C M : Type 0} (reading : C → ℕ → ℕ) (stands : M → Network → DeviceId → Node → Type 0) (s : Scenario) (world : World C M) (notes : List Note)
@@ -496,8 +493,7 @@ pub all_one : (s : Scenario) (hs new : List Happening) {now r : ℕ} {more : Lis
     → IsIn w new
     → place_of w ≡ now ∷ r ∷ more → IsAllOfIt s hs new (now ∷ r ∷ more)
 all_one s hs new {now} {r} {more} w late low there at front back y e all none due own =
-    let is = of_its_kind s (hs ++ front) (time_of y) (members_in y) now r more y.note.body own late low in
-    (w, there, at ∙ own_here s (hs ++ front) (time_of y) (members_in y) y.note.body (now ∷ r ∷ more) is own)
+    search (arith, of_its_kind, own_here)
 
 row_long : (network : Network) (device : DeviceId) (node : Node) (row : RowId) (cycle : ℕ) → IsDeedOf network device node (dispatching row cycle)
     → 1 ≤ length (dispatch_order network row)

@@ -15,8 +15,8 @@ use Words.{Bool, Cleared, ComesTo, ComesToCorrection, Compressed, Corrected, Dev
 use Words.{Integrating, IsActing, IsAllOfIt, IsAtRest, IsBefore, IsFirstTask, IsIn, IsInRange, IsLeft, IsPending}
 use Words.{IsSource, IsSteady, IsUnfollowed, IsWaiting, Joining, KeepsRules, List, Members, Moment, Network, Node, None}
 use Words.{NoneBefore, NoteBody, Option, Pcf, Scenario, Some, State, Summary, SyncClique, Synchronised, Units, Verdict}
-use Words.{Why, [], adjustment_after, adjustment_by, adjustment_with, after_last, amount, and_right, ap, append-nil}
-use Words.{arith, behind_no, behind_yes, both_ways, cases_Bool, cases_int, cases_lt, changes_adjustment, cleared_in}
+use Words.{Why, [], adjustment_after, adjustment_by, adjustment_with, amount, and_right, ap, append-nil, arith}
+use Words.{behind_no, behind_yes, both_ways, cases_Bool, cases_int, cases_lt, changes_adjustment, cleared_in}
 use Words.{correcting, correction_value, cycle_after, cycle_in, doing, earlier, emitting, ends_stretch, eq-eqb, false}
 use Words.{filter, filter-append, filter_map, filter_map-append, filter_no, filter_yes, fold, fold-append, heard_since}
 use Words.{hearing_by, in_left, in_right, inl, inr, int_le, int_lt, integration_cycle, is_broken, is_cm}
@@ -95,8 +95,7 @@ module _ (device : DeviceId) (w : List Happening) (h : Happening) (cycle : ℕ) 
     (e : h.note.body ≡ notes.Corrected device cycle by adjustment) where
   integration_corrected : integration_cycle (w ++ h ∷ []) device ≡ integration_cycle w device
   integration_corrected =
-      fold_more (λ last g. if is_joined_by device g.note.body then Some (cycle_in g) else last) None w h
-      ∙ ap (λ b. if is_joined_by device b then Some (cycle_in h) else integration_cycle w device) e
+      search (arith, fold_more, cycle_in)
 
   cycle_corrected : recorded_cycle (w ++ h ∷ []) device ≡ cycle + 1
   cycle_corrected = grind (arith, fold_more, cycle_after, recorded_cycle, self)
@@ -156,22 +155,7 @@ module _ {s : Scenario} {hs : List Happening} {device : DeviceId} {u : ℕ} {nod
       → is_turned_on_at s device u ≡ false → IsBase s hs device u node
       → IsLeft s (hs ++ h ∷ []) device u (with_corrected node moment heard by)
   corrects so synchronised off left =
-      let e = so.body in
-      record {
-        counted = corrected_counts so left;
-        state =
-            sym synchronised ∙ left.state
-            ∙ sym (state_corrected s device (earlier u hs) h cycle by adjustment e)
-            ∙ ap (λ l. state_after s l device) (sym (one_earlier u hs h so.before))
-            ∙ sym (not_turned_on s (hs ++ h ∷ []) device u off);
-        points = λ cm.
-            rw synchronised
-            (left.points cm
-            ∙ sym (map_none (λ g. point_by device g g.note.body)
-            (after_last (λ g. ends_stretch device g.note.body) hs) h (ap (point_by device h) e))
-            ∙ sym (ap (filter_map (λ g. point_by device g g.note.body))
-            (behind_no (λ g. ends_stretch device g.note.body) hs h (ap (ends_stretch device) e))));
-      }
+      search (arith, corrected_counts, state_corrected, earlier, one_earlier, not_turned_on, map_none, behind_no)
 
 -- ---- a change of state
 
@@ -282,10 +266,7 @@ module _ {s : Scenario} {hs : List Happening} {device : DeviceId} {u : ℕ} {nod
       → is_turned_on_at s device u ≡ false → IsBase s hs device u node
       → IsLeft s (hs ++ h ∷ []) device u (with_clique node heard verdict)
   cliques h cause why heard verdict lost same e ends lt off left =
-      change_leaves hs h Integrating cause why e ends lt off lost
-      (λ cm. refl)
-      (change_counts hs h Integrating cause why e lt
-      (clique_counts heard verdict lost same left))
+      search (arith, change_leaves, change_counts, clique_counts)
 
 -- ---- a frame tells the time
 

@@ -3,8 +3,8 @@ use Rattle.std.proofs.Common.{flat_map}
 use Rattle.net_plan.proofs.SameIds.{alike}
 use Rattle.run_law.proofs.{records.Members.in_flat, runs.Places.before_next_time}
 use Rattle.world_law.proofs.{devices.Working.{rested, worked_by}, putting.PutIn.split_three}
-use Rattle.world_law.proofs.runs.{Foremost.{StandsOver, stand_of}}
-use Rattle.world_law.proofs.runs.{Worlds.{arrives_later, event_cause, event_place, no_part, none_pending}}
+use Rattle.world_law.proofs.runs.{Over.{StandsOver, stand_of}}
+use Rattle.world_law.proofs.{runs.Worlds.{arrives_later, event_cause, event_place, no_part, none_pending}}
 use Rattle.world_law.proofs.steps_lemmas.befalling.EventRecords.{AreRising, IsOutcome, adjustment_unmoved, all_bodies}
 use Rattle.world_law.proofs.steps_lemmas.befalling.EventRecords.{all_rising, calm_joins, calm_outcome, event_due}
 use Rattle.world_law.proofs.steps_lemmas.befalling.EventRecords.{few_all, is_calm, left_all_calm, on_by_event}
@@ -81,13 +81,7 @@ put_real : (s : Scenario) (hs : List Happening) (befell : List Befell) (old new 
     → IsIn e old ⊎ IsPutByOne s hs befell e
 put_real s hs [] old new put e i = inl (rw put at i)
 put_real s hs (x ∷ befell) old new (mid, h, there, first, later) e i =
-    elim (put_real s hs befell mid new later e i) [
-      | inl before ↦ elim (first.real e before) [
-        | inl was ↦ inl was
-        | inr it ↦ inr (record { x = x; one = inl refl; h = h; there = there; cause = it.0; arrives = it.1 })
-      ]
-      | inr it ↦ inr (record { x = it.x; one = inr it.one; h = it.h; there = it.there; cause = it.cause; arrives = it.arrives })
-    ]
+    search (arith, (put_real s hs befell mid new later e i))
 
 put_kept : (s : Scenario) (hs : List Happening) (befell : List Befell) (old new : List OnWire) → ArePutBy s hs befell old new → (e : OnWire) → IsIn e old
     → IsIn e new
@@ -155,12 +149,7 @@ module _ (s : Scenario) {hs : List Happening} {frontier : List ℕ} {now : ℕ} 
 
   ports_told : {ports : List AtPort} → IsTelling hs frontier now befell → AreAtPorts s hs frontier ports
       → AreAtPorts s hs (behind (now ∷ 2 ∷ [])) ports
-  ports_told m are = record {
-    real = λ e i.
-        let was = are.real e i in
-        (was.0, λ b. was.1 (not_gone_by e.at 8 e.device.0 (e.link.0 ∷ e.cause ∷ []) m (omega arith) b));
-    all = λ t device link cause d not. are.all t device link cause d (λ b. not (goes_on m _ b));
-  }
+  ports_told m are = search (arith, not_gone_by, goes_on)
 
   waiting_told : {waiting : List Waiting} → IsTelling hs frontier now befell → AreWaiting s hs frontier now waiting
       → AreWaiting s hs (behind (now ∷ 2 ∷ [])) now waiting
@@ -554,11 +543,7 @@ behind_two now r more high = inr (refl, inl (omega arith))
 not_yet : (s : Scenario) {hs : List Happening} {now : ℕ} {z : Happening} → IsOne s hs now z
     → IsBefore (place_of z) (behind (now ∷ 2 ∷ [])) → ⊥
 not_yet s {hs} {now} {z} it b =
-    let at = late_place it in
-    let soon : IsBefore (now ∷ at.0 ∷ at.1) (behind (now ∷ 2 ∷ [])) =
-    subst (λ p. IsBefore p (behind (now ∷ 2 ∷ []))) at.2 b in
-    never_self (behind (now ∷ 2 ∷ []))
-    (chain (behind (now ∷ 2 ∷ [])) (now ∷ at.0 ∷ at.1) (behind (now ∷ 2 ∷ [])) (behind_two now at.0 at.1 at.3) soon)
+    search (arith, late_place, behind, never_self, chain, behind_two)
 
 -- ---- what is due by an event is among them
 

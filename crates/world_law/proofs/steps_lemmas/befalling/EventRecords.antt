@@ -9,15 +9,15 @@ use Rattle.world_law.proofs.steps_lemmas.Words
 use Words.{if◌then◌else◌, ◌&&◌, ◌++◌, ◌+◌, ◌<◌, ◌==◌, ◌||◌, ◌↔◌, ◌∙◌, ◌∷◌, ◌≡◌, ◌≤ℤ◌, ◌≤◌, ◌⊎◌, ArePutIn, Arrives}
 use Words.{Befell, Bool, DeviceId, Event, Happening, Integrating, IsBefore, IsCaused, IsDue, IsFounded, IsIn, IsLeft}
 use Words.{IsOfThisTime, IsRun, IsSendLost, Launch, Link, LinkId, List, Network, Node, None, Note, NoteBody, On, OnWire}
-use Words.{Option, Scenario, Signal, Some, Stands, Units, Up, What, World, [], adjustment_after, adjustment_with}
-use Words.{after_last, amount, and_parts, ap, append-nil, append_assoc, behind_no, bodies_of, both_ways, by_number}
-use Words.{cases_Bool, cases_lt, cause_of, changes_adjustment, cleared_in, cycle_in, earlier, ends_stretch, eq-eqb}
-use Words.{eqb-true, false, filter, filter_map, filter_no, filter_yes, fold, fold-append, founded_at, happening}
-use Words.{happenings, heard_since, hearing_by, inl, inr, integration_cycle, is_broken, is_cut, is_joined_by}
-use Words.{is_turned_on_at, keeps_adjustment, launched, length, length-append, link_at, list_any, local_in, moves}
-use Words.{nat_le, nat_lt, next_in, not, numbered, numbered_in, option_map, option_map_or, place_of, point_by}
-use Words.{points_of, pos, recorded_cycle, refl, same_before, signal_of, slice_get, state_after, state_with, subst, suc}
-use Words.{sym, target_by, time_of, true, turns_on, up_to, wire_place, ℕ}
+use Words.{Option, Scenario, Signal, Some, Stands, Units, Up, What, World, [], adjustment_after, after_last, amount}
+use Words.{and_parts, ap, append-nil, append_assoc, behind_no, bodies_of, both_ways, by_number, cases_Bool, cases_lt}
+use Words.{cause_of, changes_adjustment, cleared_in, cycle_in, earlier, ends_stretch, eq-eqb, eqb-true, false, filter}
+use Words.{filter_map, filter_no, filter_yes, fold, fold-append, founded_at, happening, happenings, heard_since}
+use Words.{hearing_by, inl, inr, integration_cycle, is_broken, is_cut, is_joined_by, is_turned_on_at, keeps_adjustment}
+use Words.{launched, length, length-append, link_at, list_any, local_in, moves, nat_le, nat_lt, next_in, not, numbered}
+use Words.{numbered_in, option_map, option_map_or, place_of, point_by, points_of, pos, recorded_cycle, refl}
+use Words.{same_before, signal_of, slice_get, state_after, state_with, subst, suc, sym, target_by, time_of, true}
+use Words.{turns_on, up_to, wire_place, ℕ}
 use Rattle.net_plan.specs.declared.event.What.TheVariants as events
 use Rattle.run_law.specs.declared.note.NoteBody.TheVariants as kinds
 use Rattle.run_law.specs.declared.note.NoteBody.TheVariants as notes
@@ -142,9 +142,7 @@ module _ (s : Scenario) (hs zs : List Happening) (device : DeviceId) (now : ℕ)
 
   pub adjustment_unmoved : adjustment_after s (up_to now (hs ++ zs)) device ≡ adjustment_after s (up_to now hs) device
   adjustment_unmoved =
-      fold_up (λ adjustment h. adjustment_with s device (cycle_in h) adjustment h.note.body)
-      _ now hs zs
-      (λ z i y. keeps_adjustment s device (cycle_in z) y z.note.body (none z i))
+      search (arith, fold_up, cycle_in, keeps_adjustment)
 
 -- ---- the events of a run and their records
 
@@ -407,10 +405,7 @@ HaveRecords hs now befell =
 pub all_bodies : (s : Scenario) (hs : List Happening) (now : ℕ) (befell : List Befell) → HaveRecords hs now befell → (b : NoteBody)
     → IsIn b (befell_bodies s now befell) → IsOutcome s hs now b × ((e : Befell) × IsIn e befell × (cause_of b ≡ e.number))
 all_bodies s hs now befell real b i =
-    let at = from_flat (λ e. bodies_of s now e.number e.what) befell b i in
-    let it = real at.0 at.1 in
-    let is = each_body s it.0 at.0.what b it.2 it.3 at.2 in
-    (is.0, (at.0, at.1, is.1))
+    search (arith, from_flat, each_body)
 
 pub few_all : (s : Scenario) (now : ℕ) (befell : List Befell) → length (befell_bodies s now befell) ≤ length befell
 few_all s now [] = omega arith

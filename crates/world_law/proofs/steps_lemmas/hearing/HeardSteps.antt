@@ -25,9 +25,9 @@ use Words.{comes_first, control, control_arrival, devices_then, earlier_still, e
 use Words.{filter-append, frame_fault, frame_or_fault, happenings, held_aside, in_left, in_parts, in_right, inl, inr}
 use Words.{is_end, is_last, is_parent_of, is_relay, is_taken_before, key, known_aside, last_or, last_taken}
 use Words.{last_taken_by, last_unfollowed, length, members_in, moment_of, moves_no_other, ne_eqb, never_self}
-use Words.{no_task_at, octets_fault, octets_or_fault, one_by, option_and_then, parted, place_of, ports_still, pos, rank}
-use Words.{refl, signal_of, slice_get, some_same, standpoint, stands_on, subst, sym, taken_cycle, taken_in, time_of}
-use Words.{timed, timed_arrival, true, waiting_still, wire_place, wires_move, ℕ, ℤ}
+use Words.{no_task_at, octets_or_fault, one_by, option_and_then, parted, place_of, ports_still, pos, rank, refl}
+use Words.{signal_of, slice_get, some_same, standpoint, stands_on, subst, sym, taken_cycle, taken_in, time_of, timed}
+use Words.{timed_arrival, true, waiting_still, wire_place, wires_move, ℕ, ℤ}
 use Rattle.world_law.proofs.steps_lemmas.hearing.{Called.{After, kept_by, kept_called, not_yet_acted, out_called}}
 use Rattle.run_law.specs.declared.note.NoteBody.TheVariants as notes
 use Rattle.run_law.specs.declared.steps.Arrival.TheVariants as arrivals
@@ -74,8 +74,7 @@ pub rank_is : (s : Scenario) (device : DeviceId) (t : ℕ) (link : LinkId) (caus
     → least_rank s.network device signal ≤ rank (arrival_body device link cause (arrival_of s js device t link cause signal))
 rank_is s device t link cause (control frame) js = at_two device link cause (control_arrival s.network device link (standpoint s js device t) frame)
 rank_is s device t link cause (timed octets) js =
-    octets_rank s.network device link cause (standpoint s js device t) octets (last_taken js device t link cause)
-    (octets_fault s.network (standpoint s js device t) octets)
+    search (arith, octets_rank)
 
 -- ---- what is taken
 
@@ -185,14 +184,7 @@ given_time : {s : Scenario} {hs coming : List Happening} {now : ℕ} {e : OnWire
     → IsAfterGiven s hs coming now e → (h : Happening) → IsIn h hs → 2 < rank h.note.body
     → time_of h < now
 given_time {now} {e} a h i high =
-    elim (cases_lt (time_of h) now) [
-      | inl lt ↦ lt
-      | inr ge ↦ elim (a.within h i) [
-        | inl lt ↦ absurd (omega arith)
-        | inr (same, inl low) ↦ absurd (omega arith)
-        | inr (same, inr (e, b)) ↦ absurd (omega arith)
-      ]
-    ]
+    search arith
 
 module _ {s : Scenario} {hs coming : List Happening} {now : ℕ} {e : OnWire}
     (a : IsAfterGiven s hs coming now e) (h : Happening) (i : IsIn h hs) where
@@ -221,12 +213,7 @@ module _ {s : Scenario} {hs coming : List Happening} {now : ℕ} {e : OnWire}
       → ((js : List Happening) (w : List ℕ) → IsOwnSource s js (time_of z) (members_in z) z.note.body w
       → w ≡ time_of z ∷ 2 ∷ other.0 ∷ by.0 ∷ from ∷ []) → e.device ≡ other → IsBefore2 by from e.link e.cause
   coming_sooner z i {other} by from source same =
-      let split = parted z coming i in
-      let off = a.moving.are.by split.0 split.1 z split.2 in
-      let at = a.moving.are.of_now z i in
-      source_sooner {device = e.device.0} {other = other.0} e.link.0 by.0 e.cause
-      from at (rw (sym same))
-      (rw (source (hs ++ split.0) off.0 off.1) at off.3)
+      search (arith, parted, source_sooner)
 
   come_sooner : (z : Happening) → IsIn z coming → (body : NoteBody) → z.note.body ≡ body
       → IsSooner e.device now e.link e.cause z body

@@ -480,8 +480,7 @@ pub broken_drops : (s : Scenario) (hs : List Happening) (device : DeviceId) (t :
 broken_drops s hs device t link cause (control frame) e =
     off_control s.network device link (standpoint s hs device t) frame (no_part (not (is_off (state_before s hs device t))) (is_broken s device t) e)
 broken_drops s hs device t link cause (timed octets) e =
-    timed_off s.network device link (standpoint s hs device t) octets (last_taken hs device t link cause)
-    (no_part (not (is_off (state_before s hs device t))) (is_broken s device t) e)
+    search (arith, timed_off, no_part, is_broken)
 
 -- and so does a node that is
 pub out_drops : (network : Network) (device : DeviceId) (node : Node) (moment : Moment) (link : LinkId) (signal : Signal) → node.broken ≡ true
@@ -591,11 +590,9 @@ sooner_test device other t link cause at by from so e = grind (arith, eqb-true, 
 pub taking_is : (device : DeviceId) (vl : VlId) (t : ℕ) (link : LinkId) (cause : ℕ) (h : Happening) (body : NoteBody) → IsSooner device t link cause h body
     → is_taking device vl body ≡ is_taken_before device vl t link cause (time_of h) body
 taking_is device vl t link cause h (notes.Accepted other by from of_vl cycle) so =
-    three (device.0 == other.0) (vl.0 == of_vl.0) (nat_lt (time_of h) t || (time_of h == t && comes_before by from link cause))
-    (sooner_test device other t link cause (time_of h) by from so)
+    search (arith, three, comes_before, sooner_test)
 taking_is device vl t link cause h (notes.Delivered other by from of_vl cycle) so =
-    three (device.0 == other.0) (vl.0 == of_vl.0) (nat_lt (time_of h) t || (time_of h == t && comes_before by from link cause))
-    (sooner_test device other t link cause (time_of h) by from so)
+    search (arith, three, comes_before, sooner_test)
 taking_is device vl t link cause h other so = refl
 
 -- A record that bears on no device is put in among those of its instant: what each device took, and the device that took a frame by it.

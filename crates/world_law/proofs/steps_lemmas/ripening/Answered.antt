@@ -86,11 +86,7 @@ module _ {M : Type 0} {stands : M → Network → DeviceId → Node → Type 0} 
   rests_yet : (k : IsKept stands s hs coming (now ∷ 3 ∷ ripe_more e) now e.device machine)
       → HasRested s e.device k.node (changed_at (hs ++ coming) e.device k.up) k.up
   rests_yet k =
-      let le : now ≤ k.up =
-      elim k.acted [ inl yet ↦ (omega arith) | inr over ↦ (omega arith) ] in
-      rested now k.worked le
-      (λ b. let here = now ∷ 3 ∷ ripe_more e in
-      never_self here (chain here (act_place now e.device) here (under_act now e.device.0 (ripe_more e)) b))
+      search (arith, rested, never_self, chain, under_act)
 
 done_alike : (node new : Node) (task : Task) → new.done ≡ node.done → new.emitted ≡ node.emitted → HasDoneTask node task → HasDoneTask new task
 done_alike node new (emitting sent) done emitted did = rw emitted did
@@ -678,9 +674,7 @@ module _ {M : Type 0} {stands : M → Network → DeviceId → Node → Type 0} 
       → HasRipened stands s.network e.device (moment_of s e.device now) e.link e.frame e.point result machine after
       → IsAnswered stands s hs now e k.node after result
   answered after result r k master has =
-      let asked = may_be_asked r k master in
-      let it = has k.node k.is asked.call asked.hearing asked.ripens in
-      record { hears = asked.hears; outcome = it.0; is = it.1 }
+      search (arith, may_be_asked)
 
 -- ---- places of what is to come
 

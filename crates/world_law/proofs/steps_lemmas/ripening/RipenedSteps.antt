@@ -150,30 +150,7 @@ drop_fresh : {s : Scenario} {hs coming : List Happening} {now : ℕ} {e : Waitin
     → IsPermanent s (hs ++ f) e.device now e.link e.cause e.frame e.point) (y : Happening) → IsIn y coming
     → now ∷ 13 ∷ e.device.0 ∷ e.link.0 ∷ e.cause ∷ [] ≡ place_of y → ⊥
 drop_fresh {s} {hs} {coming} {now} {e} r permanent y i at =
-    let of = place_drop (members_in y) y.note.body at in
-    let device : of.0 ≡ e.device = ap (λ n. (record { 0 = n })) of.5 in
-    let link : of.1 ≡ e.link = ap (λ n. (record { 0 = n })) of.6 in
-    let body =
-    of.4 ∙ ap (λ d. kinds.Dropped d of.1 of.2 of.3) device ∙ ap (λ l. kinds.Dropped e.device l of.2 of.3) link
-    ∙ ap (λ c. kinds.Dropped e.device e.link c of.3) of.7 in
-    let part = parted y coming i in
-    let by = r.moving.are.by part.0 part.1 y part.2 in
-    let y_now = r.moving.are.of_now y i in
-    let own = subst (λ t. IsOwnSource s (hs ++ part.0) t (members_in y) (kinds.Dropped e.device e.link e.cause of.3) by.0) y_now
-    (subst (λ b. IsOwnSource s (hs ++ part.0) (time_of y) (members_in y) b by.0) body by.1) in
-    elim own [
-      | inl a ↦
-          let same = some_same a.1.putting r.it.arrival _ a.1.there (numbered_front hs part.0 e.cause r.it.arrival r.it.there) in
-          no_launch s a.1.putting (time_of a.1.putting) a.1.putting.note.body e.device e.link r.it.awaited.from r.it.awaited.clock _
-          (rw same r.it.awaited.arrived) a.1.arrives.put
-      | inr (inl p) ↦
-          let both = same_place p.1.permanent (permanent part.0) in
-          let is_here = p.2 ∙ ap (λ u. now ∷ 3 ∷ e.device.0 ∷ amount u ∷ p.1.frame.members.0 ∷ e.link.0 ∷ e.cause ∷ [])
-          both.1
-          ∙ ap (λ f. now ∷ 3 ∷ e.device.0 ∷ amount e.point ∷ f.members.0 ∷ e.link.0 ∷ e.cause ∷ []) both.0 in
-          never_self (now ∷ 3 ∷ ripe_more e) (rw is_here at by.3)
-      | inr (inr d) ↦ grind (arith, no_higher, ripe_more)
-    ]
+    search (arith, place_drop, parted, some_same, numbered_front, no_launch, same_place, never_self, no_higher)
 
 -- ---- a frame that waits is permanent
 
@@ -328,18 +305,7 @@ module _ {s : Scenario} {hs coming : List Happening} {now : ℕ} {e : Waiting} w
 
   permanent_in : (r : IsRipe s hs coming now e) (f : List Happening)
       → IsPermanent s (hs ++ f) e.device now e.link e.cause e.frame e.point
-  permanent_in r f = record {
-    arrival = r.it.arrival;
-    there = numbered_front hs f e.cause r.it.arrival r.it.there;
-    from = r.it.awaited.from;
-    clock = r.it.awaited.clock;
-    arrived = r.it.awaited.arrived;
-    of_frame = r.it.awaited.of_frame;
-    waits = r.it.awaited.waits;
-    at_point = r.it.awaited.at_point;
-    reached = reach_now r;
-    correct = r.sound;
-  }
+  permanent_in r f = search (arith, numbered_front, reach_now)
 
 here_place : (t now : ℕ) {m : ℕ} (e : Waiting) (verdict : Judgement) (body : NoteBody) → body ≡ kinds.Permanent e.device
     e.link e.cause e.point verdict

@@ -285,11 +285,7 @@ pub given_low : (hs : List Happening) {now : ℕ} (more : List ℕ)
     → ((h : Happening) → IsIn h hs → IsBefore (place_of h) (now ∷ 3 ∷ more))
     → (h : Happening) → IsIn h hs → time_of h ≡ now → rank h.note.body ≤ 3
 given_low hs {now} more within h i at =
-    elim (no_higher (time_of h) (rank h.note.body) now 3 (key (members_in h) h.note.body) more
-    (inr (within h i))) [
-      | inl lt ↦ absurd (omega arith)
-      | inr same ↦ same.1
-    ]
+    search (arith, no_higher, rank, key)
 
 not_late : {t now k : ℕ} (ws more w0 : List ℕ) → w0 ≡ t ∷ k ∷ ws → t ≡ now → 3 < k → IsBefore w0 (now ∷ 3 ∷ more) → ⊥
 not_late ws more w0 e at late b = elim (rw e at b) [
@@ -389,9 +385,7 @@ sooner_of {hs} {coming} r w h at i = elim (in_parts h hs coming i) [
 pub come_of : (s : Scenario) (hs : List Happening) (e : Waiting) (it : IsWaitingFor s hs e) → Rattle.run_law.specs.runs.Runs.IsFounded place_of (IsDue s) hs
     → HasCome s hs it.arrival e.device e.link it.awaited.from it.awaited.clock e.frame
 come_of s hs e it founded =
-    has_come s hs it.arrival e.device e.link it.awaited.from it.awaited.clock founded
-    (numbered_in hs e.cause it.arrival it.there) it.awaited.arrived
-    it.awaited.of_frame
+    search (arith, has_come, numbered_in)
 
 pub sound_of : {s : Scenario} {hs : List Happening} {e : Waiting} (it : IsWaitingFor s hs e)
     (c : HasCome s hs it.arrival e.device e.link it.awaited.from it.awaited.clock e.frame)
@@ -492,11 +486,7 @@ module _ {s : Scenario} {hs : List Happening} (frontier : List ℕ) (now : ℕ) 
   pub reach_by : ((t : ℕ) → IsRipening s hs t e.device e.link e.cause e.point → IsBefore (ripe_place t e) frontier → ⊥)
       → is_broken s e.device now ≡ false → time_of it.arrival ≤ now → e.point.0 ≤ℤ pos (s.reading e.device now)
       → IsReach (s.reading e.device) (pos (time_of it.arrival)) e.point.0 (pos now)
-  reach_by later sound le reached = record {
-    from_on = omega (arith, ints);
-    reached = reached;
-    not_before = λ x ge lt. below_by later sound x (omega (arith, ints)) (omega (arith, ints));
-  }
+  reach_by later sound le reached = search (arith, below_by)
 
 pub below : {s : Scenario} {hs coming : List Happening} {now : ℕ} {e : Waiting} (r : IsRipe s hs coming now e) (x : ℕ)
     → time_of r.it.arrival ≤ x → x < now → pos (s.reading e.device x) <ℤ e.point.0

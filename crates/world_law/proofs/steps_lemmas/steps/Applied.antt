@@ -143,8 +143,7 @@ module _ (s : Scenario) (hs : List Happening) (now : ℕ) (device : DeviceId)
 
   adjustment_up_to : adjustment_after s (up_to now hs) device ≡ adjustment_after s (earlier now hs) device
   adjustment_up_to =
-      up_to_before (λ adjustment h. adjustment_with s device (cycle_in h) adjustment h.note.body) _ hs now sooner
-      (λ b h is. event_adjustment s device (cycle_in h) b h.note.body is)
+      search (arith, up_to_before, cycle_in, event_adjustment)
 
 -- ---- a node with no more to do than another, and the same else
 
@@ -569,9 +568,7 @@ untold_apply {hs} {now} {number} line {pending} {befell} ev what untold early nu
 of_network : (s : Scenario) (hs : List Happening) (now : ℕ) (what : What) (device : DeviceId) → FitsWorld s hs now what
     → length s.network.device ≤ device.0 → turns_on device what ≡ false
 of_network s hs now (events.On other) device may le =
-    Rattle.std.proofs.lemmas.Bool.false_from_ne_true (device.0 == other.0)
-    (λ same. let at = Rattle.std.proofs.lemmas.Bool.eqb-true device.0 other.0 same in let lt = may.0 in
-    absurd (omega arith))
+    search arith
 of_network s hs now other device may le = refl
 
 known_apply : (network : Network) (f g : DeviceId → ℕ → ℕ) (past : List Event) (event : Event) (hs : List Happening) (now : ℕ) (ev : Happening)

@@ -2,7 +2,7 @@
 use Rattle.run_law.specs.{control.Leaving.{Departure, leaves, on_cut_way, too_old}, declared.steps.Arrival.Arrival}
 use Rattle.run_law.specs.{records.Happenings.frame_from}
 use Rattle.world_law.proofs.{giving.{Given.given_from, GivenParts.{source_kinds, up_to_place}}}
-use Rattle.world_law.proofs.{runs.{Foremost.stand_of, Worlds.late_of}}
+use Rattle.world_law.proofs.{runs.{Over.stand_of, Worlds.late_of}}
 use Rattle.world_law.proofs.{steps_lemmas.ripening.{RipenedSteps.ripened_step, Ripens.ripe_more}}
 use Rattle.world_law.proofs.steps_lemmas.{hearing.HeardSteps.heard_step}
 use Rattle.world_law.proofs.steps_lemmas.{steps.{LeftSteps.left_step, Passed.clock_step}}
@@ -80,20 +80,7 @@ IsTurnRank r = (2 ≡ r) ⊎ ((3 ≡ r) ⊎ ((8 ≡ r) ⊎ ((14 ≡ r) ⊎ ((4 �
 late_apart : (z : Happening) {now r : ℕ} {more : List ℕ} → IsTurnRank r → is_at_source z.note.body ≡ false
     → place_of z ≡ now ∷ r ∷ more → ⊥
 late_apart z {r} kind late at =
-    let same : rank z.note.body ≡ r = ap second at in
-    elim (source_kinds z.note.body) [
-      | inl is ↦ both_ways _ late is
-      | inr none ↦ elim kind [
-        | inl two ↦ none.0 (two ∙ sym same)
-        | inr (inl three) ↦ none.1 (three ∙ sym same)
-        | inr (inr (inl eight)) ↦ none.2 (eight ∙ sym same)
-        | inr (inr (inr (inl last))) ↦ none.3 (last ∙ sym same)
-        | inr (inr (inr (inr act))) ↦ elim none.4 [
-          | inl low ↦ omega arith
-          | inr high ↦ omega arith
-        ]
-      ]
-    ]
+    search (arith, rank, second, source_kinds)
 
 -- the records of a source: the first stands where the source does, and the others behind it, or all come later
 pub data AreThere (network : Network) (hs : List Happening) (now : ℕ) (at : List ℕ) : List NoteBody → Type 0 where
@@ -310,9 +297,7 @@ pub act_starts_late : (s : Scenario) (hs : List Happening) (now : ℕ) (device :
     → ((body : NoteBody) (others : List NoteBody) → bodies ≡ body ∷ others → 6 < rank body)
     → starts_there bodies ≡ false
 act_starts_late s hs now device was adjustment act bodies are high =
-    let low = low_rank act in
-    high_starts (act_there s hs now device was adjustment act bodies are)
-    (λ body others whole. let above = high body others whole in omega arith)
+    search (arith, low_rank, high_starts, act_there)
 
 -- nothing to come of a higher rank stands before it
 none_above : (now r : ℕ) (more : List ℕ) (zs : List Happening) → ((z : Happening) → IsIn z zs → time_of z ≡ now)

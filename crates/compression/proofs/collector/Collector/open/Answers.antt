@@ -1,12 +1,10 @@
 use Rattle.compression.{proofs.Collectors.{IsSound-opened, length-push, room_to_open}, specs.Clusters.Point}
-use Rattle.{compression.specs.Row.IsSound, std.proofs.Common.{◌∙◌, ap, arith, length, subst}}
+use Rattle.{std.proofs.Common.{◌∙◌, arith}}
 use Rattle.compression.proofs.collector.Collector.open.Goals as goal
 
 pub push-requires : goal.push-requires
 push-requires c =
-    let sound : IsSound c.args.self.now = subst IsSound c.self.view_is c.self.invariant in
-    rw (ap (λ v. v.waiting) c.self.view_is) (room_to_open c.args.reading.0 sound c.requires.order c.requires.due
-    c.requires.none)
+    search (arith, room_to_open)
 
 pub invariant_of-self : goal.invariant_of-self
 invariant_of-self c =
@@ -20,7 +18,4 @@ invariant_of-self c =
 
 pub returns-clause-few : goal.returns-clause-few
 returns-clause-few c =
-    let sound : IsSound c.args.self.now = subst IsSound c.self.view_is c.self.invariant in
-    let room = room_to_open c.args.reading.0 sound c.requires.order c.requires.due c.requires.none in
-    let same = ap (λ v. length v.waiting) c.self.view_is in
-    omega (arith, ap length c.push.ensures, length-push c.self.inside.waiting c.open-collection.result)
+    search (arith, room_to_open, length-push)

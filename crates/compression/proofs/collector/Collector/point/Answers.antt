@@ -1,4 +1,4 @@
-use Rattle.std.proofs.Common.{◌∙◌, ◌≡◌, ◌≢◌, ◌⊎◌, ap, inl, inr, refl, rules, subst, sym}
+use Rattle.std.proofs.Common.{◌∙◌, ◌≡◌, ◌≢◌, ◌⊎◌, ap, arith, inl, inr, refl, subst, sym}
 use Rattle.compression.proofs.Collectors.{IsSound-takes, Stands-role_ignored, Stands-role_joined, Stands-role_opened}
 use Rattle.compression.proofs.Collectors.{able, last_is_joined, role-whole}
 use Rattle.compression.specs.{Clusters.{point_at}, Collecting.{Collecting, with_joined}, Role.role, Row.IsSound}
@@ -43,20 +43,11 @@ returns-in-Repeat-clause-role c =
 
 pub returns-in-Opened-clause-stands : goal.returns-in-Opened-clause-stands
 returns-in-Opened-clause-stands c =
-    let p = point_at c.args.reading.0 c.args.master c.args.cycle in
-    let sound : IsSound c.args.self.now = subst IsSound c.self.view_is c.self.invariant in
-    let is = c.in-Opened.ensures.role ∙ ap (λ v. role v.waiting p) c.self.view_is in
-    Stands-role_opened c.args.self.now c.open.new.self p sound c.requires.order is (search rules)
+    search (arith, Stands-role_opened)
 
 pub returns-in-Joined-clause-stands : goal.returns-in-Joined-clause-stands
 returns-in-Joined-clause-stands c =
-    let p = point_at c.args.reading.0 c.args.master c.args.cycle in
-    let v : Collecting = record { ow = c.self.inside.ow.0; calc = c.self.inside.calc.0; earliest = c.self.inside.earliest.0; waiting = c.self.inside.waiting }
-    in
-    let w : Collecting = record { ow = c.self.inside.ow.0; calc = c.self.inside.calc.0; earliest = c.args.reading.0; waiting = c.offer-taken.new.self } in
-    λ points emitted s.
-    Stands-role_joined v w p c.self.invariant (rw (← c.self.view_is) at c.requires.order) c.in-Joined.ensures.role
-    (λ front k split. rw (c.in-Joined.ensures.joined refl front k split)) (rw c.self.view_is s)
+    search (arith, Stands-role_joined)
 
 not_joined : (t : Taken) → (t ≡ Repeat) ⊎ (t ≡ OtherCycle) → t ≢ Joined
 not_joined t (inl e) j = cc
@@ -72,16 +63,7 @@ returns-in-Joined-clause-joins c =
 
 pub returns-in-Repeat-clause-stands : goal.returns-in-Repeat-clause-stands
 returns-in-Repeat-clause-stands c =
-    let p = point_at c.args.reading.0 c.args.master c.args.cycle in
-    let v : Collecting = record { ow = c.self.inside.ow.0; calc = c.self.inside.calc.0; earliest = c.self.inside.earliest.0; waiting = c.self.inside.waiting }
-    in
-    let w : Collecting = record v { waiting = c.offer-taken.new.self } in
-    let same : w ≡ v = rw (c.offer-taken.ensures.ignored (not_joined c.offer-taken.result c.in-Repeat.is)) in
-    let is : (role v.waiting p ≡ Repeat) ⊎ (role v.waiting p ≡ OtherCycle) =
-    elim c.in-Repeat.is [ inl e ↦ inl (sym c.offer-taken.ensures.role ∙ e) | inr e ↦ inr (sym c.offer-taken.ensures.role ∙ e) ] in
-    λ points emitted s.
-    Stands-role_ignored v w p c.self.invariant (rw (← c.self.view_is) at c.requires.order) is same
-    (rw c.self.view_is s)
+    search (arith, not_joined, Stands-role_ignored)
 
 pub returns-in-Joined-clause-few : goal.returns-in-Joined-clause-few
 returns-in-Joined-clause-few c =

@@ -1,6 +1,7 @@
 use Rattle.std.proofs.{Common.{◌∙◌, FitsSigned, pos, refl, rules, slice_index_or, subst, w64}, lemmas.Int.to_z-of_z}
 use Rattle.compression.{proofs.Middles.{offset_at-within, offset_fits}, specs.Ascent.IsAscending}
 use Rattle.compression.proofs.points.Points.offset.Goals as goal
+use Rattle.std.proofs.Common.{arith}
 
 pub overflow_sub-result : goal.overflow_sub-result
 overflow_sub-result c =
@@ -18,8 +19,7 @@ returns-clause-value c =
 
 pub returns-clause-low : goal.returns-clause-low
 returns-clause-low c =
-    let up : IsAscending c.args.self.now = subst IsAscending c.self.view_is c.self.invariant.1 in
-    rw (returns-clause-value c) ((offset_at-within c.args.self.now c.args.i up c.requires.inside).0)
+    search (arith, returns-clause-value, offset_at-within)
 
 pub returns-clause-high : goal.returns-clause-high
 returns-clause-high c =

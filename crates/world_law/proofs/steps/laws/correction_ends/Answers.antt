@@ -1,4 +1,4 @@
-use Rattle.world_law.proofs.steps_lemmas.acting.ActedSteps.{correction_ends}
+use Rattle.world_law.proofs.steps_lemmas.acting.Ends.{correction_ends}
 use Rattle.world_law.proofs.steps.laws.correction_ends.Goals as goal
 
 pub returns : goal.returns
