@@ -63,12 +63,12 @@ begun_below (suc bound) place entry keeps is below =
 
 -- a remainder by a multiple leaves the remainder
 pub mod_of_multiple : (n m c : ℕ) → 0 < c → n % (m * c) % c ≡ n % c
-mod_of_multiple n m c pos =
+mod_of_multiple n m c more =
     let r = n % (m * c) in
     let one = div-add-mod' n (m * c) in
     let two = div-add-mod' (n % (m * c)) c in
     let whole : (n / (m * c) * m + r / c) * c + r % c ≡ n = omega arith in
-    sym (mod-mul-add (n / (m * c) * m + r / c) c (r % c) (mod_below r c pos)) ∙ (rw whole)
+    sym (mod-mul-add (n / (m * c) * m + r / c) c (r % c) (mod_below r c more)) ∙ (rw whole)
 
 -- a remainder by a power of two leaves that by a lesser one
 pub mod_of_powers : (n a b : ℕ) → b ≤ a → n % 2 ^ a % 2 ^ b ≡ n % 2 ^ b
