@@ -3,8 +3,8 @@ use Rattle.std.proofs.{lemmas.{Bool.{Decides.nat_tests, cases_Bool, false≢true
 use Rattle.std.proofs.Common
 use Common.{if◌then◌else◌, ◌∙◌, ◌∷◌, ◌≡◌, ◌≤◌, Bool, List, None, Option, Some, [], ap, arith, cond, false, inl, inr}
 use Common.{refl, subst, sym, true, ℕ}
-use Rattle.std.specs.{List.list_any, Option.option_map_or}
-use Rattle.std.specs.{Prelude.{◌==◌, ◌||◌, filter, fold, length, slice_get, suc, take, zero}}
+use Rattle.std.specs.{List.{cons_option, list_any}, Option.option_map_or}
+use Rattle.std.specs.{Prelude.{◌==◌, ◌||◌, filter, filter_map, fold, length, slice_get, suc, take, zero}}
 use Rattle.audit_law.specs.events.Readings.{scenario_under}
 use Rattle.lens_flows.specs.declared.judge.flow.Flow.{Flow}
 use Rattle.lens_overview.proofs.{LawAnswers.none_are}
@@ -12,12 +12,12 @@ use Rattle.lens_overview.proofs.{LawFlows.{IsKnown, both_is, come_delivered, fir
 use Rattle.lens_overview.proofs.{LawStrokes.same_shade}
 use Rattle.lens_overview.proofs.LawRows
 use LawRows.{brought_code, brought_delivered, cell_frame, come_brought, delivered_brought, frame, never_missing}
-use Rattle.lens_overview.specs.{Cells.{Missed, cut, seen, shade_at, taken, turned}, Grids.column_of, Labels.is_kind}
+use Rattle.lens_overview.specs.{Cells.{Missed, cut, seen, shade_at, taken, turned}, Copies.{coming, is_copy_of}}
+use Rattle.lens_overview.specs.{Grids.column_of, Labels.is_kind}
 use Rattle.lens_overview.specs.{LawColours.{BlueIsByA, ComesBy, ComesByOne, GreenIsByBoth, InEach, InSome, VioletIsByB}}
 use Rattle.lens_overview.specs.{LawParts.IsDeliveredIn, Laws.{cells_for, grid_for}}
-use Rattle.lens_overview.specs.{Parts.{is_coming, is_counted, is_of, is_turning}}
-use Rattle.lens_overview.specs.{Rows.{calm_below, is_turn, is_turned, with_calm}, Shades.{code_of, more}}
-use Rattle.lens_overview.specs.{Telling.news_by}
+use Rattle.lens_overview.specs.{Parts.{is_counted, is_of, is_turning}, Rows.{calm_below, is_turn, is_turned, with_calm}}
+use Rattle.lens_overview.specs.{Shades.{code_of, more}, Telling.news_by}
 use Rattle.lens_overview.specs.declared.{grid.Grid.Grid, label.Kind.Kind, news.{Change.Change, News.News}}
 use Rattle.lens_overview.specs.declared.{rows.Calm.Calm, shade.Shade.Shade}
 use Rattle.lens_svg.specs.Sketching.{with_at}
@@ -266,15 +266,32 @@ pub passage_skips : (grid : Grid) (link : LinkId) (way : Way) (cells : List Shad
 passage_skips grid link way cells all =
     fold_skips (taken grid (labels.Passage link way)) (is_of parts.Changes) (λ cells news none. no_cut link way _ cells news.change none) cells all
 
-no_copy : (vl : VlId) (device : DeviceId) (cells : List Shade) (change : Change) → is_coming change ≡ false → seen vl device change cells ≡ cells
-no_copy vl device cells (changes.Delivers copied) none = absurd cc
-no_copy vl device cells (changes.Repeats copied) none = absurd cc
+no_copy : (vl : VlId) (device : DeviceId) (cells : List Shade) (change : Change) → is_copy_of vl change ≡ false → seen vl device change cells ≡ cells
+no_copy vl device cells (changes.Delivers copied) none = rw none refl
+no_copy vl device cells (changes.Repeats copied) none = rw none refl
 no_copy vl device cells change none = refl
 
-pub flow_skips : (grid : Grid) (vl : VlId) (device : DeviceId) (cells : List Shade) (all : List News)
-    → fold (taken grid (labels.Flow vl device)) cells (filter (is_of parts.Copies) all) ≡ fold (taken grid (labels.Flow vl device)) cells all
-flow_skips grid vl device cells all =
-    fold_skips (taken grid (labels.Flow vl device)) (is_of parts.Copies) (λ cells news none. no_copy vl device cells news.change none) cells all
+-- the cells behind the copies of a virtual link that come to a device
+module _ (vl : VlId) (device : DeviceId) where
+  abbrev pub seen_by : List Shade → Change → List Shade
+  seen_by cells change = seen vl device change cells
+
+  seen_first : (cells : List Shade) (change : Change) (rest : List Change)
+      → fold seen_by cells (cons_option (coming change) rest) ≡ fold seen_by (seen_by cells change) rest
+  seen_first cells (changes.Delivers copied) rest = refl
+  seen_first cells (changes.Repeats copied) rest = refl
+  seen_first cells change rest = refl
+
+  seen_all : (grid : Grid) (cells : List Shade) (all : List News)
+      → fold seen_by cells (filter_map (λ news. coming news.change) all) ≡ fold (taken grid (labels.Flow vl device)) cells all
+  seen_all grid cells [] = refl
+  seen_all grid cells (news ∷ all) =
+      seen_first cells news.change (filter_map (λ news. coming news.change) all) ∙ seen_all grid (seen_by cells news.change) all
+
+  pub copies_fill : (grid : Grid) (cells : List Shade) (all : List News)
+      → fold seen_by cells (filter (is_copy_of vl) (filter_map (λ news. coming news.change) all)) ≡ fold (taken grid (labels.Flow vl device)) cells all
+  copies_fill grid cells all =
+      fold_skips seen_by (is_copy_of vl) (no_copy vl device) cells (filter_map (λ news. coming news.change) all) ∙ seen_all grid cells all
 
 never_turned : (device : DeviceId) (change : Change) → is_turning change ≡ false → is_turn device change ≡ false
 never_turned device (changes.Turns other shade) none = absurd cc

@@ -6,6 +6,7 @@ pub mod Spreads
 pub mod News
 pub mod Telling
 pub mod Parts
+pub mod Copies
 pub mod Cells
 pub mod Bars
 pub mod Signs

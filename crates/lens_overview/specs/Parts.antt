@@ -16,17 +16,10 @@ is_turning (changes.Cuts link way) = true
 is_turning (changes.Heals link way) = true
 is_turning change = false
 
--- a copy of a frame comes by it
-abbrev pub is_coming : Change → Bool
-is_coming (changes.Delivers copied) = true
-is_coming (changes.Repeats copied) = true
-is_coming change = false
-
 -- it may fill rows of the sort
 abbrev pub is_of : RowSort → News → Bool
 is_of parts.Counts news = is_counted news.kind
 is_of parts.Changes news = is_turning news.change
-is_of parts.Copies news = is_coming news.change
 
 -- of all records these may fill rows of the sort
 abbrev pub ArePartOf : RowSort → List News → List News → Type 0

@@ -9,6 +9,7 @@ ghost use Rattle.tte_reports.specs.{Answer.IsAuditStatus, Commands.IsRead, Repor
 ghost use Rattle.tte_units.specs.declared.units.Units.{Units as UnitsValue};
 
 use crate::cells::Run;
+use crate::copies::copies_in;
 use crate::grid::Grid;
 use crate::lines::make_piece;
 use crate::news::last_cycle;
@@ -70,7 +71,7 @@ fn drawn(
     let grid = Grid::new(last);
     let counts = part_of(alloc, all, RowSort::Counts)?;
     let changes = part_of(alloc, all, RowSort::Changes)?;
-    let copies = part_of(alloc, all, RowSort::Copies)?;
+    let copies = copies_in(alloc, all)?;
     let run = Run {
         news: all,
         counts: &counts,

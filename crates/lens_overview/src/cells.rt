@@ -1,12 +1,13 @@
 //! The cells of a row.
-ghost use Rattle.std.specs.Prelude.{◌+◌, ◌<◌, ◌^◌, ◌≡◌, ◌≤◌, IfOk, List, [], fold, replicate};
+ghost use Rattle.std.specs.Prelude.{◌+◌, ◌<◌, ◌^◌, ◌≡◌, ◌≤◌, IfOk, List, [], filter_map, fold, replicate};
 ghost use Rattle.lens_overview.specs.Cells.{cells_of, cut, filled, filled_from, flow_cells, in_column, is_alike, is_any};
 ghost use Rattle.lens_overview.specs.Cells.{is_same_way, narrowed, seen, shade_at, taken, turned, worst};
-ghost use Rattle.lens_overview.specs.{Grids.{IsNarrow, most_columns}, Parts.ArePartOf};
-ghost use Rattle.lens_overview.specs.declared.parts.RowSort.TheVariants.{Changes, Copies, Counts};
+ghost use Rattle.lens_overview.specs.{Copies.coming, Grids.{IsNarrow, most_columns}, Parts.ArePartOf};
+ghost use Rattle.lens_overview.specs.declared.parts.RowSort.TheVariants.{Changes, Counts};
 ghost use Rattle.lens_overview.specs.declared.shade.Shade.{Shade as ShadeValue};
 ghost use Rattle.lens_svg.specs.Sketching.{with_at};
 
+use crate::copies::LinkRun;
 use crate::grid::Grid;
 use crate::label::{Label, is_kind};
 use crate::news::{Change, News};
@@ -15,17 +16,17 @@ use net_plan::{DeviceId, LinkId, VlId, Way};
 use std::alloc::Global;
 use tte_io::OutOfMemory;
 
-/// What the cells are filled from: what the records tell, those of them that may fill rows of each sort, the last cycle,
-/// and the columns.
+/// What the cells are filled from: what the records tell, those of them that may fill rows of each sort, the copies that
+/// come by them, the last cycle, and the columns.
 #[derive(Clone, Copy)]
 pub(crate) struct Run<'a> {
     pub(crate) news: &'a [News],
     pub(crate) counts: &'a [News],
     pub(crate) changes: &'a [News],
-    pub(crate) copies: &'a [News],
+    pub(crate) copies: &'a [Change],
     ghost counts_are: { ArePartOf Counts news.now counts.now },
     ghost changes_are: { ArePartOf Changes news.now changes.now },
-    ghost copies_are: { ArePartOf Copies news.now copies.now },
+    ghost copies_are: { copies.now ≡ filter_map (λ news. coming news.change) news.now },
     pub(crate) last: u32,
     pub(crate) grid: Grid,
 }
@@ -190,8 +191,7 @@ fn part_for<'a>(run: Run<'a>, label: Label) -> &'a [News]
         Label::Count(_) => run.counts,
         Label::Lane(_) => run.changes,
         Label::Passage(_, _) => run.changes,
-        Label::Flow(_, _) => run.copies,
-        Label::Title(_) | Label::Others(_, _) | Label::Flows(_, _) => run.news,
+        Label::Flow(_, _) | Label::Title(_) | Label::Others(_, _) | Label::Flows(_, _) => run.news,
     }
 }
 
@@ -265,24 +265,21 @@ fn narrowed(alloc: Global, grid: Grid, each: &[Shade]) -> Result<Vec<Shade>, Out
     Ok(cells)
 }
 
-/// The cells of a virtual link's frames at a receiver. Frames that are owed are delivered, so none is missing.
+/// The cells of the virtual link's frames at a receiver. Frames that are owed are delivered, so none is missing.
 pub(crate) fn cells_of_flow(
     alloc: Global,
-    run: Run<'_>,
-    vl: VlId,
+    own: &LinkRun<'_>,
     device: DeviceId,
 ) -> Result<Vec<Shade>, OutOfMemory>
-    requires { IsNarrow run.grid }
-    ensures { IfOk result (λ cells. cells.items ≡ flow_cells run.entry.grid run.entry.news.now run.entry.last [] vl device) }
+    ensures { IfOk result (λ cells. cells.items
+        ≡ flow_cells own.now.run.grid own.now.run.news.now own.now.run.last [] own.now.vl device) }
 {
-    let each = filled(
-        alloc,
-        run,
-        Label::Flow(vl, device),
-        Shade::Blank,
-        u64::from(run.last),
-    )?;
-    narrowed(alloc, run.grid, &each)
+    let copies = own.copies.as_slice();
+    let mut each = even(alloc, Shade::Blank, u64::from(own.run.last))?;
+    'copies: for change in copies {
+        see(&mut each, own.vl, device, *change);
+    }
+    narrowed(alloc, own.run.grid, &each)
 }
 
 /// Is a cell of them filled?

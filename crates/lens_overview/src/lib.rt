@@ -4,6 +4,7 @@
 mod answering;
 mod bars;
 mod cells;
+mod copies;
 mod grid;
 mod label;
 mod laws;

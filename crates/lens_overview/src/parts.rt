@@ -1,6 +1,6 @@
 //! The records that fill rows of one sort. Most records fill none, and a picture has many rows.
 ghost use Rattle.std.specs.{List.count_by, Prelude.{◌≡◌, IfOk, filter}};
-ghost use Rattle.lens_overview.specs.Parts.{is_coming, is_of, is_turning};
+ghost use Rattle.lens_overview.specs.Parts.{is_of, is_turning};
 
 use crate::news::{Change, News};
 use std::alloc::Global;
@@ -13,8 +13,6 @@ pub(crate) enum RowSort {
     Counts,
     /// Those of devices and of ways.
     Changes,
-    /// Those of frames that come to receivers.
-    Copies,
 }
 
 /// Does the change turn a device, or cut or heal a way?
@@ -27,20 +25,6 @@ fn is_turning(change: Change) -> bool
     }
 }
 
-/// Does a copy of a frame come?
-fn is_coming(change: Change) -> bool
-    ensures { result ≡ is_coming change }
-{
-    match change {
-        Change::Delivers(_) | Change::Repeats(_) => true,
-        Change::Nothing
-        | Change::Turns(_, _)
-        | Change::Cuts(_, _)
-        | Change::Heals(_, _)
-        | Change::Sends(_, _) => false,
-    }
-}
-
 /// May the record fill rows of this sort?
 fn is_of(part: RowSort, news: &News) -> bool
     ensures { result ≡ is_of part news.now }
@@ -48,7 +32,6 @@ fn is_of(part: RowSort, news: &News) -> bool
     match part {
         RowSort::Counts => news.kind.is_some(),
         RowSort::Changes => is_turning(news.change),
-        RowSort::Copies => is_coming(news.change),
     }
 }
 

@@ -7,11 +7,12 @@ ghost use Rattle.lens_overview.specs.Rows.{upper_rows, with_calm, with_flows};
 ghost use Rattle.net_plan.specs.Ranges.{IsInRange};
 
 use crate::cells::{Run, cells_of, cells_of_flow, even, is_alike, is_any};
+use crate::copies::LinkRun;
 use crate::label::{Group, Kind, Label, is_of_vl, with_receiver};
 use crate::news::{Change, News};
 use crate::shade::Shade;
 use lens_flows::judge::Flow;
-use net_plan::{Device, DeviceId, LinkId, Network, Way};
+use net_plan::{Device, DeviceId, LinkId, Network, VlId, Way};
 use std::alloc::Global;
 use std::marker::Model;
 use tte_io::OutOfMemory;
@@ -284,21 +285,21 @@ fn join(rows: &mut Vec<Row>, flow: &Flow, cells: Vec<Shade>) -> Result<(), OutOf
     push_row(rows, Label::Flow(flow.vl, flow.device), cells)
 }
 
-/// Adds a flow.
+/// Adds a flow of the virtual link.
 fn push_flow(
     rows: &mut Vec<Row>,
     alloc: Global,
-    run: Run<'_>,
+    own: &LinkRun<'_>,
     flow: &Flow,
 ) -> Result<(), OutOfMemory>
-    requires { IsNarrow run.grid }
-    ensures { OnOk result (rows.new.items ≡ with_flows (told_by run.entry) [] rows.old.items (flow.now ∷ [])) }
+    requires { own.now.vl ≡ flow.now.vl }
+    ensures { OnOk result (rows.new.items ≡ with_flows (told_by own.now.run) [] rows.old.items (flow.now ∷ [])) }
 {
-    let cells = cells_of_flow(alloc, run, flow.vl, flow.device)?;
+    let cells = cells_of_flow(alloc, own, flow.device)?;
     join(rows, flow, cells)
 }
 
-/// Adds the rows of the flows.
+/// Adds the rows of the flows, of which those of one virtual link stand together.
 fn push_flows(
     rows: &mut Vec<Row>,
     alloc: Global,
@@ -308,8 +309,10 @@ fn push_flows(
     requires { IsNarrow run.grid }
     ensures { OnOk result (rows.new.items ≡ with_flows (told_by run.entry) [] rows.old.items flows.now) }
 {
+    let mut own = LinkRun::new(alloc, run, VlId(0))?;
     'flows: for flow in flows {
-        push_flow(rows, alloc, run, flow)?;
+        own = own.turned_to(alloc, flow.vl)?;
+        push_flow(rows, alloc, &own, flow)?;
     }
     Ok(())
 }

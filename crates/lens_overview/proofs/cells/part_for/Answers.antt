@@ -1,4 +1,4 @@
-use Rattle.lens_overview.proofs.LawCells.{counts_skip, flow_skips, lane_skips, passage_skips}
+use Rattle.lens_overview.proofs.LawCells.{counts_skip, lane_skips, passage_skips}
 use Rattle.lens_overview.specs.{Cells.taken, declared.{label.Label.Label, news.News.News}}
 use Rattle.{std.proofs.Common.{◌∙◌, ◌≡◌, List, ap, subst, sym}, std.specs.Prelude.fold}
 use Rattle.lens_overview.specs.declared.label.Label.TheVariants as labels
@@ -25,10 +25,3 @@ returns-in-Passage c cells =
     subst (λ label. shown label run.changes.now ≡ shown label run.news.now) (sym c.in-Passage.is)
     (ap (λ all. shown (labels.Passage c.in-Passage.field-0 c.in-Passage.field-1) all) run.changes_are
     ∙ passage_skips run.grid c.in-Passage.field-0 c.in-Passage.field-1 cells run.news.now)
-
-pub returns-in-Flow : goal.returns-in-Flow
-returns-in-Flow c cells =
-    let run = c.args.run in
-    let shown = λ (label : Label) (all : List News). fold (taken run.grid label) cells all in
-    subst (λ label. shown label run.copies.now ≡ shown label run.news.now) (sym c.in-Flow.is)
-    (ap (λ all. shown (labels.Flow c.in-Flow.field-0 c.in-Flow.field-1) all) run.copies_are ∙ flow_skips run.grid c.in-Flow.field-0 c.in-Flow.field-1 cells run.news.now)
