@@ -132,7 +132,7 @@ flows_answer_one network octets ns end a b rules r p q = answers_one p q
 
 -- ---- the times of the deliveries of a report
 
-split_at : (n : Note) (notes : List Note) → IsIn n notes → (before : List Note) × (rest : List Note) × (notes ≡ before ++ n ∷ rest)
+pub split_at : (n : Note) (notes : List Note) → IsIn n notes → (before : List Note) × (rest : List Note) × (notes ≡ before ++ n ∷ rest)
 split_at n [] i = absurd i
 split_at n (m ∷ notes) (inl same) = ([], notes, ap (λ (x : Note). x ∷ notes) (sym same))
 split_at n (m ∷ notes) (inr i) = let at = split_at n notes i in (m ∷ at.0, at.1, ap (λ (ns : List Note). m ∷ ns) at.2)

@@ -7,7 +7,7 @@ use Common.{false, inl, inr, length, refl, subst, suc, sym, true, zero, ℕ}
 use Rattle.audit_law.{proofs.law_lemmas.Owed.{audit_laws, gap_law}, specs.law.Linked.{AreLinked, HasCause}}
 use Rattle.lens_latency.proofs.{Comings.comes_in_its_time, Givings.given_more}
 use Rattle.precision_law.proofs.traffic_lemmas.delivery.{Delivering.fields_fit, Forwarding.Brings, Taken.takings_are_so}
-use Rattle.run_law.proofs.{records.Order.as_many, runs.NetworkRuns.one_more}
+use Rattle.run_law.proofs.{records.Order.{as_many, none_numbered}, runs.NetworkRuns.one_more}
 use Rattle.lens_latency.specs.{Arrivals.{AreGiven, HasDeparted, IsArrivalBy, IsDeparture, IsDepartureOf}}
 use Rattle.lens_latency.specs.{Following.{IsFollowed, arrival_by, departure_at, departure_by, is_departure}}
 use Rattle.lens_latency.specs.{Laws.{DeliveriesAreSeen, GoesBy, IsSeenWithin, trip_by}}
@@ -375,11 +375,7 @@ module _ (network : Network) (ns before : List Note) where
   earlier = happenings network before
 
   pub followed_none : (kept : List (Option ℕ)) (arrivals : List FrameArrival) → kept ≡ [] → arrivals ≡ [] → IsFollowed network ns [] kept arrivals
-  followed_none kept arrivals none empty = record { count = ap length none; departures = λ n h there. absurd (numbered_none n h there); told = empty }
-    where
-      numbered_none : (n : ℕ) (h : Happening) → numbered [] n ≡ Some h → ⊥
-      numbered_none zero h e = absurd cc
-      numbered_none (suc n) h e = absurd cc
+  followed_none kept arrivals none empty = record { count = ap length none; departures = λ n h there. absurd (none_numbered n h there); told = empty }
 
   -- the departure of the next record
   next_departure : (note : Note) (kept : List (Option ℕ)) (gs : List Happening) → hs ≡ earlier ++ happening network earlier note ∷ gs

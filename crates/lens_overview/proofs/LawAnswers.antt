@@ -6,7 +6,7 @@ use Common.{Some, [], ap, arith, false, fold, inl, inr, length, pos, refl, subst
 use Rattle.std.specs.{Option.option_map_or}
 use Rattle.std.specs.{Prelude.{◌&&◌, ◌==◌, codes, int_le, option_map, slice_get, unsigned_abs, unwrap_or}}
 use Rattle.audit_law.specs.events.Readings.{scenario_under}
-use Rattle.lens_flows.specs.declared.judge.flow.Flow.{Flow}
+use Rattle.lens_flows.{proofs.AllTold.split_at, specs.declared.judge.flow.Flow.Flow}
 use Rattle.lens_overview.proofs.{LawTexts.{is_lane, is_passage, lane_of, passage_of}}
 use Rattle.lens_overview.proofs.LawLines
 use LawLines.{all, flow_row, lane_drawn, lane_is, lane_size, line_drawn, line_in, lines, name_there, none_red}
@@ -516,11 +516,6 @@ cells_are_delivered words network octets ns end a rules r answer flow column =
 
 -- ---- bars
 
-note_before : (n : Note) (ns : List Note) → IsIn n ns → (before : List Note) × (rest : List Note) × (ns ≡ before ++ n ∷ rest)
-note_before n [] i = absurd i
-note_before n (m ∷ ns) (inl same) = ([], ns, ap (λ (x : Note). x ∷ ns) (sym same))
-note_before n (m ∷ ns) (inr i) = let at = note_before n ns i in (m ∷ at.0, at.1, ap (λ (xs : List Note). m ∷ xs) at.2)
-
 -- no correction of a report finds clocks further apart than the precision
 spread_close : (network : Network) (octets : List ℕ) (ns : List Note) (end : Units) (note : Note) (n : ℕ) → KeepsRules network
     → IsReportOf network octets ns end → IsIn note ns → spread_of network ns note ≡ Some n → n ≤ amount network.precision
@@ -528,7 +523,7 @@ spread_close network octets ns end note n rules r i e =
     let s = scenario_under network (events_of ns) in
     let hs = happenings network ns in
     let far = by_apart s hs (moment note) note.body n e in
-    let at = note_before note ns i in
+    let at = split_at note ns i in
     let soon = none_later network octets ns end r at.0 at.1 note at.2 in
     let close = (report_well rules r).safe.precision.after (moment note) far.high.device far.low.device soon
     far.high.in_step

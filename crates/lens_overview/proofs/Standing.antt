@@ -1,8 +1,8 @@
 -- What is shown of a device at a time, once all records of the time have come.
 use Rattle.{audit_devices.specs.Showing.{Shown, Shows}, lens_overview.specs.Spreads.local_at, net_plan.specs.declared.ids.DeviceId.DeviceId}
 use Rattle.run_law.specs.device.{LocalClocks.local, States.{is_synchronised, state_after}}
-use Rattle.lens_flows.proofs.judge_lemmas.Judging.{up_to_is}
-use Rattle.run_law.specs.{records.Happenings.{Happening, earlier, up_to}, scenario.Scenarios.{Scenario, is_broken}}
+use Rattle.precision_law.proofs.law.Precision.{up_to_is}
+use Rattle.{run_law.specs.{records.Happenings.{Happening, earlier, up_to}, scenario.Scenarios.{Scenario, is_broken}}}
 use Rattle.std.proofs.Common.{◌+◌, ◌∙◌, ◌≡◌, Bool, List, None, Option, Some, ap, false, if◌then◌else◌, refl, subst, sym, true, ℕ, ℤ}
 use Rattle.sync_state.specs.declared.state.State.{State, TheVariants.{Integrating, Joining, Off, Synchronised}}
 

@@ -11,19 +11,19 @@ use Rattle.lens_page.specs.Lines
 use Lines.{channel_of, channel_words, device_line, ends_words, link_line, network_lines, network_text, number_line}
 use Lines.{role_word, vl_line}
 use Rattle.net_plan.{proofs.InRange.amount_most}
-use Rattle.net_plan.specs.{Belonging.{HasDevice, device_name}}
+use Rattle.net_plan.specs.{Belonging.device_name}
 use Rattle.net_plan.specs.{Ranges.{IsDeviceInRange, IsInRange, IsLinkInRange, IsVlInRange, IsWithin}}
-use Rattle.net_plan.specs.declared.{ids.DeviceId.DeviceId, network.Network.Network}
+use Rattle.net_plan.specs.declared.{network.Network.Network}
 use Rattle.net_plan.specs.declared.tables.{Device.Device, Link.Link}
 use Rattle.net_plan.specs.declared.tables.{Role.{Role, TheVariants.{Client, Cm, Master, Relay}}}
 use Rattle.net_plan.specs.declared.tables.{VirtualLink.VirtualLink}
 use Rattle.report_text.{specs.{Laws.AreOfNetwork, NoteLine.{body_text, report_of}, Ranges.IsNoteInRange}}
 use Rattle.report_text.proofs.{Characters.{IsVisible, decimal_visible, name_visible, visible_from_test}}
-use Rattle.report_text.proofs.{Splits.split_once, Visible.{AreOfLine, AreVisible, IsUnbroken, is_lf, line_unbroken}}
+use Rattle.report_text.proofs.{Splits.split_once}
+use Rattle.report_text.proofs.{Visible.{AreOfLine, AreVisible, IsUnbroken, device_visible, is_lf, line_unbroken}}
 use Rattle.run_law.specs.declared.note.Note.{Note}
-use Rattle.trace_text.{proofs.WordsBack.in_list, specs.Steps.{Words, space}}
+use Rattle.trace_text.specs.Steps.{Words, space}
 use Rattle.tte_io.specs.Line.{lf}
-use Rattle.tte_units.{proofs.general_lemmas.Lists.some_at}
 use Rattle.tte_units.specs.{Amount.amount}
 use Rattle.tte_units.specs.{declared.{frames.channel.Channel.{Channel, TheVariants.{A, B}}, units.Units.Units}}
 
@@ -97,12 +97,6 @@ told_by c cs (v ∷ vs) line letter visible is = record {
 
 -- ---- words
 
-named_visible : {network : Network} (d : DeviceId) → IsInRange network → HasDevice network d
-    → IsVisible (device_name network d)
-named_visible {network} d range has =
-    let at = some_at network.device d.0 has in
-    rw at.1 (name_visible at.0.name (in_list IsDeviceInRange network.device d.0 at.0 at.1 range.devices).name)
-
 role_visible : (role : Role) → IsVisible (role_word role)
 role_visible Master = visible_from_test (codes "master") refl
 role_visible Client = visible_from_test (codes "client") refl
@@ -169,8 +163,8 @@ link_told network link range own =
       (
         name_visible link.name own.name,
         (
-          named_visible link.child range own.child,
-          (named_visible link.parent range own.parent, channel_visible (channel_of network link)),
+          device_visible _ link.child range own.child,
+          (device_visible _ link.parent range own.parent, channel_visible (channel_of network link)),
         ),
       ),
     ) (link_text link.name child parent (channel_of network link))
@@ -181,7 +175,7 @@ vl_told network vl range own =
     let sender = device_name network vl.sender in
     told_by 118 (codes "l") (vl.name ∷ sender ∷ []) (vl_line network vl) (omega arith) (
       visible_from_test (codes "vl") refl,
-      (name_visible vl.name own.name, (named_visible vl.sender range own.sender, tt)),
+      (name_visible vl.name own.name, (device_visible _ vl.sender range own.sender, tt)),
     ) (vl_text vl.name sender)
 
 -- ---- all lines

@@ -1,6 +1,6 @@
 -- The rules that the rows of a planned network keep.
-use Rattle.lens_plan.proofs.{Attempts.limit_by, Courses.not_to_sender}
-use Rattle.lens_plan.proofs.{Leading.{no_end, no_switch, one_channel, relay_is}}
+use Rattle.precision_law.proofs.traffic_lemmas.faults.Channels.{one_channel}
+use Rattle.lens_plan.proofs.{Attempts.limit_by, Courses.not_to_sender, Leading.{no_end, no_switch, relay_is}}
 use Rattle.lens_plan.proofs.{Serving.{ItsCourse, by_link, by_target, first_of, its_courses, last_of, trial_by}}
 use Rattle.lens_plan.proofs.PlannedRows.{HasEntry, IsNew, IsSound, base, course, course_at, each_there, entry_of}
 use Rattle.lens_plan.proofs.PlannedRows.{entry_there, ground_of, in_links, in_order, item, link_no, of_items, offset_is}

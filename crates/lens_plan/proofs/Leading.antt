@@ -15,6 +15,7 @@ use Rattle.net_plan.specs.{Ranges.{IsDeviceInRange, IsInRange}}
 use Rattle.net_plan.specs.declared.{ids.{DeviceId.DeviceId, LinkId.LinkId, VlId.VlId}, network.Network.Network}
 use Rattle.net_plan.specs.declared.tables.{Device.Device, Link.Link, Role.TheVariants.Relay, VirtualLink.VirtualLink}
 use Rattle.net_plan.specs.declared.tables.{Way.{TheVariants.{Down, Up}, Way}}
+use Rattle.precision_law.proofs.traffic_lemmas.faults.Channels.{one_channel}
 use Rattle.schedule_tables.{proofs.{Margins.same_or_other, SlotLemmas.one_entry}}
 use Rattle.schedule_tables.specs.{Entries.{IsEntry, IsOnChannel, source_by, source_of, target_by, target_of}}
 use Rattle.schedule_tables.specs.{Rules.KeepsRules, Schedule.IsSwitch, Windows.window_end}
@@ -261,13 +262,6 @@ zip_last R (a ∷ xs) [] x zip = absurd zip
 zip_last R (a ∷ xs) (b ∷ ys) x zip = zip_last R xs ys x zip.1
 
 -- ---- devices
-
--- a switch of a channel is of no other
-pub one_channel : (network : Network) (c d : Channel) (device : DeviceId) → IsSwitchOf network c device → IsSwitchOf network d device → c ≡ d
-one_channel network c d device one other =
-    let o = opened (λ (x : Device). x.channel ≡ Some c) (device_at network device) one in
-    let there : o.0.channel ≡ Some d = at_known (λ (x : Device). x.channel ≡ Some d) (device_at network device) o.0 o.1 other in
-    some_same c d o.0.channel o.2 there
 
 no_channel : (c : Channel) (o : Option Channel) (b : Bool) → is_some o ≡ not b → b ≡ true → o ≡ Some c → ⊥
 no_channel c o b same end is = grind (arith, same, end, is)

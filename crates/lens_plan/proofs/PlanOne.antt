@@ -3,13 +3,11 @@ use Rattle.std.proofs.{Math.Seq.take-length}
 use Rattle.std.proofs.Common
 use Common.{◌++◌, ◌+◌, ◌<◌, ◌∙◌, ◌∷◌, ◌≡◌, ◌≢◌, ◌≤◌, ◌⊎◌, List, None, Option, Some, [], ap, arith, get_or, inl, inr}
 use Common.{length, map, refl, set, slice_get, subst, suc, sym, take, zero, ℕ}
-use Rattle.std.proofs.lemmas.{Bool.cases_lt}
+use Rattle.std.proofs.lemmas.{Bool.cases_lt, Option.{get_or_from_slice_get, slice_get-get_or, slice_get_past}}
 use Rattle.std.proofs.lemmas.List.{Elements.{All-cons, All-head, All-nil, All-tail}}
 use Rattle.std.proofs.lemmas.List.{FromFn.{get_or-range_with_len, length-range_with_len}, get_or-take, get_or_default}
 use Rattle.std.proofs.lemmas.List.{length-take, take_more}
 use Rattle.std.proofs.lemmas.List.Sorted.{All-permutation, Contains-permutation, IsPermutation-sym, IsPermutation-trans}
-use Rattle.std.proofs.lemmas.Option.{get_or_from_slice_get, none-some, slice_get-get_or, slice_get_cases}
-use Rattle.std.proofs.lemmas.Option.{slice_get_past}
 use Rattle.std.specs.{List.{All, AllPairs, AllZip, Contains, Sorted.IsPermutation, range_with_len}}
 use Rattle.std.specs.{Option.option_map_or}
 use Rattle.lens_plan.proofs.Attempts.{behind_one, pairs_head, pairs_tail, way_one}
@@ -28,7 +26,8 @@ use Rattle.lens_plan.specs.places.Limits
 use Limits.{AreHops, AreWays, IsCrowded, IsExcess, IsWithinLimits, once, rows_from, rows_wanted}
 use Rattle.net_plan.specs.{Paths.IsTree, declared.{ids.DeviceId.DeviceId, network.Network.Network}}
 use Rattle.schedule_tables.proofs.SlotLemmas.{one_entry}
-use Rattle.tte_units.specs.declared.frames.channel.Channel.TheVariants.{A, B}
+use Rattle.tte_units.{proofs.general_lemmas.Lists.{got_within, some_at}}
+use Rattle.tte_units.{specs.declared.frames.channel.Channel.TheVariants.{A, B}}
 use Rattle.lens_plan.specs.declared.places.planning.NoPlan.TheVariants as plans
 
 -- ---- one more message placed
@@ -93,18 +92,10 @@ placed_next {network} ms old new rows {now} taken order turn place {m} {a} is wi
     (placed_more ms (set old place a) rows (take turn order) place
     (placed_same network ms old (set old place a) rows now (take turn order) earlier before) there (set_here old place a here) has)))
 
--- what is found in a list stands within it
-pub within_found : {X : Type 0} (xs : List X) (i : ℕ) (x : X) → slice_get xs i ≡ Some x → i < length xs
-within_found xs i x found =
-    elim (slice_get_cases xs i).1 [
-      | inl is ↦ is.1
-      | inr past ↦ absurd (none-some x (sym past.1 ∙ found))
-    ]
-
 -- a message of those that are asked is asked
 pub asked_at : (network : Network) (ms : List Message) (place : ℕ) (m : Message) → All (IsAsked network) ms → slice_get ms place ≡ Some m → IsAsked network m
 asked_at network ms place m all there =
-    subst (IsAsked network) (get_or_from_slice_get ms place m m there) (all place m (within_found ms place m there))
+    subst (IsAsked network) (get_or_from_slice_get ms place m m there) (all place m (got_within ms place m there))
 
 -- ---- one more move
 
@@ -124,7 +115,7 @@ module _ (network : Network) (ms : List Message) (there : List Taken) where
 
   pub turn_within : {order : List ℕ} {misfit : Misfit} → IsMisfit network ms there order misfit
       → misfit.turn < length order
-  turn_within {order} {misfit} unfit = within_found order misfit.turn unfit.place unfit.here
+  turn_within {order} {misfit} unfit = got_within order misfit.turn unfit.place unfit.here
 
   pub reached_more : {moves : ℕ} {order : List ℕ} (new : List ℕ) {misfit : Misfit}
       → IsReached network ms there moves order → IsMisfit network ms there order misfit
@@ -184,7 +175,7 @@ there_one {network} {one} {other} are too =
     let mine = are.each k row found in
     let long = are.counted in
     let size = too.counted in
-    let within = within_found one k row found in
+    let within = got_within one k row found in
     let yours = too.each k (get_or other k row) (there_of other k row (omega (arith, long, size, within))) in
     let same : get_or other k row ≡ row = yours.2 ∙ ap taken_by (one_entry network k yours.0 mine.0 yours.1 mine.1) ∙ sym mine.2 in
     there_of other k row (omega (arith, long, size, within)) ∙ ap (λ (r : Taken). Some r) same)
@@ -245,19 +236,14 @@ pub record AreSameAt (ones others : List Attempt) (place : ℕ) : Type 0 where
   pub there : slice_get others place ≡ Some other
   pub same : IsSameAttempt one other
 
-found_in : {X : Type 0} (xs : List X) (k : ℕ) → k < length xs → (x : X) × (slice_get xs k ≡ Some x)
-found_in [] k within = absurd (omega (arith, within))
-found_in (x ∷ xs) zero within = (x, refl)
-found_in (x ∷ xs) (suc k) within = found_in xs k (omega (arith, within))
-
 firsts_one : {network : Network} {there : List Taken} {ms : List Message} {count : ℕ} {ones others : List Attempt}
     → IsTree network → HavePlaces network there ms count ones → HavePlaces network there ms count others → (k : ℕ)
     → k < count → AreSameAt ones others k
 firsts_one {network} {there} {ms} {ones} {others} tree have also k within =
     let size = have.counted in
     let long = also.counted in
-    let one = found_in ones k (omega (arith, size, within)) in
-    let other = found_in others k (omega (arith, long, within)) in
+    let one = some_at ones k (omega (arith, size, within)) in
+    let other = some_at others k (omega (arith, long, within)) in
     let mine = have.each k one.0 one.1 in
     let yours = also.each k other.0 other.1 in
     let message : yours.0 ≡ mine.0 = some_one (slice_get ms k) yours.0 mine.0 yours.1 mine.1 in
@@ -390,7 +376,7 @@ module _ (network : Network) (ms : List Message) (tree : IsTree network) where
       → x.turn < y.turn → ⊥
   no_earlier rows order x y one other less =
       clash other.attempts rows order x
-      (turn_of other.attempts rows order y.turn x.turn other.taken other.before less (within_found order x.turn one.place one.here)) one
+      (turn_of other.attempts rows order y.turn x.turn other.taken other.before less (got_within order x.turn one.place one.here)) one
 
   turns_one : (rows : List Taken) (order : List ℕ) (x y : Misfit) → IsMisfit network ms rows order x → IsMisfit network ms rows order y → x.turn ≡ y.turn
   turns_one rows order x y one other =
@@ -406,7 +392,7 @@ module _ (network : Network) (ms : List Message) (tree : IsTree network) where
   all_placed : (attempts : List Attempt) (rows : List Taken) (order : List ℕ) (taken : List Taken) (x : Misfit)
       → ArePlaced network ms attempts rows order taken → IsMisfit network ms rows order x → ⊥
   all_placed attempts rows order taken x placed misfit =
-      let within = within_found order x.turn misfit.place misfit.here in
+      let within = got_within order x.turn misfit.place misfit.here in
       clash attempts rows order x
       (turn_of attempts rows order (length order) x.turn taken
       (subst (λ xs. ArePlaced network ms attempts rows xs taken) (sym (take-length order)) placed) within within) misfit
@@ -453,7 +439,7 @@ module _ (network : Network) (ms : List Message) (tree : IsTree network) where
   order_kept rows first zero count order all is = subst (IsOrder count) (sym is) all
   order_kept rows first (suc moves) count order all (e, x, before, (unfit, is)) =
       subst (IsOrder count) (sym is)
-      (order_moved count e x.turn unfit.place (order_kept rows first moves count e all before) (within_found e x.turn unfit.place unfit.here)
+      (order_moved count e x.turn unfit.place (order_kept rows first moves count e all before) (got_within e x.turn unfit.place unfit.here)
       (sym (get_or_from_slice_get e x.turn unfit.place unfit.place unfit.here)))
 
   -- ---- plans
@@ -626,7 +612,7 @@ module _ (network : Network) (tree : IsTree network) where
         → IsUnfit network there ms turn a → ⊥
     no_first there count turn attempts a have less unfit =
         let size = have.counted in
-        let found = found_in attempts turn (omega (arith, size, less)) in
+        let found = some_at attempts turn (omega (arith, size, less)) in
         let mine = have.each turn found.0 found.1 in
         let message : mine.0 ≡ unfit.message = some_one (slice_get ms turn) mine.0 unfit.message mine.1 unfit.there in
         let same = behind_one network there unfit.message found.0 a tree (subst (λ m. IsBestBehind network there m found.0) message mine.2.best)
@@ -657,7 +643,7 @@ module _ (network : Network) (tree : IsTree network) where
     no_reached : (there : List Taken) (moves turn : ℕ) (order : List ℕ) (a : Attempt) → IsReached network ms there moves order
         → IsUnfit network there ms turn a → ⊥
     no_reached there moves turn order a reached unfit =
-        no_first there (length ms) turn reached.attempts a reached.have (within_found ms turn unfit.message unfit.there) unfit
+        no_first there (length ms) turn reached.attempts a reached.have (got_within ms turn unfit.message unfit.there) unfit
 
     -- ---- in the orders
 

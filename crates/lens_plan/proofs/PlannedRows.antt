@@ -6,8 +6,7 @@ use Rattle.std.proofs.lemmas.{Bool.{cases_lt, eq-eqb, eqb-true}}
 use Rattle.std.proofs.lemmas.{List.{Elements.{Contains-append_left, Contains-append_right}, length-map}}
 use Rattle.std.proofs.lemmas.Option.{get_or_from_slice_get, none-some, same_Some, slice_get-get_or, slice_get-map}
 use Rattle.std.proofs.lemmas.Option.{slice_get_within}
-use Rattle.std.specs.{List.{Contains, cons_option, filter_map, find, range_with_len}}
-use Rattle.std.specs.{Prelude.{IfSome, option_map, slice_get}}
+use Rattle.std.specs.{List.{Contains, cons_option, filter_map, range_with_len}, Prelude.{IfSome, option_map, slice_get}}
 use Rattle.lens_plan.{proofs.{PlanOne.in_rest, Serving.{HasGround, IsSeated, ItsCourse, its_courses}}}
 use Rattle.lens_plan.specs.{declared.places.{best.Attempt.Attempt, offsets.Taken.Taken, placing.Placed.Placed}}
 use Rattle.lens_plan.specs.{messages.Message.Message}
@@ -18,6 +17,7 @@ use Rattle.lens_plan.specs.places.{InOrder.{row_by, rows_in_order}, There.{AreTh
 use Rattle.net_plan.specs.{Places.{IsEndSystem, link_at}, Ranges.{IsInRange, IsRowInRange}}
 use Rattle.net_plan.specs.declared.{ids.DeviceId.DeviceId, network.Network.Network}
 use Rattle.net_plan.specs.declared.{tables.{Link.Link, Row.Row, VirtualLink.VirtualLink}}
+use Rattle.precision_law.proofs.traffic_lemmas.delivery.Forwarding.{found_some}
 use Rattle.run_law.proofs.law.FirstDeliveries.{in_front}
 use Rattle.schedule_tables.{proofs.SlotLemmas.one_entry}
 use Rattle.schedule_tables.specs.{Entries.{IsEntry, source_by, source_of, target_by, target_of}, Rules.KeepsRules}
@@ -77,13 +77,6 @@ map_at f xs k x at = slice_get-map f xs k ∙ ap (option_map f) at
 first_or_later : {X : Type 0} (b : Bool) (w : X) (o : Option X) → (y : X) × (o ≡ Some y) → (y : X) × (cond b (Some w) o ≡ Some y)
 first_or_later true w o some = (w, refl)
 first_or_later false w o some = some
-
--- an element that passes the test is found, or one before it
-pub find_some : {X : Type 0} (f : X → Bool) (xs : List X) (k : ℕ) (x : X) → slice_get xs k ≡ Some x → f x ≡ true → (y : X) × (find f xs ≡ Some y)
-find_some f [] k x at pass = absurd (grind (arith, at))
-find_some f (z ∷ xs) zero x at pass =
-    (z, ap (λ (b : Bool). cond b (Some z) (find f xs)) (ap f (same_Some _ _ at) ∙ pass))
-find_some f (z ∷ xs) (suc k) x at pass = first_or_later (f z) z (find f xs) (find_some f xs k x at pass)
 
 -- ---- what is found for numbers
 
@@ -175,7 +168,7 @@ module _ (network : Network) (a : Attempt) where
       → ((q : Placed) (l : ℕ) → slice_get a.placed.items l ≡ Some q → q.hop.link.0 ≡ p.hop.link.0 → q ≡ p)
       → (i : ℕ) × (slice_get (in_order network a) i ≡ Some p)
   each_there k p at within one =
-      let some = find_some (λ q. q.hop.link.0 == p.hop.link.0) a.placed.items k p at (eq-eqb p.hop.link.0 p.hop.link.0 refl) in
+      let some = found_some (λ q. q.hop.link.0 == p.hop.link.0) a.placed.items k p at (eq-eqb p.hop.link.0 p.hop.link.0 refl) in
       let it = find_at (λ q. q.hop.link.0 == p.hop.link.0) a.placed.items some.0 some.1 in
       let same = one some.0 it.0 it.1 (eqb-true some.0.hop.link.0 p.hop.link.0 it.2) in
       found_there (row_by a.placed.items) (λ q. q.hop.link.0) keyed 0 (length network.link) p.hop.link.0 p (omega arith) (omega (arith, within))

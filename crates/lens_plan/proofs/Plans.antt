@@ -10,7 +10,7 @@ use Rattle.std.proofs.lemmas.List.{length-append, map-append, take_more}
 use Rattle.std.specs.{Fmt.decimal, List.{All, AllZip, concat, cons_option, filter_map, find, flat_map, range_with_len}}
 use Rattle.std.specs.{Option.option_map_or}
 use Rattle.std.specs.{Prelude.{◌-◌, ◌==◌, Bool, IfSome, codes, cond, false, length, slice_get, true}}
-use Rattle.lens_plan.proofs.{Attempts.own_attempt, PlanOne.{none_one, plan_one, plan_or_none, within_found}}
+use Rattle.lens_plan.proofs.{Attempts.own_attempt, PlanOne.{none_one, plan_one, plan_or_none}}
 use Rattle.lens_plan.proofs.{Serving.{excess_is_impossible, tree_kept, unfit_is_impossible}}
 use Rattle.lens_plan.specs.{Laws.{AreImpossible, ExcessIsTrue, ImpossibleIsTrue, IsImpossible}}
 use Rattle.lens_plan.specs.{Reading.{IsNoMessages, MeansItsText, no_messages_answer}}
@@ -50,6 +50,7 @@ use Rattle.tte_forms.specs.declared.{accepting.NoNetwork.NoNetwork}
 use Rattle.tte_forms.specs.declared.status.Status.{Status}
 use Rattle.tte_forms.specs.declared.status.Status.TheVariants
 use TheVariants.{Done, MessagesRefused, NetworkRefused, PlanRefused, TooLong, WriteFault}
+use Rattle.tte_units.proofs.general_lemmas.Lists.{got_within}
 use Rattle.lens_plan.specs.declared.joining.joined.NoJoin.TheVariants as joins
 use Rattle.lens_plan.specs.declared.places.moving.NoOrder.TheVariants as orders
 use Rattle.lens_plan.specs.declared.places.planning.NoPlan.TheVariants as plans
@@ -640,13 +641,13 @@ module _ (network : Network) where
   unfit_place : {there : List Taken} {ms : List Message} {place : ℕ} {a : Attempt} → IsUnfit network there ms place a
       → (place < length ms) × All IsOrdered a.placed.items
   unfit_place {ms} {place} unfit =
-      (within_found ms place unfit.message unfit.there, best_ordered unfit.best)
+      (got_within ms place unfit.message unfit.there, best_ordered unfit.best)
 
   unplaced_place : {ms : List Message} {there : List Taken} {place : ℕ} {a : Attempt}
       → IsUnplaced network ms there place a → (place < length ms) × All IsOrdered a.placed.items
   unplaced_place {ms} un =
       let misfit = un.unfit in (
-        subst (λ p. p < length ms) (sym un.place_is) (within_found ms misfit.place misfit.message misfit.there),
+        subst (λ p. p < length ms) (sym un.place_is) (got_within ms misfit.place misfit.message misfit.there),
         subst (λ (b : Attempt). All IsOrdered b.placed.items) (sym un.attempt_is) (best_ordered misfit.best),
       )
 

@@ -10,7 +10,7 @@ use Rattle.std.proofs.lemmas.List.Elements
 use Elements.{All-append, All-cons, All-head, All-nil, All-tail, Contains-append_left, Contains-append_right}
 use Rattle.std.specs.{List.{All, AllZip, Contains, count_by, fold}, Option.{option_map_or, unwrap_or}}
 use Rattle.std.specs.{Prelude.{IfSome, IsSomeAnd, nat_le, slice_get}}
-use Rattle.lens_plan.proofs.{Leading.{Behind, Goes, IsRowBy, Lead, leads, one_channel, relay_is}}
+use Rattle.lens_plan.proofs.{Leading.{Behind, Goes, IsRowBy, Lead, leads, relay_is}}
 use Rattle.lens_plan.proofs.Attempts.{IsInTime, best_is_earliest, count_all, count_append, count_both, count_found}
 use Rattle.lens_plan.proofs.Attempts.{count_le, own_attempt, way_one, whole}
 use Rattle.schedule_checker.proofs.Shape.{tree_of}
@@ -36,6 +36,7 @@ use Rattle.net_plan.specs.{Ranges.{IsInRange, IsRowInRange}}
 use Rattle.net_plan.specs.declared.{ids.{DeviceId.DeviceId, LinkId.LinkId, VlId.VlId}, network.Network.Network}
 use Rattle.net_plan.specs.declared.tables.{Device.Device, Link.Link, Role.TheVariants.{Cm, Relay}, Row.Row}
 use Rattle.net_plan.specs.declared.tables.{VirtualLink.VirtualLink, Way.{TheVariants.{Down, Up}, Way}}
+use Rattle.precision_law.proofs.traffic_lemmas.faults.Channels.{one_channel}
 use Rattle.run_law.proofs.law.FirstDeliveries.{in_front}
 use Rattle.schedule_tables.{proofs.SlotLemmas.one_entry}
 use Rattle.schedule_tables.specs.{Entries.{IsEntry, IsOnChannel, source_by, target_by, target_of}, Rules.KeepsRules}

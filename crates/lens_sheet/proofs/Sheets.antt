@@ -12,10 +12,11 @@ use Rattle.lens_sheet.specs.{Loading.HasLink, Sheet.{AreLinesOf, AreVlLines, IsS
 use Rattle.lens_sheet.specs.{Weights.{AreWeights, beta_of}}
 use Rattle.lens_sheet.specs.declared.{loads.Load.Load, sheet.{Number.Number, SheetLine.SheetLine}}
 use Rattle.lens_sheet.specs.declared.{weights.Weights.Weights}
-use Rattle.lens_slack.{proofs.least_lemmas.Leasts.{some_link, some_path}, specs.least.Parts.{IsPortTimeOf, IsStartOf}}
+use Rattle.lens_slack.{proofs.least_lemmas.Leasts.some_path, specs.least.Parts.{IsPortTimeOf, IsStartOf}}
 use Rattle.net_plan.{proofs.Trees.greatest_is_unique}
 use Rattle.net_plan.specs.{Bounds.{IsBeta, IsGreatest, IsOfPath, beta_at, jitter_on}, Ranges.IsInRange}
 use Rattle.net_plan.specs.{declared.{ids.LinkId.LinkId, network.Network.Network, tables.{Device.Device, Link.Link}}}
+use Rattle.schedule_tables.{proofs.Margins.some_link}
 use Rattle.schedule_tables.specs.{Delays.{delay_on, pcf_port_time}, Rules.{KeepsBelow, KeepsRules}}
 use Rattle.schedule_tables.specs.declared.rule.Rule.TheVariants
 use TheVariants.{Correction, Delays, Masters, Precision, ScheduleStart, Settling}

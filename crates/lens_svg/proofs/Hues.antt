@@ -1,5 +1,6 @@
 -- The hue of a mark is that of its record, which is that of the record that it comes from.
 use Rattle.lens_svg.proofs.Painting.{drawn_behind, drawn_within}
+use Rattle.run_law.proofs.law.FirstDeliveries.{at_length}
 use Rattle.lens_svg.specs.Laws.{HuesComeFromCauses, MarksHaveHues, NeverFall, NumbersFollow, hues_of}
 use Rattle.lens_svg.specs.{Layout.moved, Plan.Plan, Sketching.{begun, hue_of, hues_with, mark_of, moment, plan_behind, side_in, took, took_at}}
 use Rattle.lens_svg.specs.declared.{layout.Side.{Side, TheVariants.{Before, Behind, Passed, Within}}, mark.{Hue.Hue, Mark.Mark}}
@@ -14,10 +15,6 @@ get_left : {X : Type 0} (xs ys : List X) (n : ℕ) → n < length xs → slice_g
 get_left [] ys n within = absurd (omega (arith, within))
 get_left (x ∷ xs) ys zero within = refl
 get_left (x ∷ xs) ys (suc n) within = get_left xs ys n (omega (arith, within))
-
-get_here : {X : Type 0} (xs ys : List X) (x : X) → slice_get (xs ++ x ∷ ys) (length xs) ≡ Some x
-get_here [] ys x = refl
-get_here (y ∷ xs) ys x = get_here xs ys x
 
 -- ---- the hues of records
 
@@ -61,7 +58,7 @@ hue_at front rest note =
     ∙ append_assoc (hues_of front) (hue ∷ []) begins.0 in
     ap (λ (n : ℕ). slice_get (hues_of (front ++ note ∷ rest)) n) (sym (as_long front))
     ∙ ap (λ (hs : List Hue). slice_get hs (length (hues_of front))) whole
-    ∙ get_here (hues_of front) begins.0 hue
+    ∙ at_length (hues_of front) begins.0 hue
 
 -- and that of one before it
 hue_before : (front rest : List Note) (n : ℕ) → n < length front → slice_get (hues_of (front ++ rest)) n ≡ slice_get (hues_of front) n

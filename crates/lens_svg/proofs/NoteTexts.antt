@@ -1,8 +1,8 @@
 -- The texts of records and titles are short, and have no character that SVG reads as its own.
 use Rattle.std.proofs.{Math.Seq.take-append_seam}
 use Rattle.std.proofs.Common
-use Common.{◌*◌, ◌++◌, ◌+◌, ◌-◌, ◌<◌, ◌^◌, ◌∙◌, ◌∷◌, ◌≡◌, ◌≤◌, Bool, List, Some, [], ap, append_assoc, arith, false}
-use Common.{get_or, length, length-append, nat_lt, not, refl, subst, suc, sym, take, true, ℕ}
+use Common.{◌*◌, ◌++◌, ◌+◌, ◌-◌, ◌<◌, ◌∙◌, ◌∷◌, ◌≡◌, ◌≤◌, Bool, List, Some, [], ap, append_assoc, arith, false, get_or}
+use Common.{length, length-append, nat_lt, not, refl, subst, suc, sym, take, true, ℕ}
 use Rattle.std.proofs.lemmas.{Bool.and_parts, Fmt.length-decimal-le, Grind.flat_map-append, Int.ints}
 use Rattle.std.proofs.lemmas.{Option.{get_or_from_slice_get, slice_get_within}}
 use Rattle.std.proofs.lemmas.List.{Elements.{All-append, All-cons, All-nil, All-weaker}, Folds.list_all-append}
@@ -15,7 +15,7 @@ use Rattle.lens_svg.specs.{Marking.{IsPlain, is_plain, title_room}}
 use Rattle.lens_svg.specs.{Titles.{IsClosed, NoneOpens, cut_text, octet_text, word_text}}
 use Rattle.net_plan.specs.{Belonging.{HasVl, vl_name}, Ranges.{IsInRange, IsVlInRange}}
 use Rattle.net_plan.specs.{declared.{ids.VlId.VlId, network.Network.Network}}
-use Rattle.report_text.proofs.{Characters.{IsVisible, decimal_visible, is_visible}}
+use Rattle.report_text.proofs.{Characters.{IsVisible, decimal_visible, is_visible}, SameReports.note_parts}
 use Rattle.report_text.proofs.Visible
 use Visible.{AreOfLine, AreVisible, body_visible, device_short, joined_short, link_short, size, units_visible}
 use Visible.{what_short}
@@ -26,6 +26,7 @@ use Rattle.run_law.specs.declared.{judgement.{Judgement.Judgement, Reason.Reason
 use Rattle.run_law.specs.declared.{note.{Note.Note, NoteBody.NoteBody}}
 use Rattle.sync_state.specs.declared.state.State.{State}
 use Rattle.trace_text.specs.Steps.{Words, space}
+use Rattle.tte_io.proofs.Sizes.{size_most}
 use Rattle.tte_units.{proofs.general_lemmas.Lists.{in_all, some_at}, specs.declared.frames.members.Members.Members}
 use Rattle.run_law.specs.declared.judgement.Judgement.TheVariants as judgements
 use Rattle.run_law.specs.declared.judgement.Reason.TheVariants as reasons
@@ -60,9 +61,6 @@ text_plain : (network : Network) (body : NoteBody) → IsInRange network → IsB
 unfolding body_text
 text_plain network body n of_network h = line_plain (body_words network body) (body_visible network body n of_network h)
 
-note_parts : (number time body : List ℕ) → number ++ codes " " ++ time ++ codes " " ++ body ≡ number ++ space ∷ (time ++ space ∷ body)
-note_parts number time body = simp append_assoc refl
-
 pub note_plain : (network : Network) (note : Note) → IsInRange network → IsNoteOf network note → IsNoteInRange note → IsPlain (note_text network note)
 note_plain network note n of_network h =
     let number = decimal note.number in
@@ -93,10 +91,6 @@ why_short : (why : Why) → length (why_text why) ≤ 12
 why_short whys.On = omega arith
 why_short why = omega arith
 
--- a number
-count_short : (n : ℕ) → n < 2 ^ 64 → length (decimal n) ≤ 20
-count_short n small = length-decimal-le 20 n (omega arith) (omega (arith, small)) small
-
 -- a number with its sign
 signed_short : (z : ℤ) → FitsSigned w64 z → length (signed_decimal z) ≤ 20
 signed_short (pos n) fits = let most = length-decimal-le 19 n (omega arith) (omega (arith, ints, fits)) (omega (arith, ints, fits)) in omega (arith, most)
@@ -107,8 +101,8 @@ signed_short (negsuc n) fits =
 
 reason_short : (reason : Reason) → IsReasonInRange reason → size (reason_words reason) ≤ 60
 unfolding size
-reason_short (reasons.RefusedLength n) h = let number = count_short n (omega (arith, h)) in omega (arith, number)
-reason_short (reasons.RefusedReserved n) h = let number = count_short n (omega (arith, h)) in omega (arith, number)
+reason_short (reasons.RefusedLength n) h = let number = size_most n (omega (arith, h)) in omega (arith, number)
+reason_short (reasons.RefusedReserved n) h = let number = size_most n (omega (arith, h)) in omega (arith, number)
 reason_short (reasons.RefusedKind o) h =
     let digits : length (encode_lower (o ∷ [])) ≡ 2 * length (o ∷ []) = length-encode_with lower_digits (o ∷ []) in omega (arith, digits)
 reason_short reason h = omega arith
@@ -119,18 +113,18 @@ members_short members =
     omega (arith, digits)
 
 cycle_short : (cycle : ℕ) → IsShortCount cycle → length (decimal cycle) ≤ 20
-cycle_short cycle h = count_short cycle (omega (arith, h))
+cycle_short cycle h = size_most cycle (omega (arith, h))
 
 body_short : (network : Network) (body : NoteBody) → IsInRange network → IsBodyOf network body → IsBodyInRange body → size (body_words network body) ≤ 3200
 unfolding size
 body_short network (bodies.Event line what) range of_network h =
-    let number = count_short line h.0 in let words = what_short network what range of_network h.1 in omega (arith, number, words)
+    let number = size_most line h.0 in let words = what_short network what range of_network h.1 in omega (arith, number, words)
 body_short network (bodies.Arrived d l n clock) range of_network h =
     let device = device_short network d range of_network.0 in let link = link_short network l range of_network.1 in
-    let cause = count_short n h.0 in let last = count_short clock h.1 in omega (arith, device, link, cause, last)
+    let cause = size_most n h.0 in let last = size_most clock h.1 in omega (arith, device, link, cause, last)
 body_short network (bodies.Permanent d l n point verdict) range of_network h =
     let device = device_short network d range of_network.0 in let link = link_short network l range of_network.1 in
-    let cause = count_short n h.0 in let last = signed_short point.0 h.1 in let word = verdict_short verdict in omega (arith, device, link, cause, last, word)
+    let cause = size_most n h.0 in let last = signed_short point.0 h.1 in let word = verdict_short verdict in omega (arith, device, link, cause, last, word)
 body_short network (bodies.Compressed d opened sent cycle members verdict) range of_network h =
     let device = device_short network d range of_network in let first = signed_short opened.0 h.0 in let second = signed_short sent.0 h.1 in
     let third = cycle_short cycle h.2 in let set = members_short members in let word = verdict_short verdict in
@@ -141,29 +135,29 @@ body_short network (bodies.Corrected d cycle by adjustment) range of_network h =
     let device = device_short network d range of_network in let number = cycle_short cycle h.0 in
     let first = signed_short by.0 h.1 in let second = signed_short adjustment.0 h.2 in omega (arith, device, number, first, second)
 body_short network (bodies.State d state n why) range of_network h =
-    let device = device_short network d range of_network in let number = count_short n h in
+    let device = device_short network d range of_network in let number = size_most n h in
     let first = state_short state in let second = why_short why in omega (arith, device, number, first, second)
 body_short network (bodies.Left d l n clock) range of_network h =
     let device = device_short network d range of_network.0 in let link = link_short network l range of_network.1 in
-    let cause = count_short n h.0 in let last = count_short clock h.1 in omega (arith, device, link, cause, last)
+    let cause = size_most n h.0 in let last = size_most clock h.1 in omega (arith, device, link, cause, last)
 body_short network (bodies.Lost d l n) range of_network h =
     let device = device_short network d range of_network.0 in let link = link_short network l range of_network.1 in
-    let cause = count_short n h in omega (arith, device, link, cause)
+    let cause = size_most n h in omega (arith, device, link, cause)
 body_short network (bodies.TtSent d l n v cycle) range of_network h =
     let device = device_short network d range of_network.0 in let link = link_short network l range of_network.1 in
     let vl = vl_short network v range of_network.2 in
-    let cause = count_short n h.0 in let number = cycle_short cycle h.1 in omega (arith, device, link, vl, cause, number)
+    let cause = size_most n h.0 in let number = cycle_short cycle h.1 in omega (arith, device, link, vl, cause, number)
 body_short network (bodies.Accepted d l n v cycle) range of_network h =
     let device = device_short network d range of_network.0 in let link = link_short network l range of_network.1 in
     let vl = vl_short network v range of_network.2 in
-    let cause = count_short n h.0 in let number = cycle_short cycle h.1 in omega (arith, device, link, vl, cause, number)
+    let cause = size_most n h.0 in let number = cycle_short cycle h.1 in omega (arith, device, link, vl, cause, number)
 body_short network (bodies.Delivered d l n v cycle) range of_network h =
     let device = device_short network d range of_network.0 in let link = link_short network l range of_network.1 in
     let vl = vl_short network v range of_network.2 in
-    let cause = count_short n h.0 in let number = cycle_short cycle h.1 in omega (arith, device, link, vl, cause, number)
+    let cause = size_most n h.0 in let number = cycle_short cycle h.1 in omega (arith, device, link, vl, cause, number)
 body_short network (bodies.Dropped d l n reason) range of_network h =
     let device = device_short network d range of_network.0 in let link = link_short network l range of_network.1 in
-    let cause = count_short n h.0 in let words = reason_short reason h.1 in omega (arith, device, link, cause, words)
+    let cause = size_most n h.0 in let words = reason_short reason h.1 in omega (arith, device, link, cause, words)
 body_short network (bodies.Clock d reading adjustment state) range of_network h =
     let device = device_short network d range of_network in let word = state_short state in
     let first = signed_short reading.0 h.0 in let second = signed_short adjustment.0 h.1 in omega (arith, device, first, second, word)
@@ -191,7 +185,7 @@ pub note_short : (network : Network) (note : Note) → IsInRange network → IsN
     → length (note_text network note) ≤ title_room
 unfolding body_text
 note_short network note range of_network h =
-    let number = count_short note.number h.number in
+    let number = size_most note.number h.number in
     let time = signed_short note.time.0 h.time in
     let words = body_short network note.body range of_network h.body in
     let body = body_text network note.body in

@@ -18,7 +18,7 @@ use Rattle.lens_svg.specs.declared.{element.Element.Element}
 use Rattle.lens_svg.specs.declared.{layout.{Side.{Side, TheVariants.{Before, Behind, Passed, Within}}, Span.Span}}
 use Rattle.lens_svg.specs.declared.{mark.{Ground.Ground, Mark.Mark}}
 use Rattle.net_plan.specs.declared.network.Network.{Network}
-use Rattle.run_law.specs.declared.note.Note.{Note}
+use Rattle.run_law.{proofs.law.FirstDeliveries.in_front, specs.declared.note.Note.Note}
 
 -- ---- there is a mark for each record that is drawn, and an arrow exactly where there is a cause
 
@@ -167,11 +167,6 @@ taken_all network plan (note ∷ notes) =
 
 -- ---- where marks stand
 
-some_left : {X : Type 0} (xs ys : List X) (n : ℕ) (x : X) → slice_get xs n ≡ Some x → slice_get (xs ++ ys) n ≡ Some x
-some_left [] ys n x there = absurd cc
-some_left (y ∷ xs) ys zero x there = there
-some_left (y ∷ xs) ys (suc n) x there = some_left xs ys n x there
-
 some_last : {X : Type 0} (xs : List X) (x : X) → slice_get (xs ++ x ∷ []) (length xs) ≡ Some x
 some_last [] x = refl
 some_last (y ∷ xs) x = some_last xs x
@@ -204,7 +199,7 @@ module _ (network : Network) (plan : Plan) (note : Note) (next time : ℕ) (numb
 
   -- what was placed stays
   placed_still : (place : ℕ) (m : Mark) → slice_get plan.marks place ≡ Some m → slice_get (places_with plan) (m.number - 1) ≡ Some place
-  placed_still place m there = some_left plan.places (length plan.marks ∷ []) (m.number - 1) place (h.placed place m there)
+  placed_still place m there = in_front plan.places (length plan.marks ∷ []) (m.number - 1) place (h.placed place m there)
 
   -- the next one is placed
   placed_next : length plan.places + 1 ≡ next → slice_get (places_with plan) (mark.number - 1) ≡ Some (length plan.marks)

@@ -1,11 +1,11 @@
 -- The records that told the best frames of channels are there.
+use Rattle.lens_why.proofs.{Grounded.earlier_by, LastRecords.summarized}
+use Rattle.run_law.{proofs.{law.FirstDeliveries.{founded_at, in_filter, last_there}, records.Members.in_kept}}
+use Rattle.run_law.{specs.{device.LocalClocks.changes_adjustment, records.Order.{IsBefore, IsIn, is_before}}}
+use Rattle.tte_reports.specs.Reports.{IsReportOf}
 use Rattle.{audit_devices.specs.Keeping.records_before, sync_state.specs.membership.Members.count_of, tte_units.specs.declared.units.Units.Units}
 use Rattle.{audit_law.specs.law.CorrectionNumbers.{heard_since_point, points_come}, run_law.specs.records.Happenings.{Happening, happenings, numbered, time_of}}
 use Rattle.{audit_law.specs.law.CorrectionPoints.IsPointOf, net_plan.specs.declared.{ids.DeviceId.DeviceId, network.Network.Network}}
-use Rattle.lens_why.proofs.{Grounded.earlier_by, LastRecords.summarized}
-use Rattle.run_law.{proofs.{law.FirstDeliveries.{founded_at, in_filter}, records.Members.in_kept}}
-use Rattle.run_law.{specs.{device.LocalClocks.changes_adjustment, records.Order.{IsBefore, IsIn, is_before}}}
-use Rattle.tte_reports.specs.Reports.{IsReportOf}
 use Rattle.lens_why.specs.Corrections.{channel_ground, clique_ground, corrected_ground, heard_at_point, said_by, told_by, told_on, value_of}
 use Rattle.{lens_why.specs.{Grounds.ground_by, declared.seeking.Sought.TheVariants.Frame}, run_law.specs.records.Ranks.{key, members_in, place_of, rank}}
 use Rattle.lens_why.specs.{Laws.{BestAreThere, best_number, told_in, told_number}, Seeking.{is_channel, is_frame, is_hearing_of, is_sought, last_sought}}
@@ -95,19 +95,11 @@ module _ (network : Network) (octets : List ℕ) (ns : List Note) (end : Units) 
           let at = founded_at own all x of.run.founded j in
           omega (arith, at.due.number, zero_is)
 
-      found_in : (xs : List Happening) (x : Happening) → last_or None xs ≡ Some x → IsIn x xs
-      found_in [] x e = absurd cc
-      found_in (a ∷ xs) x e = by a xs e
-        where
-          by : (a : Happening) (xs : List Happening) → last_or (Some a) xs ≡ Some x → IsIn x (a ∷ xs)
-          by a [] e = (let same : a ≡ x = cc in inl (sym same))
-          by a (y ∷ ys) e = inr (by y ys e)
-
       never : (x : Happening) (before : List Happening) (test : Happening → Bool) → last_or None (filter test (records_before (place_of h) all)) ≡ Some x
           → x.note.number ≡ 0 → ⊥
       never x before test e zero_is =
           some x (in_filter (λ y. is_before (place_of y) (place_of h)) all x (in_filter test (records_before (place_of h) all) x
-          (found_in (filter test (records_before (place_of h) all)) x e))) zero_is
+          (last_there (filter test (records_before (place_of h) all)) x e))) zero_is
 
   -- the best frame was told by a record before
   best_found : (device : DeviceId) (channel : Channel) (frame : HeardFrame) → 6 ≤ rank h.note.body

@@ -2,8 +2,8 @@
 use Rattle.std.{specs.{Option.option_map_or, Prelude.{All, IfSome, nat_lt}}}
 use Rattle.std.proofs.{lemmas.{Bool.eqb-true, List.Elements.recursion_from_All}}
 use Rattle.std.proofs.Common
-use Common.{if◌then◌else◌, ◌++◌, ◌<◌, ◌==◌, ◌∙◌, ◌∷◌, ◌≡◌, ◌≤ℤ◌, ◌⊎◌, Bool, List, None, Option, Some, [], ap}
-use Common.{append_assoc, arith, false, inl, inr, length, refl, subst, suc, sym, true, zero, ℕ}
+use Common.{if◌then◌else◌, ◌++◌, ◌<◌, ◌==◌, ◌∙◌, ◌∷◌, ◌≡◌, ◌≤ℤ◌, Bool, List, None, Option, Some, [], ap, append_assoc}
+use Common.{arith, false, inl, inr, length, refl, subst, suc, sym, true, zero, ℕ}
 use Rattle.audit_devices.{proofs.stretches_lemmas.Stretches.rising_law}
 use Rattle.audit_devices.{specs.stretches.{Changes.{change_by, collector_in}, Points.MayBring}}
 use Rattle.audit_law.proofs.collections_lemmas.Clusters.{AreBefore}
@@ -18,10 +18,7 @@ use Rattle.lens_why.specs.{Laws.{HasWhy, WhyLaw}}
 use Rattle.net_plan.specs.{Places.link_at}
 use Rattle.net_plan.specs.declared.{event.What.TheVariants.Send, ids.{DeviceId.DeviceId, LinkId.LinkId, VlId.VlId}}
 use Rattle.net_plan.specs.declared.{network.Network.Network, tables.{Link.Link, Way.TheVariants.{Down, Up}}}
-use Rattle.precision_law.proofs.words.{Runs.same_some}
-use Rattle.precision_law.proofs.words.Plans
-use Plans.{Channel, Device, IsPath, IsSwitchOf, IsTree, IsUplink, Joints, closed, device_at, is_end_system, opened}
-use Plans.{rules_give_trees, shape_rules}
+use Rattle.precision_law.proofs.trips.Legs.{no_loop}
 use Rattle.run_law.{proofs.law.FirstDeliveries.{deliveries_begin, front_founded, number_is, numbered_in}}
 use Rattle.run_law.specs.{declared.{judgement.Judgement.Judgement, note.{Note.Note, NoteBody.NoteBody}}}
 use Rattle.run_law.specs.{device.States.cycle_in, law.FirstLaws.IsBeginning}
@@ -140,7 +137,7 @@ begins_alone (notes.TtSent device link cause vl cycle) begins = begins
 begins_alone (notes.Event line (Send link octets)) begins = refl
 begins_alone other begins = absurd begins
 
-never_none : (hs : List Happening) (n : ℕ) (h : Happening) → numbered hs n ≡ None → numbered hs n ≡ Some h → ⊥
+pub never_none : (hs : List Happening) (n : ℕ) (h : Happening) → numbered hs n ≡ None → numbered hs n ≡ Some h → ⊥
 never_none hs n h none some = cc
 
 same_rest : (x y : Happening) (xs ys : List Happening) → x ∷ xs ≡ y ∷ ys → xs ≡ ys
@@ -242,30 +239,6 @@ cut_away : (old cut : Bool) (n : ℕ) → on_cut_way ≡ (if old then too_old el
 cut_away true cut n e = absurd cc
 cut_away false true n e = refl
 cut_away false false n e = absurd cc
-
--- a path never goes through a link that leads to its own device
-no_loop_on : {n : Network} (channel : Channel) (device : DeviceId) (link : LinkId) (l : Link) → IsTree n
-    → link_at n link ≡ Some l → IsUplink n channel device link → l.parent ≡ device → (links : List LinkId)
-    → IsPath n channel device links → ⊥
-no_loop_on channel device link l tree at up parent [] path = tree.root channel device link path up
-no_loop_on {n} channel device link l tree at up parent (first ∷ links) path =
-    let m = opened (λ (k : Link). (k.child ≡ device) × IsSwitchOf n channel k.parent × IsPath n channel k.parent links) (link_at n first) path in
-    let one : first ≡ link = tree.one_uplink channel device first link
-    (closed (λ (k : Link). (k.child ≡ device) × IsSwitchOf n channel k.parent) (link_at n first) m.0 m.1 (m.2.0, m.2.1)) up in
-    let same : m.0 ≡ l = same_some (link_at n link) m.0 l (subst (λ x. link_at n x ≡ Some m.0) one m.1) at in
-    no_loop_on channel device link l tree at up parent links
-    (subst (λ d. IsPath n channel d links) (ap (λ (k : Link). k.parent) same ∙ parent) m.2.2)
-
--- so no link's child is its parent
-no_loop : (n : Network) → KeepsRules n → (link : LinkId) (l : Link) → link_at n link ≡ Some l → l.child ≡ l.parent → ⊥
-no_loop n rules link l at same =
-    let tree = rules_give_trees n (shape_rules n rules) in
-    let joint = rules Joints link.0 l at in
-    let p = opened (λ (d : Device). d.channel ≡ Some joint.0) (device_at n l.parent) joint.1 in
-    let member = closed (λ (d : Device). (is_end_system d.role ≡ true) ⊎ (d.channel ≡ Some joint.0)) (device_at n l.parent) p.0 p.1 (inr p.2) in
-    let path = tree.reach joint.0 l.parent member in
-    let up = closed (λ (k : Link). (k.child ≡ l.parent) × IsSwitchOf n joint.0 k.parent) (link_at n link) l at (same, joint.1) in
-    no_loop_on joint.0 l.parent link l tree at up refl path.0 path.2
 
 -- the child of a link sends up
 goes_up : (n : Network) → KeepsRules n → (device : DeviceId) (link : LinkId) (l : Link) → link_at n link ≡ Some l → device ≡ l.child

@@ -27,7 +27,8 @@ use Rattle.run_law.specs.records.{Order.IsIn, Ranks.{key, members_in, place_of, 
 use Rattle.sync_state.specs.{Standing.state_at_start, declared.state.State.{State, TheVariants.{Integrating, Joining}}}
 use Rattle.tte_audit.specs.Report.{scenario_of}
 use Rattle.tte_reports.specs.Reports.{IsReportOf}
-use Rattle.tte_units.{proofs.general_lemmas.Lists.last_pushed, specs.{Amount.amount, declared.units.Units.Units}}
+use Rattle.tte_units.{proofs.general_lemmas.{Bools.none_shorter, Lists.last_pushed}}
+use Rattle.tte_units.{specs.{Amount.amount, declared.units.Units.Units}}
 use Rattle.net_plan.specs.declared.event.What.TheVariants as events
 use Rattle.run_law.specs.declared.judgement.Why.TheVariants as whys
 use Rattle.run_law.specs.declared.note.NoteBody.TheVariants as notes
@@ -117,10 +118,6 @@ left_so device a b body e = ap (λ (t : Bool). if t then Joining else a) e ∙ s
 kept_so : (device : DeviceId) (a : State) (body : NoteBody) → turns device body ≡ false → state_with device a body ≡ a
 kept_so device a (notes.State other state cause why) e = ap (λ (t : Bool). if t then state else a) e
 kept_so device a body e = ap (λ (t : Bool). if t then Joining else a) e
-
-and_none : (b : Bool) → (b && false) ≡ false
-and_none true = refl
-and_none false = refl
 
 and_all : (b : Bool) → (b && true) ≡ b
 and_all true = refl
@@ -240,8 +237,8 @@ module _ (network : Network) (octets : List ℕ) (ns : List Note) (end : Units) 
       where
         never : false ≡ true → ⊥
         never e = cc
-    not_on g i (notes.State other state cause why) is at = and_none (device.0 == other.0)
-    not_on g i body is at = and_none (turns device body)
+    not_on g i (notes.State other state cause why) is at = none_shorter (device.0 == other.0)
+    not_on g i body is at = none_shorter (turns device body)
 
     only_early : (g : Happening) → IsIn g before → sought device (time_of h) g ≡ (early device (time_of h) g && turning device g)
     only_early g i = by (early device (time_of h) g) refl

@@ -8,6 +8,7 @@ use Rattle.std.proofs.lemmas.List.{Sums.fold_push, append-nil}
 use Rattle.std.specs.{List.{cons_option, last_or}}
 use Rattle.std.specs.{Prelude.{All, filter_map, nat_le, option_map, slice_get, take, unwrap_or}}
 use Rattle.audit_devices.specs.Keeping.{records_before}
+use Rattle.audit_sweep.proofs.records_lemmas.Numbered.{from_none}
 use Rattle.lens_why.{proofs.LastRecords.{before_number, own_at, parted_there}}
 use Rattle.lens_why.specs.{Decisions.{IsCutBefore, is_cut_after}, Records.IsThere, Seeking.{cut_by, cut_told, cut_with}}
 use Rattle.lens_why.specs.{declared.ground.Ground.TheVariants.CutBy}
@@ -22,7 +23,7 @@ use Rattle.run_law.specs.records.{Happenings.{Happening, happenings, numbered, t
 use Rattle.run_law.specs.records.{Ranks.{key, members_in, place_of, rank}}
 use Rattle.tte_audit.specs.Report.{event_by, events_of, scenario_of}
 use Rattle.tte_reports.specs.{Places.note_at, Reports.IsReportOf}
-use Rattle.tte_units.{proofs.general_lemmas.{Lists.{in_all, last_pushed}, Options.mapped}}
+use Rattle.tte_units.{proofs.general_lemmas.{Bools.not_both, Lists.{in_all, last_pushed}, Options.mapped}}
 use Rattle.tte_units.{specs.{Amount.amount, declared.units.Units.Units}}
 use Rattle.run_law.specs.declared.note.NoteBody.TheVariants as notes
 
@@ -136,10 +137,7 @@ module _ (link : LinkId) (way : Way) where
   cut_found : (before : List Happening) → ((g : Happening) → IsIn g before → 1 ≤ g.note.number) → is_cut_after link way before ≡ true
       → IsCutBy before (cut_by link way before)
   cut_found before some cut =
-      elim (cut_or_whole before some) [ inl whole ↦ absurd (both (is_cut_after link way before) cut whole.1) | inr found ↦ found.0 ]
-    where
-      both : (b : Bool) → b ≡ true → b ≡ false → ⊥
-      both b t f = let e : true ≡ false = sym t ∙ f in cc
+      elim (cut_or_whole before some) [ inl whole ↦ absurd (not_both (is_cut_after link way before) cut whole.1) | inr found ↦ found.0 ]
 
 -- ---- the records of a report
 
@@ -325,10 +323,6 @@ pub happening_at : (network : Network) (notes : List Note) (n : ℕ) (note : Not
 happening_at network notes n note there = mapped (λ (h : Happening). h.note) (numbered (happenings network notes) n) note (note_numbered network notes n
     ∙ there)
 
-none_mapped : {X Y : Type 0} (f : X → Y) (o : Option X) → option_map f o ≡ None → o ≡ None
-none_mapped f None e = refl
-none_mapped f (Some x) e = absurd cc
-
 -- it is one of them
 pub note_in : (notes : List Note) (n : ℕ) (note : Note) → note_at notes n ≡ Some note → IsIn note notes
 note_in notes zero note there = absurd cc
@@ -336,7 +330,7 @@ note_in notes (suc k) note there = in_at notes k note there
 
 -- where there is no record there is none with its frame
 pub none_there : (network : Network) (notes : List Note) (n : ℕ) → note_at notes n ≡ None → numbered (happenings network notes) n ≡ None
-none_there network notes n none = none_mapped (λ (h : Happening). h.note) (numbered (happenings network notes) n) (note_numbered network notes n ∙ none)
+none_there network notes n none = from_none (λ (h : Happening). h.note) (numbered (happenings network notes) n) (note_numbered network notes n ∙ none)
 
 module _ {network : Network} {octets : List ℕ} {notes : List Note} {end : Units}
     (of : IsReportOf network octets notes end) where

@@ -8,6 +8,7 @@ use Rattle.std.specs.Prelude
 use Prelude.{◌||◌, IfSome, IsSomeAnd, MatchBool, int_lt, nat_le, nat_lt, not, option_and_then, option_map}
 use Rattle.audit_law.proofs.law_lemmas.Owed.{before_is_front}
 use Rattle.audit_sweep.{proofs.Lacks.heard_before_corrections, specs.Indexing.before_corrections}
+use Rattle.run_law.proofs.{control.{Points.point_is, Verdicts.never_dropped}, plain_lemmas.Same.not_true}
 use Rattle.audit_law.{specs.law.CorrectionNumbers.{ComesToPoint, heard_since_point, standing_at}}
 use Rattle.compression.specs.{Clusters.{Point, point_at}, declared.taken.Taken.Taken}
 use Rattle.lens_why.proofs.{Frames.held_by}
@@ -20,12 +21,13 @@ use Rattle.lens_why.specs.Corrections
 use Corrections.{channel_ground, clique_ground, corrected_ground, heard_at_point, said_by, told_by}
 use Rattle.net_plan.specs.{Places.device_at}
 use Rattle.net_plan.specs.declared.{event.What.TheVariants.Send, ids.{DeviceId.DeviceId, LinkId.LinkId, VlId.VlId}}
-use Rattle.net_plan.specs.declared.{network.Network.Network}
-use Rattle.net_plan.specs.declared.{tables.{Device.Device, Role.Role, Way.{TheVariants.{Down, Up}, Way}}}
+use Rattle.net_plan.specs.declared.{network.Network.Network, tables.{Device.Device, Way.{TheVariants.{Down, Up}, Way}}}
 use Rattle.pcf_codec.specs.{Decoding.decoded, EtherType.{least_type, pcf_type}, Fields.field}
 use Rattle.pcf_codec.specs.{declared.refusal.PcfRefusal.PcfRefusal}
+use Rattle.run_law.proofs.{runs.SameSteps.roles_differ}
 use Rattle.run_law.proofs.law.FirstDeliveries
 use FirstDeliveries.{founded_at, front_founded, numbered_front, numbered_in, same_earlier, split}
+use Rattle.run_law.specs.{declared.{judgement.Reason.Reason, note.{Note.Note, NoteBody.NoteBody}}}
 use Rattle.run_law.specs.{runs.{DueRecords.{IsCaused, IsDue}, Runs.IsFounded}}
 use Rattle.run_law.specs.control.{Hearing.heard_as, Losses.IsDropped}
 use Rattle.run_law.specs.control.{Permanence.{BecomesPermanent, IsCollectedOrDropped, before_permanence, ripe_as}}
@@ -35,7 +37,6 @@ use Arrivals.{clock_on_arrival, control_arrival, frame_fault, frame_or_fault, is
 use Arrivals.{is_of_other_domain, is_of_other_member, refused}
 use Rattle.run_law.specs.control.Collections
 use Collections.{dispatch_value, is_number, master_of, observation_window, point_fault, points_of, ripe_by_role}
-use Rattle.run_law.specs.declared.{judgement.{Judgement.Judgement, Reason.Reason}, note.{Note.Note, NoteBody.NoteBody}}
 use Rattle.run_law.specs.device.Standpoints.{Standpoint, clock_of, cycle_at, first_reason, offset_in_cycle, standpoint}
 use Rattle.run_law.specs.device.States
 use States.{adjustment_after, adjustment_at_hearing, adjustment_before, is_synchronised, state_at_hearing}
@@ -48,7 +49,7 @@ use Rattle.run_law.specs.timed.Arrivals
 use Arrivals.{entry_arrival, entry_entering, is_taken_in, occurs_in, octets_fault, octets_or_fault, row_fault}
 use Arrivals.{taken_or_fault, timed_arrival}
 use Rattle.schedule_tables.specs.{Rules.KeepsRules, Windows.window_of, declared.entry.Entry.Entry}
-use Rattle.sync_state.specs.{Plan.expected_at, Standing.{Standing, point_in}, Verdicts.{HasVerdict, deviation_on}}
+use Rattle.sync_state.specs.{Plan.expected_at, Standing.Standing, Verdicts.{HasVerdict, deviation_on}}
 use Rattle.sync_state.specs.{correction.{Correction.correction_of, Deviation.deviation_of}}
 use Rattle.sync_state.specs.{membership.{Members.count_of, Summary.{Summarizes, best_on}}}
 use Rattle.sync_state.specs.declared.{answers.Verdict.Verdict, membership.frame.HeardFrame.HeardFrame}
@@ -73,13 +74,6 @@ use Rattle.sync_state.specs.declared.answers.Verdict.TheVariants as verdicts
 use Rattle.sync_state.specs.declared.state.State.TheVariants as states
 
 -- ---- what the grounds of corrections and of cliques decide
-
--- the next correction point is that of the cycle
-number_is : (state : State) (number cycle : ℕ) → point_in state number ≡ Some cycle → number ≡ cycle
-number_is states.Off number cycle e = absurd cc
-number_is states.Integrating number cycle e = absurd cc
-number_is states.Joining number cycle e = cc
-number_is states.Synchronised number cycle e = cc
 
 -- what a frame says to the correction is how far the clock is behind by it
 said_so : (s : Scenario) (hs : List Happening) (h : Happening) (device : DeviceId) (cycle : ℕ) (adjustment : ℤ) (channel : Channel) (o : Option HeardFrame)
@@ -166,7 +160,7 @@ module _ (network : Network) (octets : List ℕ) (ns : List Note) (end : Units) 
       let comes = corrected.corrected in
       let standing : Standing = standing_at own before device t in
       let heard = heard_is (omega (arith, six)) cycle (verdicts.Corrected by) comes in
-      let cycle_is : standing.number ≡ cycle = number_is standing.state standing.number cycle comes.next in
+      let cycle_is : standing.number ≡ cycle = point_is standing.state standing.number cycle comes.next in
       let each : (channel : Channel) → deviation_on standing comes.summary channel ≡ value_told (channel_ground own all h device cycle channel) = λ channel.
       ap (λ m. deviation_on standing m channel) heard
       ∙ said_so own all h device standing.number standing.adjustment.0 channel (best_on channel (heard_at_point own all device t))
@@ -293,10 +287,6 @@ at_all network at entry last = (is_early network at entry, reasons.Early) ∷ be
 abbrev of_early : Reason → Bool
 of_early reasons.Early = true
 of_early other = false
-
-not_true : (b : Bool) → not b ≡ true → b ≡ false
-not_true true e = absurd cc
-not_true false e = refl
 
 either : (a b : Bool) → (a || b) ≡ true → (a ≡ true) ⊎ (b ≡ true)
 either true b e = inl refl
@@ -462,10 +452,6 @@ module _ (network : Network) (device : DeviceId) (link : LinkId) (at : Standpoin
 
 -- ---- permanences
 
-never_judged : (j : Judgement) (r : Reason) → ripe.Dropped r ≡ ripe_as j → ⊥
-never_judged judgements.Opened r e = cc
-never_judged j r e = cc
-
 -- only a compression master drops a frame at its permanence, and for no window
 permanent_drop : {s : Scenario} {hs : List Happening} {device : DeviceId} {t : ℕ} {link : LinkId} {cause : ℕ}
     {point : Units} (r : Reason) → BecomesPermanent s hs device t link cause point (ripe.Dropped r)
@@ -485,7 +471,7 @@ permanent_drop {s} {hs} {device} {t} {link} {cause} {point} r b =
         by s.network (points_of judged device) p state adjustment point.0 b.frame.cycle (point_fault s.network state adjustment point.0 b.frame.cycle) refl
             (subst (λ (c : Bool). MatchBool c Collects Hears) cm b.becomes),
       )
-      | inr other ↦ absurd (never_judged (heard_as (plan_of s.network device)
+      | inr other ↦ absurd (never_dropped (heard_as (plan_of s.network device)
           (observation_window s.network) state adjustment point.0 b.frame.cycle b.frame.members)
           r (subst (λ (c : Bool). MatchBool c Collects Hears) other b.becomes))
     ]
@@ -537,13 +523,6 @@ never_gated network device link at octets last t = by (octets_fault network at o
         true_is_false (ap of_gate same ∙ never_first of_gate (octets_tests network at octets) q (refl, (refl, (refl, (refl, tt)))) e)
     by None e t = by_entry (entry_entering network device link (field 4 2 octets)) t
 
--- a relay is no compression master
-one_role : (r : Role) → is_cm_role r ≡ true → is_relay_role r ≡ true → ⊥
-one_role roles.Master a b = cc
-one_role roles.Client a b = cc
-one_role roles.Relay a b = cc
-one_role roles.Cm a b = cc
-
 relay_is_none : (network : Network) (device : DeviceId) → is_cm network device ≡ true → is_relay network device ≡ true → ⊥
 relay_is_none network device cm relay = by (device_at network device) cm relay
   where
@@ -551,7 +530,7 @@ relay_is_none network device cm relay = by (device_at network device) cm relay
         → option_map_or (λ (d : Device). is_relay_role d.role) o false ≡ true
         → ⊥
     by None a b = cc
-    by (Some d) a b = one_role d.role a b
+    by (Some d) a b = roles_differ d.role a b
 
 -- ---- what arrives
 

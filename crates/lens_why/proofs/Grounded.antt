@@ -6,8 +6,8 @@ use Common.{filter, inl, inr, length, pos, refl, subst, sym, true, ℕ, ℤ}
 use Rattle.std.specs.{List.last_or, Option.option_map_or}
 use Rattle.std.specs.{Prelude.{◌++◌, nat_le, option_and_then, option_map, slice_get}}
 use Rattle.audit_devices.specs.{Effects.carried_by, Keeping.records_before, declared.effect.Carried.Carried}
-use Rattle.audit_sweep.specs.{Indexing.{IsSomeIndex, permanence_place}, declared.index.Permanence.Permanence}
-use Rattle.compression.proofs.Collectors.{last_split}
+use Rattle.audit_sweep.{proofs.unpaid_lemmas.emissions_lemmas.Owing.last_in}
+use Rattle.audit_sweep.{specs.{Indexing.{IsSomeIndex, permanence_place}, declared.index.Permanence.Permanence}}
 use Rattle.device_rules.specs.{Headings.heading_of, declared.heading.Heading.Heading}
 use Rattle.lens_why.{proofs.{Cutting.{IsCutBy, cut_or_whole, some_number}, LastRecords.parted_there}}
 use Rattle.lens_why.specs.{Collections.collected_ground}
@@ -188,10 +188,6 @@ permanence_so frame verdict from is =
     record { at = sym (ap (λ (n : Note). n.time) from.is); is = sym (ap (λ (n : Note). n.body) from.is) ∙ is }
 
 -- ---- the records that a ground names stand earlier in the report
-
--- the last of a list is one of it
-last_in : {X : Type 0} (xs : List X) (x : X) → last_or None xs ≡ Some x → IsIn x xs
-last_in xs x e = let at = last_split xs x e in subst (IsIn x) (sym at.1) (in_right x at.0 (x ∷ []) (inl refl))
 
 module _ (network : Network) (octets : List ℕ) (ns : List Note) (end : Units) (of : IsReportOf network octets ns end) (number : ℕ) (h : Happening)
     (there : numbered (happenings network ns) number ≡ Some h) where

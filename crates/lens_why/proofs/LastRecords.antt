@@ -7,8 +7,7 @@ use Common.{zero, ℕ, ℤ}
 use Rattle.std.proofs.lemmas.{List.{Elements.filter-append, append-nil}}
 use Rattle.std.proofs.lemmas.Bool.{and_from, cases_Bool, eq-eqb, eqb-true, false_from_ne_true, lt-ltb, ltb-true}
 use Rattle.std.proofs.lemmas.Bool.{or_left, or_right}
-use Rattle.std.specs.{List.last_or, Option.option_map_or}
-use Rattle.std.specs.{Prelude.{◌||◌, int_lt, nat_le, nat_lt, option_and_then, slice_get, take}}
+use Rattle.std.specs.{List.last_or, Option.option_map_or, Prelude.{◌||◌, int_lt, nat_le, nat_lt, option_and_then, take}}
 use Rattle.audit_devices.specs.{Keeping.records_before, Showing.IsAfter}
 use Rattle.audit_law.{proofs.law_lemmas.Correcting.time_before, specs.law.CorrectionNumbers.standing_at}
 use Rattle.audit_sweep.{proofs.Lacks.{rank_below, unchanged_before}, specs.Indexing.before_corrections}
@@ -35,7 +34,7 @@ use Rattle.sync_state.specs.membership.{Summary.{Summarizes, Summary, best_on}}
 use Rattle.tte_audit.{proofs.ReportRuns.audit_run, specs.{Named.IsNamed, Report.scenario_of}}
 use Rattle.tte_reports.specs.Reports.{IsReportOf}
 use Rattle.tte_units.proofs.general_lemmas.{Bools.{both_left, both_right, not_both}, Integers.{int_lt-from, int_lt-is}}
-use Rattle.tte_units.proofs.general_lemmas.{Lists.last_pushed}
+use Rattle.tte_units.proofs.general_lemmas.{Lists.{last_pushed, some_at, take_next}}
 use Rattle.tte_units.specs.declared.{frames.{channel.Channel.{Channel, TheVariants.{A, B}}, members.Members.Members}}
 use Rattle.tte_units.specs.declared.{units.Units.Units}
 use Rattle.audit_law.specs.law.DueRecords as audits
@@ -290,18 +289,6 @@ parted_there {network} {ns} of number h there =
 
 -- ---- records by their numbers
 
--- the element of a place is the last of those up to it
-taken_one : {X : Type 0} (xs : List X) (k : ℕ) (x : X) → slice_get xs k ≡ Some x → take (suc k) xs ≡ take k xs ++ x ∷ []
-taken_one [] k x there = absurd cc
-taken_one (y ∷ xs) zero x there = let same : y ≡ x = cc in ap (λ (z : _). z ∷ []) same
-taken_one (y ∷ xs) (suc k) x there = ap (λ (zs : List _). y ∷ zs) (taken_one xs k x there)
-
--- something is at each place of a list
-some_at : {X : Type 0} (xs : List X) (k : ℕ) → k < length xs → (x : X) × (slice_get xs k ≡ Some x)
-some_at [] k less = absurd (omega (arith, less))
-some_at (x ∷ xs) zero less = (x, refl)
-some_at (x ∷ xs) (suc k) less = some_at xs k (omega (arith, less))
-
 module _ (network : Network) (octets : List ℕ) (ns : List Note) (end : Units) (of : IsReportOf network octets ns end) where
   abbrev all : List Happening
   all = happenings network ns
@@ -339,7 +326,7 @@ module _ (network : Network) (octets : List ℕ) (ns : List Note) (end : Units) 
       record {
         own = x.0;
         there = record { there = x.1; own = number_is (scenario_of network ns) all (suc k) x.0 of.run.founded x.1 };
-        taken = taken_one all k x.0 x.1 ∙ ap (λ (n : ℕ). take n all ++ x.0 ∷ []) (sym before);
+        taken = take_next all k x.0 x.1 ∙ ap (λ (n : ℕ). take n all ++ x.0 ∷ []) (sym before);
       }
 
 -- one more record is found, or is not

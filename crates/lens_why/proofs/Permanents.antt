@@ -4,16 +4,17 @@ use Common.{if◌then◌else◌, ◌&&◌, ◌++◌, ◌+ℤ◌, ◌+◌, ◌-�
 use Common.{None, Option, Some, [], ap, append_assoc, arith, false, filter, inl, inr, neg_ℤ, pos, refl, subst, sym}
 use Common.{true, ℕ, ℤ}
 use Rattle.std.proofs.lemmas.{Bool.{and_from, cases_Bool, eqb-true, le-leb, leb-true}, Int.ints}
-use Rattle.std.proofs.lemmas.{List.{Elements.{All-nil, filter_map-append}, Sums.fold_push, append-nil}}
-use Rattle.std.specs.{List.{AllByRecursion, after_last, cons_option, last_or}, Option.option_map_or}
+use Rattle.std.proofs.lemmas.{List.{Elements.All-nil, Sums.fold_push, append-nil}}
+use Rattle.std.specs.{List.{AllByRecursion, cons_option, last_or}, Option.option_map_or}
 use Rattle.std.specs.Prelude
 use Prelude.{IfSome, IsSomeAnd, MatchBool, filter_map, fold, int_le, int_lt, nat_le, not, option_and_then, option_map}
 use Prelude.{take}
-use Rattle.audit_devices.specs.{Effects.carried_by, Keeping.records_before, declared.effect.Carried.Carried}
+use Rattle.audit_devices.{proofs.stretches_lemmas.Stretches.went_on}
+use Rattle.audit_devices.{specs.{Effects.carried_by, Keeping.records_before, declared.effect.Carried.Carried}}
 use Rattle.audit_law.proofs.collections_lemmas.Clusters.{AreBefore, are-ignored, are-joined, are-opened}
 use Rattle.compression.proofs.{Growth.{Ordered, Ordered-from}}
 use Rattle.compression.proofs.Collectors.{AreClusters-unique, last_split, open_at-some, role_in-joined, role_in-opened}
-use Rattle.run_law.proofs.records.Order.{after_more, all_kept, before_is}
+use Rattle.run_law.proofs.records.Order.{all_kept, before_is}
 use Rattle.compression.specs.{Clusters.{AreClusters, Cluster, Point, point_at}, Collection.{joined, opening}}
 use Rattle.compression.specs.{Role.{has_point_of, open_at, role, role_in}}
 use Rattle.compression.specs.{declared.taken.Taken.{Taken, TheVariants.{Joined, Opened, OtherCycle, Repeat}}}
@@ -34,8 +35,8 @@ use Rattle.run_law.specs.control.Collections
 use Collections.{ends_stretch, master_of, observation_window, point_by, point_fault, points_of, ripe_by_role}
 use Rattle.run_law.specs.control.Permanence
 use Permanence.{BecomesPermanent, IsCollectedOrDropped, IsPermanenceOutcome, before_permanence, ripe_as}
-use Rattle.run_law.specs.records.{Happenings.{Happening, frame_by, happenings, numbered, time_of}}
-use Rattle.run_law.specs.records.{Order.{IsIn, is_before}, Ranks.{members_in, place_at, place_of}}
+use Rattle.run_law.specs.records.{Happenings.{Happening, frame_by, happenings, numbered, time_of}, Order.is_before}
+use Rattle.run_law.specs.records.{Ranks.{members_in, place_at, place_of}}
 use Rattle.sync_state.specs.{Plan.expected_at, membership.Members.count_of}
 use Rattle.sync_state.specs.declared.{plan.SyncPlan.SyncPlan}
 use Rattle.sync_state.specs.declared.{state.State.{State, TheVariants.{Integrating, Joining, Off, Synchronised}}}
@@ -52,18 +53,6 @@ use Rattle.run_law.specs.declared.steps.Ripe.TheVariants as ripe
 -- ---- the last collection of a compression master, point after point
 
 -- ---- one more record
-
--- a record that ends no stretch may give one point more
-went_on : (hs : List Happening) (h : Happening) (d : DeviceId) → ends_stretch d h.note.body ≡ false
-    → points_of (hs ++ h ∷ []) d ≡ points_of hs d ++ cons_option (point_by d h h.note.body) []
-went_on hs h d on =
-    let ends : Happening → _ = λ x. ends_stretch d x.note.body in
-    let f : Happening → Option Point = λ x. point_by d x x.note.body in
-    ap (filter_map f) (after_more ends hs (h ∷ []) none) ∙ filter_map-append f (after_last ends hs) (h ∷ [])
-  where
-    none : (y : Happening) → IsIn y (h ∷ []) → ends_stretch d y.note.body ≡ false
-    none y (inl s) = ap (λ (x : Happening). ends_stretch d x.note.body) s ∙ on
-    none y (inr i) = absurd i
 
 module _ (network : Network) (d : DeviceId) (hs : List Happening) (h : Happening) where
   -- one that gives none leaves the collection

@@ -4,7 +4,7 @@ use Rattle.std.proofs.{lemmas.{Grind.flat_map-append, List.append-nil}}
 use Rattle.std.proofs.Common
 use Common.{◌++◌, ◌<◌, ◌∙◌, ◌∷◌, ◌≡◌, Bool, List, None, Option, Some, [], ap, append_assoc, arith, false, inl, inr}
 use Common.{length, refl, subst, sym, true, ℕ}
-use Rattle.lens_why.proofs.{Chains.{Along, along_both, along_more, along_there, none_at_zero, whole_of}}
+use Rattle.lens_why.proofs.{Chains.{Along, along_both, along_more, along_there, never_none, none_at_zero, whole_of}}
 use Rattle.lens_why.proofs.{Comings.{IsNoneOrThere, comes_from_earlier}}
 use Rattle.lens_why.proofs.{Cutting.{founded_of, happening_at, none_there, note_in, note_numbered, note_of, number_of}}
 use Rattle.lens_why.specs.{Answer.{IsWhyAnswer, chain_answer}, Grounds.ground_of}
@@ -134,9 +134,6 @@ parts_of (x ∷ xs) h more = refl
 append_one : (xs : List Happening) (h : Happening) (more : List Happening) → (xs ++ h ∷ []) ++ more ≡ xs ++ h ∷ more
 append_one xs h more = append_assoc xs (h ∷ []) more
 
-not_both : (hs : List Happening) (n : ℕ) (h : Happening) → numbered hs n ≡ None → numbered hs n ≡ Some h → ⊥
-not_both hs n h none some = cc
-
 -- the lines of a chain in two parts
 lines_parts : (s : Scenario) (hs xs : List Happening) (h : Happening) (more : List Happening)
     → chain_lines s hs (xs ++ h ∷ more) ≡ chain_lines s hs xs ++ (record_lines s hs h ++ chain_lines s hs more)
@@ -245,7 +242,7 @@ module _ {network : Network} {octets : List ℕ} {first note : Note} {old now : 
         let along = along_more all first.number t.done t.at t.h t.along t.here in
         let last : cause_of t.h.note.body ≡ 0 = elim (comes_from_earlier own all (founded_of t.of) t.at t.h t.here) [
           | inl e ↦ e
-          | inr g ↦ absurd (not_both all (cause_of t.h.note.body) g.0
+          | inr g ↦ absurd (never_none all (cause_of t.h.note.body) g.0
               (none_there network t.notes (cause_of t.h.note.body) (ap (λ (n : Note). note_at t.notes (cause_of n.body)) t.is ∙ none)) g.1)
         ] in
         let chain = subst (λ m. Along all first.number (t.done ++ t.h ∷ []) m) last along in

@@ -1,11 +1,9 @@
 -- The text of a report: parted at line ends, read and swept record by record, and answered.
-use Rattle.std.proofs.{Common.{◌≢◌, MatchOption, cond, drop, nat_lt, suc, zero}}
+use Rattle.std.{specs.{List.{cons_option, join_with_byte, slice_split}, Prelude.{filter_map, slice_get}}}
+use Rattle.std.proofs.{Common.{◌≢◌, drop, suc, zero}}
 use Rattle.std.proofs.lemmas.{Bool.cases_lt}
-use Rattle.std.proofs.lemmas.List.{Elements.{All-from_get_or, All-nil, All-push, filter_map-append}}
-use Rattle.std.proofs.lemmas.List.{Sums.fails_before_first}
-use Rattle.std.proofs.lemmas.List.Splits
-use Splits.{join_with_byte-slice_split, length-slice_split, slice_split_at, slice_split_first, slice_split_none}
-use Rattle.std.specs.{List.{cons_option, join_with_byte, position_or_len, slice_split}, Prelude.{filter_map, slice_get}}
+use Rattle.std.proofs.lemmas.List.{Elements.{All-nil, All-push, filter_map-append}}
+use Rattle.std.proofs.lemmas.List.{Splits.{join_with_byte-slice_split, length-slice_split, slice_split_at}}
 use Rattle.audit_law.proofs.law_lemmas.{Founded.timely, Owed.lack_law}
 use Rattle.audit_sweep.proofs.Lacks.{sound_more, sound_none}
 use Rattle.report_text.{proofs.SameReports.note_unbroken, specs.Ranges.{IsNoteInRange, IsNoteOf}}
@@ -19,15 +17,15 @@ use Rattle.fault_hypothesis.proofs.storm_lemmas.Storms.{any_split}
 use Rattle.run_law.proofs.{runs.{Grow.in_two, NetworkRuns.one_more, Places.in_right}}
 use Rattle.run_law.specs.records.{Happenings.{Happening, happening, time_of}, Order.{IsBefore, IsIn}}
 use Rattle.run_law.specs.records.{Ranks.{key, members_in, rank}}
+use Rattle.trace_text.proofs.Splitting.{PartedAt, parted}
 use Rattle.tte_audit.proofs.{Meet.{GoesOn, apart_of, meet, next_line, no_octets}, OneAnswer.same_of, Passed.passed_law}
 use Rattle.tte_audit.proofs.{ReportLacks.report_lack_law, RightEvents.{ends_with, may_there, told}}
 use Rattle.tte_audit.proofs.Words
-use Words.{◌++◌, ◌+◌, ◌∙◌, ◌∷◌, ◌≡◌, ◌≤◌, Any, AreEventsRight, BeginsWith, BeginsWithLine, BeginsWithRecord, Bool, End}
+use Words.{◌++◌, ◌+◌, ◌∙◌, ◌∷◌, ◌≡◌, ◌≤◌, Any, AreEventsRight, BeginsWith, BeginsWithLine, BeginsWithRecord, End}
 use Words.{EndWith, Event, IsDue, IsEventFault, IsRefusedBy, IsTextOf, List, MayCome, Network, None, Note, NoteBody}
 use Words.{Option, Some, Units, [], amount, any_behind, any_first, ap, append-nil, append_assoc, arith, behind_time}
-use Words.{codes, concat, event_by, events_of, false, happenings, inl, inr, is_line_end, length, length-append}
-use Words.{nat_tests, note_line, note_text, place_of, position, refl, report_of, scenario_of, subst, sym, take, true}
-use Words.{with_event, ℕ}
+use Words.{codes, concat, event_by, events_of, happenings, inl, inr, is_line_end, length, length-append, note_line}
+use Words.{note_text, place_of, position, refl, report_of, scenario_of, subst, sym, take, with_event, ℕ}
 use Rattle.tte_audit.specs.{Answers.{AreSoundNotes, IsAudited, IsFirstLackOf}, Laws.{IsOfReport, NoneIsUnanswered}}
 use Rattle.tte_audit.specs.{Named.IsNamed, Passing.IsIndexOf, Report.{AreNumbered, IsFormFault, IsOfEvents, LineThen}}
 use Rattle.tte_audit.specs.{declared.refusal.AuditRefusal.AuditRefusal}
@@ -103,20 +101,6 @@ fault_on n fault = record {
 }
 
 -- ---- a report is parted at the ends of its lines
-
--- what stands at the first place that passes, if there is one, parts a list
-abbrev PartedAt : (ℕ → Bool) → List ℕ → Option ℕ → Type 0
-PartedAt p xs found = MatchOption found (slice_split p xs ≡ xs ∷ []) (λ i. slice_split p xs ≡ take i xs ∷ slice_split p (drop (i + 1) xs))
-
-parted_case : (p : ℕ → Bool) (xs : List ℕ) (b : Bool) → nat_lt (position_or_len p xs) (length xs) ≡ b
-    → PartedAt p xs (cond b (Some (position_or_len p xs)) None)
-parted_case p xs true e = slice_split_first p xs 0 (grind (arith, nat_tests))
-parted_case p xs false e =
-    let none : length xs ≤ position_or_len p xs = grind (arith, nat_tests) in
-    slice_split_none p xs (All-from_get_or (λ x. p x ≡ false) xs 0 (λ i h. fails_before_first p xs i 0 (omega arith)))
-
-parted : (p : ℕ → Bool) (xs : List ℕ) → PartedAt p xs (position p xs)
-parted p xs = parted_case p xs (nat_lt (position_or_len p xs) (length xs)) refl
 
 split_at : (octets : List ℕ) (i : ℕ) → position is_line_end octets ≡ Some i
     → slice_split is_line_end octets ≡ take i octets ∷ slice_split is_line_end (drop (i + 1) octets)

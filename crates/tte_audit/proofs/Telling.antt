@@ -1,14 +1,13 @@
 -- What the words of a report's records tell, and how they are spelled and read back.
 use Rattle.std.proofs.{Common.{◌-◌, drop}, Math.Nat.pow-le-pow_right}
-use Rattle.std.proofs.lemmas.{Fmt.{decimal-digits_value, decimal_digit, decimal_injective}, Int.Digits.digits_value-lt}
-use Rattle.std.proofs.lemmas.{Str.Parse.{IsNumeralModel, numerals_by_value, tells_digits}}
+use Rattle.std.proofs.lemmas.{Bool.Decides.nat_tests, Fmt.{decimal-digits_value, decimal_digit, decimal_injective}}
+use Rattle.std.proofs.lemmas.{Int.Digits.digits_value-lt, Str.Parse.{IsNumeralModel, numerals_by_value, tells_digits}}
 use Rattle.std.proofs.lemmas.List.{Elements.{All-cons, All-head, All-nil, All-tail}}
 use Rattle.std.proofs.lemmas.List.{Splits.{join_with_byte-slice_split, slice_split_at, slice_split_none}}
 use Rattle.std.proofs.lemmas.List.{length-take-le, take_at}
-use Rattle.std.specs.{Char.{digit_value, is_ascii_digit, to_ascii_lowercase}, Cmp.Lexicographic.bytes_decides}
-use Rattle.std.specs.{Fmt.signed_decimal, List.{AllPass, join_with_byte}}
-use Rattle.std.specs.{Prelude.{All, IfSome, MatchOption, bytes_eq, find, pos}, Result.result_unwrap_or}
-use Rattle.std.specs.{Str.str_to_ascii_lowercase}
+use Rattle.std.specs.{Char.to_ascii_lowercase, Cmp.Lexicographic.bytes_decides, Fmt.signed_decimal}
+use Rattle.std.specs.{List.{AllPass, join_with_byte}, Prelude.{All, IfSome, MatchOption, bytes_eq, find, pos}}
+use Rattle.std.specs.{Result.result_unwrap_or, Str.str_to_ascii_lowercase}
 use Rattle.hex.specs.Hex.{encode_lower}
 use Rattle.net_plan.specs.{Belonging.{HasDevice, IsOfNetwork, device_name}, Ranges.IsInRange}
 use Rattle.net_plan.specs.{declared.ids.DeviceId.DeviceId}
@@ -28,8 +27,8 @@ use Rattle.tte_audit.proofs.Words.{Follows, IsEventFault, IsReasonInRange, IsTex
 use Rattle.tte_audit.proofs.Words.{None, Note, NoteBody, Ok, Option, Reason, Some, State, Units, What, Why, Words, []}
 use Rattle.tte_audit.proofs.Words.{ap, append-nil, append_assoc, arith, behind_word, codes, decimal, digits_value}
 use Rattle.tte_audit.proofs.Words.{events_of, false, get_or, head_word, is_some, judgement_text, kind_text, length}
-use Rattle.tte_audit.proofs.Words.{length-append, nat_tests, note_text, reason_words, refl, rules, state_text, subst}
-use Rattle.tte_audit.proofs.Words.{sym, take, true, why_text, with_event, ℕ}
+use Rattle.tte_audit.proofs.Words.{length-append, note_text, reason_words, refl, rules, state_text, subst, sym, take}
+use Rattle.tte_audit.proofs.Words.{true, why_text, with_event, ℕ}
 use Rattle.tte_audit.specs.{Kinds.Tells, Named.IsNamed, Report.{HasNoEvent, saying}, Telling.AreFollowed}
 use Rattle.tte_audit.specs.{declared.{kind.KindWord.KindWord, passes.RecordsTold.RecordsTold}}
 use Rattle.tte_audit.specs.Spellings
@@ -69,13 +68,6 @@ decimal_front left front rest count number is parts all value some within plain 
     let whole : decimal (digits_value 10 front) ≡ front = decimal-digits_value own front digits (omega (arith, long, some))
     (λ zero. omega (arith, plain zero, long, some)) (omega (arith, same, bound)) in
     parts ∙ ap (λ (t : List ℕ). t ++ rest) (sym whole ∙ ap decimal (sym same))
-
--- a digit's value
-pub digit_shows : (c : ℕ) → is_ascii_digit c ≡ true → digit_value c < 10
-digit_shows c h = grind (arith, nat_tests)
-
-pub digit_spells : (c : ℕ) → is_ascii_digit c ≡ true → digit_value c ≡ c - 48
-digit_spells c h = grind (arith, nat_tests)
 
 -- a number is the only word of its text, or the first one where a space follows
 pub number_alone : (text rest : List ℕ) (n : ℕ) → n < 2 ^ 64 → text ≡ decimal n ++ rest → rest ≡ [] → words text ≡ decimal n ∷ []

@@ -9,7 +9,7 @@ use Rattle.std.proofs.lemmas.List.{length-append, length-drop, take-append-drop}
 use Rattle.std.specs.{List.{All, Contains, concat, cons_option}}
 use Rattle.std.specs.{Prelude.{IfSome, MatchOption, drop, get_or, position, slice_get, suc, zero}}
 use Rattle.audit_law.specs.events.Readings.{scenario_under}
-use Rattle.audit_sweep.specs.{Indexing.IsIndex, declared.index.Index.Index}
+use Rattle.audit_sweep.{proofs.records_lemmas.Numbered.number_of, specs.{Indexing.IsIndex, declared.index.Index.Index}}
 use Rattle.drift_clock.{proofs.ExactSegments.{exact_begins, exact_laws}}
 use Rattle.drift_clock.{specs.Segment.{fresh_segment, segment_reading, stepped_segment}}
 use Rattle.net_plan.specs.{Belonging.IsOfNetwork}
@@ -595,12 +595,8 @@ got_at [] rest note (suc k) e = absurd cc
 got_at (n ∷ ns) rest note zero e = let same : n ≡ note = cc in ap Some same
 got_at (n ∷ ns) rest note (suc k) e = got_at ns rest note k e
 
-suc_of : (n : ℕ) → (n ≡ 0 → ⊥) → n ≡ suc (n - 1)
-suc_of zero some = absurd (some refl)
-suc_of (suc k) some = omega arith
-
 at_number : (notes : List Note) (number : ℕ) → (number ≡ 0 → ⊥) → note_at notes number ≡ slice_get notes (number - 1)
-at_number notes number some = ap (λ n. note_at notes n) (suc_of number some)
+at_number notes number some = ap (λ n. note_at notes n) (number_of number some)
 
 module _ (network : Network) (octets : List ℕ) (notes : List Note) (places : List ℕ) (are : ArePlaces network octets notes places) (number : ℕ)
     (some : number ≡ 0 → ⊥) where

@@ -7,7 +7,8 @@ use Rattle.std.proofs.lemmas.{List.{get_or-set_other, get_or-set_same, length-se
 use Rattle.std.proofs.lemmas.{Option.{slice_get-map, unwrap_or-slice_get}}
 use Rattle.std.specs.{Option.option_map_or}
 use Rattle.std.specs.{Prelude.{◌||◌, fold, map, nat_lt, option_map, slice_get, slice_set, take, unwrap_or}}
-use Rattle.audit_law.specs.law.Linked.{HasCause}
+use Rattle.audit_law.{proofs.law_lemmas.Founded.in_time, specs.law.Linked.HasCause}
+use Rattle.run_law.proofs.records.Order.{as_many, none_numbered}
 use Rattle.lens.{proofs.draw_lemmas.Reading.titles_are}
 use Rattle.lens.specs.{declared.draw.subject.Subject.{Subject, TheVariants.{Frames, Lane}}}
 use Rattle.lens.specs.draw.{Laws.{PicturesShowRuns, ShowsRun}}
@@ -22,23 +23,18 @@ use Rattle.lens_svg.specs.{declared.glance.Glance.Glance}
 use Rattle.lens_why.proofs.{Comings.comes_from_earlier, Cutting.{founded_of, note_numbered}}
 use Rattle.net_plan.specs.declared.{ids.VlId.VlId, network.Network.Network}
 use Rattle.run_law.proofs.{law.FirstDeliveries.{by_number, number_is, numbered_front, numbered_in, numbered_within}}
-use Rattle.run_law.proofs.{records.Order.as_many, runs.{NetworkRuns.{one_more, same_notes}, Places.in_right}}
+use Rattle.run_law.proofs.{runs.{NetworkRuns.{one_more, same_notes}, Places.in_right}}
 use Rattle.run_law.specs.{declared.note.{Note.Note, NoteBody.NoteBody}, runs.{DueRecords.IsDue, Runs.IsFounded}}
 use Rattle.run_law.specs.{scenario.Scenarios.Scenario}
 use Rattle.run_law.specs.records.{Causes.{IsChain, cause_of, last_from}}
-use Rattle.run_law.specs.records.{Happenings.{Happening, happening, happenings, numbered, time_of}}
-use Rattle.run_law.specs.records.{Order.{IsBefore, IsIn}, Ranks.place_of}
+use Rattle.run_law.specs.records.{Happenings.{Happening, happening, happenings, numbered, time_of}, Order.IsIn}
+use Rattle.run_law.specs.records.{Ranks.place_of}
 use Rattle.tte_audit.{proofs.ReportText.happening_there, specs.{Named.IsNamed, Report.{AreNumbered, scenario_of}}}
 use Rattle.tte_reports.specs.{Folding.IsNextOf, Places.note_at, Reports.IsReportOf}
 use Rattle.tte_units.{proofs.general_lemmas.Options.some_same, specs.declared.units.Units.Units}
 use Rattle.run_law.specs.declared.note.NoteBody.TheVariants as notes
 
 -- ---- the times of the records of a report never fall
-
--- of two records the first of which stands before the other
-pub no_later : (a b : Happening) → IsBefore (place_of a) (place_of b) → time_of a ≤ time_of b
-no_later a b (inl less) = omega (arith, less)
-no_later a b (inr same) = let time = same.0 in omega (arith, time)
 
 -- the time is that of a record among these, or the first one
 abbrev IsTimeOf : ℕ → List Happening → Type 0
@@ -48,7 +44,7 @@ module _ (s : Scenario) (all : List Happening) (founded : IsFounded place_of (Is
   least : (front rest : List Happening) (x : Happening) (time : ℕ) → all ≡ front ++ x ∷ rest → IsTimeOf time front → time ≤ time_of x
   least front rest x time whole (inl none) = omega (arith, none)
   least front rest x time whole (inr of) =
-      let before = no_later of.0 x ((founded front rest x whole).0 of.0 of.1) in
+      let before = in_time of.0 x ((founded front rest x whole).0 of.0 of.1) in
       let same = of.2 in
       omega (arith, before, same)
 
@@ -171,12 +167,8 @@ module _ (network : Network) (hs earlier gs : List Happening) (h : Happening) (f
     told = λ is. eq-eqb (seat_of network h.note.body) (device.0 + 1) is;
   }
 
-numbered_none : (n : ℕ) (h : Happening) → numbered [] n ≡ Some h → ⊥
-numbered_none zero h e = cc
-numbered_none (suc n) h e = cc
-
 pub own_none : (network : Network) (subject : Subject) (ns : List Note) (flags : List Bool) → flags ≡ [] → AreOwn network subject ns [] flags
-own_none network subject ns flags none = record { count = ap length none; each = λ n h there. absurd (numbered_none n h there) }
+own_none network subject ns flags none = record { count = ap length none; each = λ n h there. absurd (none_numbered n h there) }
 
 pub own_more : {network : Network} {subject : Subject} {octets : List ℕ} {ns before : List Note} {note : Note}
     {flags : List Bool} → IsNamed network → IsNextOf network octets ns before note

@@ -3,14 +3,15 @@ use Rattle.std.proofs.Common
 use Common.{◌*◌, ◌++◌, ◌+◌, ◌-◌, ◌/◌, ◌<◌, ◌^◌, ◌∙◌, ◌∷◌, ◌≡◌, ◌≤ℤ◌, ◌≤◌, ◌⊎◌, Bool, List, None, Option, Some, [], ap}
 use Common.{append_assoc, arith, drop, false, get_or, inl, inr, length, map, pos, refl, subst, suc, sym, take, take_all}
 use Common.{true, zero, ℕ, ℤ}
-use Rattle.std.proofs.lemmas.{Bool.Decides.nat_tests, Grind.flat_map-append, Int.ints}
-use Rattle.std.proofs.lemmas.List.{Elements.{All-cons, All-nil, filter-append, filter_map-append}, Sums.fold_push}
-use Rattle.std.proofs.lemmas.List.{append-nil, at_drop_more, map-append, take-append-drop, take_more}
+use Rattle.std.proofs.lemmas.{Grind.flat_map-append, Int.ints}
+use Rattle.std.proofs.lemmas.List.{Elements.{All-cons, All-nil, filter_map-append}, Sums.fold_push, append-nil}
+use Rattle.std.proofs.lemmas.List.{at_drop_more, map-append, take-append-drop, take_more}
 use Rattle.std.specs.{Io.KnownBytes.Appends, List.cons_option, declared.result.Result.Result}
 use Rattle.std.specs.Prelude
-use Prelude.{if◌then◌else◌, ◌+ℤ◌, ◌-ℤ◌, All, OnErr, OnOk, filter_map, flat_map, nat_lt, option_and_then, option_map}
-use Prelude.{slice_get, unsigned_abs}
-use Rattle.lens.{proofs.draw_lemmas.{Keeping.{no_later, pictures_show_runs}, Reading.{has_happening, share_is}}}
+use Prelude.{if◌then◌else◌, ◌+ℤ◌, ◌-ℤ◌, All, OnErr, OnOk, filter_map, flat_map, option_and_then, option_map, slice_get}
+use Prelude.{unsigned_abs}
+use Rattle.audit_law.proofs.law_lemmas.Founded.{in_time}
+use Rattle.lens.{proofs.draw_lemmas.{Keeping.pictures_show_runs, Reading.{has_happening, share_is}}}
 use Rattle.lens.specs.{declared.draw.{drawing.Draft.Draft, putting.Layer.Layer}}
 use Rattle.lens.specs.draw.{Answer.{back_answer, draw_answer, fitting_answer}, Asking.IsAskable, Drafts.IsDraftOf}
 use Rattle.lens.specs.draw.{LineLaws.{AreMarkLines, HasLineOf, MarksStandWhereTheirsDo, PicturesDrawPlans}}
@@ -36,7 +37,7 @@ use Rattle.net_plan.specs.declared.{event.What.What, ids.{DeviceId.DeviceId, Lin
 use Rattle.net_plan.specs.declared.{network.Network.Network}
 use Rattle.precision_law.proofs.traffic_lemmas.delivery.{Faultless.{TakesIn, finds_none}, Taken.never_control}
 use Rattle.report_text.specs.Ranges.{IsBodyOf, IsNoteInRange}
-use Rattle.run_law.proofs.{law.FirstDeliveries.at_length}
+use Rattle.run_law.proofs.{law.FirstDeliveries.at_length, records.Members.in_flat}
 use Rattle.run_law.proofs.{runs.{NetworkRuns.same_notes, Places.{in_left, in_right, parted}}}
 use Rattle.run_law.specs.{control.Wires.{Signal, control, timed}}
 use Rattle.run_law.specs.{declared.{note.{Note.Note, NoteBody.NoteBody}, steps.Arrival.Arrival}}
@@ -58,6 +59,7 @@ use Rattle.tte_io.specs.{Faults.next_count, Told.AppendsFront, declared.ends.Sin
 use Rattle.tte_reports.specs.{Places.note_at, Reports.IsReportOf}
 use Rattle.tte_units.{proofs.general_lemmas.{Integers.not_below, Lists.in_all}}
 use Rattle.tte_units.{specs.{Amount.amount, declared.units.Units.Units}}
+use Rattle.world_law.proofs.runs.Worlds.{earlier_still}
 use Rattle.lens.specs.declared.draw.putting.Layer.TheVariants as layers
 use Rattle.lens.specs.draw.Picture as pictures
 use Rattle.net_plan.specs.declared.event.What.TheVariants as events
@@ -217,19 +219,6 @@ come_by s ps time {body} {device} {link} {vl} h caused = by h.says
 
 -- ---- the records before a time
 
-none_earlier : (t : ℕ) (xs : List Happening) → ((x : Happening) → IsIn x xs → t ≤ time_of x) → earlier t xs ≡ []
-none_earlier t [] late = refl
-none_earlier t (x ∷ xs) late =
-    let first = late x (inl refl) in
-    let test : nat_lt (time_of x) t ≡ false = grind (arith, nat_tests, first) in
-    ap (λ (b : Bool). if b then x ∷ earlier t xs else earlier t xs) test ∙ none_earlier t xs (λ y i. late y (inr i))
-
-same_earlier : (t : ℕ) (ps xs : List Happening) → ((x : Happening) → IsIn x xs → t ≤ time_of x) → earlier t (ps ++ xs) ≡ earlier t ps
-same_earlier t ps xs late =
-    filter-append (λ h. nat_lt (time_of h) t) ps xs
-    ∙ ap (λ (ys : List Happening). earlier t ps ++ ys) (none_earlier t xs late)
-    ∙ append-nil (earlier t ps)
-
 -- ---- the tick
 
 tick_is : (window : Window) (at : ℤ) → 0 < unsigned_abs (window.to.0 -ℤ window.from.0) → window.from.0 ≤ℤ at → at ≤ℤ window.to.0
@@ -269,13 +258,13 @@ module _ (network : Network) (octets : List ℕ) (ns : List Note) (end : Units) 
       let parts = parted x qs there in
       let all : hs ≡ (ps ++ h ∷ parts.0) ++ x ∷ parts.1 =
       whole ∙ ap (λ (rest : List Happening). ps ++ h ∷ rest) parts.2 ∙ sym (append_assoc ps (h ∷ parts.0) (x ∷ parts.1)) in
-      no_later h x ((of.run.founded (ps ++ h ∷ parts.0) parts.1 x all).0 h (in_right h ps (h ∷ parts.0) (inl refl)))
+      in_time h x ((of.run.founded (ps ++ h ∷ parts.0) parts.1 x all).0 h (in_right h ps (h ∷ parts.0) (inl refl)))
 
   same_clock : (ps qs : List Happening) (h : Happening) (device : DeviceId) → hs ≡ ps ++ h ∷ qs
       → clock_of (standpoint scene ps device (time_of h)) ≡ clocks_of network ns device (time_of h)
   same_clock ps qs h device whole =
       let earlier_all : earlier (time_of h) ps ≡ earlier (time_of h) hs =
-      sym (ap (earlier (time_of h)) whole ∙ same_earlier (time_of h) ps (h ∷ qs) (late ps qs h whole)) in
+      sym (ap (earlier (time_of h)) whole ∙ earlier_still (time_of h) ps (h ∷ qs) (late ps qs h whole)) in
       ap (λ xs. pos (scene.reading device (time_of h)) +ℤ (adjustment_after scene xs device).0) earlier_all
 
   come : (device : DeviceId) (link : LinkId) (vl : VlId) (note : Note) → IsIn note ns → IsTakenBy note.body device link vl
@@ -327,11 +316,6 @@ pictures_show_windows network view octets ns end rules of mark link vl there loo
 -- ---- a picture has the line of each thing that its plan draws
 
 -- ---- lists
-
-in_flat : {X A : Type 0} (f : X → List A) (xs : List X) (x : X) (a : A) → IsIn x xs → IsIn a (f x) → IsIn a (flat_map f xs)
-in_flat f [] x a i j = absurd i
-in_flat {X = X} f (y ∷ ys) x a (inl same) j = in_left a (f y) (flat_map f ys) (subst (λ (z : X). IsIn a (f z)) same j)
-in_flat f (y ∷ ys) x a (inr i) j = in_right a (f y) (flat_map f ys) (in_flat f ys x a i j)
 
 in_at : {X : Type 0} (n : ℕ) (x : X) (xs : List X) → slice_get xs n ≡ Some x → IsIn x xs
 in_at n x [] there = absurd cc

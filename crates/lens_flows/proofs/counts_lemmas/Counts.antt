@@ -9,7 +9,7 @@ use Rattle.audit_devices.proofs.clocks_lemmas.Reached.{changed_early}
 use Rattle.audit_law.specs.events.Readings.{ReadsOn}
 use Rattle.lens_flows.proofs.{counts_lemmas.Orders.{all_more, all_none, all_same}}
 use Rattle.lens_flows.proofs.judge_lemmas.{Comings.not_at_first}
-use Rattle.lens_flows.proofs.judge_lemmas.{Judging.{owed_ends, owed_stays, receiver_there, span_one}}
+use Rattle.lens_flows.proofs.judge_lemmas.{Judging.{greatest_le, owed_ends, owed_stays, receiver_there, span_one}}
 use Rattle.lens_flows.specs.counts.{FlowLists.{AreFlows, IsFlowBefore}, Greatest.{EndsAt, TellsGreatest, later_of}}
 use Rattle.lens_flows.specs.counts.{Ordered.{AreTimes, IsCountOf}}
 use Rattle.lens_flows.specs.counts.{PartLists.{AreFlowsBefore, ComesBefore, IsFlowOf, IsTo}}
@@ -448,12 +448,6 @@ next_device vl device {flow} is =
       ]
     ]
 
-greatest_one : (Has : ℕ → Type 0) {m n : ℕ} → IsGreatest Has m → IsGreatest Has n → m ≤ n
-greatest_one Has {m} a b = elim a.reached [
-  | inl zero ↦ omega (arith, zero)
-  | inr has ↦ b.most m has
-]
-
 -- there is one flow of a virtual link to a device
 to_one : {network : Network} {vl : VlId} {device : DeviceId} {a b : Flow} → IsTo network vl device a
     → IsTo network vl device b → a ≡ b
@@ -464,8 +458,8 @@ to_one {network} {vl} {device} {a} {b} p q =
     let of_vls : a.of_vl ≡ b.of_vl = some_same (sym there ∙ q.is.there) in
     let greatest = subst (λ d. IsGreatest (IsWindowEnd network b.vl d) a.last) devices
     (subst (λ v. IsGreatest (IsWindowEnd network v a.device) a.last) vls p.is.greatest) in
-    let le = greatest_one (IsWindowEnd network b.vl b.device) greatest q.is.greatest in
-    let ge = greatest_one (IsWindowEnd network b.vl b.device) q.is.greatest greatest in
+    let le = greatest_le (IsWindowEnd network b.vl b.device) greatest q.is.greatest in
+    let ge = greatest_le (IsWindowEnd network b.vl b.device) q.is.greatest greatest in
     let lasts : a.last ≡ b.last = omega (arith, le, ge) in
     let spans = span_one (subst (λ v. AreWithin network v a.rows) vls p.is.rows) q.is.rows in
     ap (λ v. made v a.of_vl a.device a.last a.rows) vls ∙ ap (λ o. made b.vl o a.device a.last a.rows) of_vls

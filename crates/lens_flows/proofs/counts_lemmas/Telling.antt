@@ -3,7 +3,7 @@ use Rattle.std.{specs.{Int.int_rem_euclid, Prelude.{if◌then◌else◌, ◌&&�
 use Rattle.std.proofs.Common
 use Common.{◌++◌, ◌+◌, ◌-ℤ◌, ◌<◌, ◌^◌, ◌∙◌, ◌∷◌, ◌≡◌, ◌≤◌, ◌⊎◌, Bool, List, [], ap, arith, false, inl, inr, length, map}
 use Common.{pos, refl, subst, suc, sym, take, true, zero, ℕ, ℤ}
-use Rattle.std.proofs.lemmas.{Bool.{cases_lt, false≢true}, Int.ints}
+use Rattle.std.proofs.lemmas.{Bool.cases_lt, Int.ints}
 use Rattle.std.proofs.lemmas.List.{Elements.{All-append, All-cons, All-head, All-nil, All-tail}, length-append}
 use Rattle.std.proofs.lemmas.List.{map-append}
 use Rattle.lens_flows.{proofs.counts_lemmas.Orders.{in_last, in_two}}
@@ -22,7 +22,7 @@ use Rattle.net_plan.specs.declared.{event.Event.Event, ids.LinkId.LinkId, networ
 use Rattle.run_law.{proofs.runs.Places.in_left}
 use Rattle.run_law.{specs.{records.{Happenings.Happening, Order.IsIn}, scenario.Scenarios.Scenario}}
 use Rattle.schedule_tables.specs.declared.window.Window.{Window}
-use Rattle.tte_units.{proofs.general_lemmas.Lists.{filter_off, filter_on}}
+use Rattle.tte_units.{proofs.general_lemmas.{Bools.not_both, Lists.{filter_off, filter_on}}}
 use Rattle.tte_units.{specs.declared.frames.channel.Channel.TheVariants.{A, B}}
 use Rattle.lens_flows.specs.declared.judge.fate.Fate.TheVariants as fates
 
@@ -354,14 +354,11 @@ others_delivered {s} {hs} {ds} d {flow} {old} are out =
       by_b = are.by_b ∙ sym (counted_on (λ (e : Delivery). is_of flow e && is_on s.network B e) ds d
           ∙ added (delivered_on s.network B flow ds) (one_if (is_of flow d && is_on s.network B d)) (of_none (is_of flow d) (is_on s.network B d) out));
       nearest = least_same (IsDeliveredWithin s hs ds flow) (IsDeliveredWithin s hs (ds ++ d ∷ []) flow) old.nearest (wider s hs ds d flow)
-          (λ x y is. elim (split ds d is) [ inl before ↦ before | inr here ↦ absurd (never (is_of flow d) here.0 out) ]) are.nearest;
+          (λ x y is. elim (split ds d is) [ inl before ↦ before | inr here ↦ absurd (not_both (is_of flow d) here.0 out) ]) are.nearest;
     }
   where
     added : (n m : ℕ) → m ≡ 0 → n + m ≡ n
     added n m e = omega (arith, e)
-
-    never : (b : Bool) → b ≡ true → b ≡ false → ⊥
-    never b is out = false≢true (sym out ∙ is)
 
 -- the next of the deliveries, which is counted
 pub next_delivered : {course : Course} {befallen : List Event} {hs : List Happening} {ds : List Delivery}

@@ -1,12 +1,10 @@
 -- How a flow is judged: its rows, the clocks of its devices, and what owing comes to.
-use Rattle.std.{specs.Prelude.{IsSomeAnd, MatchOption, None, Option, Some, is_some, nat_le, nat_lt, slice_get}}
+use Rattle.std.{specs.Prelude.{IsSomeAnd, MatchOption, None, Option, Some, is_some, slice_get}}
+use Rattle.std.proofs.{lemmas.{Bool.{cases_lt, false≢true, le-leb, lt-leb}, Int.ints, Option.slice_get_within}}
 use Rattle.std.proofs.Common
 use Common.{◌*◌, ◌+◌, ◌-◌, ◌<◌, ◌∙◌, ◌≡◌, ◌≤◌, ◌⊎◌, List, ap, arith, false, inl, inr, length, pos, refl, subst, sym}
 use Common.{true, ℕ, ℤ}
-use Rattle.std.proofs.lemmas.{Bool.{cases_lt, false≢true, le-leb, le-ltb, lt-leb, lt-ltb}, Int.ints}
-use Rattle.std.proofs.lemmas.{Option.slice_get_within}
 use Rattle.audit_devices.proofs.clocks_lemmas.Reached.{come_reaches, reaches_come}
-use Rattle.run_law.proofs.records.Order.{same_kept}
 use Rattle.audit_devices.specs.{Lasting.ShowsWithin, Showing.{Shown, Shows}}
 use Rattle.audit_devices.specs.{clocks.Finding.{CrossesAt, IsNextCrossing, NoneCrossed, value_in}}
 use Rattle.audit_devices.specs.{declared.clocks.finding.{Crossed.Crossed, Series.Series}}
@@ -18,13 +16,14 @@ use Rattle.lens_flows.specs.judge.{Beginnings.{BeginsCycle, BeginsOne, IsFirstBe
 use Rattle.lens_flows.specs.judge.{Fates.{Ends, IsBegun, IsOwedFrom, IsReady, IsRowSent, IsSent, StaysInStep}}
 use Rattle.lens_flows.specs.judge.{Flows.{AreWithin, AreWithinBefore, IsFlow, IsRowOf, TellsSpan}}
 use Rattle.lens_flows.specs.judge.{Times.{IsFirstTime, NoneWithin}, Values.values_from}
+use Rattle.net_plan.{proofs.Trees.greatest_is_unique}
 use Rattle.net_plan.specs.{Belonging.HasDevice, Bounds.IsGreatest, Places.{device_at, is_end_system}}
 use Rattle.net_plan.specs.{Ranges.{IsInRange, IsVlInRange}}
 use Rattle.net_plan.specs.declared.{ids.{DeviceId.DeviceId, VlId.VlId}, network.Network.Network}
 use Rattle.net_plan.specs.declared.{tables.{Device.Device, Row.Row}}
+use Rattle.precision_law.proofs.law.Precision.{up_to_is}
 use Rattle.run_law.specs.{device.{LocalClocks.Reaches, States.state_after}, law.Safety.{IsWindowEnd, ReachesPlace}}
-use Rattle.run_law.specs.{records.Happenings.{Happening, earlier, time_of, up_to}}
-use Rattle.run_law.specs.{scenario.Scenarios.{Scenario, is_broken}}
+use Rattle.run_law.specs.{records.Happenings.{Happening, earlier, up_to}, scenario.Scenarios.{Scenario, is_broken}}
 use Rattle.sync_state.specs.declared.state.State.TheVariants.{Synchronised}
 use Rattle.tte_units.{proofs.general_lemmas.Lists.in_all, specs.Amount.amount}
 
@@ -152,13 +151,6 @@ module _ (s : Scenario) (hs : List Happening) (device : DeviceId) (v : ℤ) (sho
 
 -- ---- how long a device is in step
 
--- what is up to a time is earlier than the next unit of time
-pub up_to_is : (t : ℕ) (hs : List Happening) → up_to t hs ≡ earlier (t + 1) hs
-up_to_is t hs = same_kept (λ h. nat_le (time_of h) t) (λ h. nat_lt (time_of h) (t + 1)) hs (λ h i. elim (cases_lt (time_of h) (t + 1)) [
-  | inl lt ↦ le-leb (time_of h) t (omega arith) ∙ sym (lt-ltb (time_of h) (t + 1) lt)
-  | inr ge ↦ lt-leb (time_of h) t (omega arith) ∙ sym (le-ltb (time_of h) (t + 1) ge)
-])
-
 -- what is shown before the next unit of time is so after this one
 pub shown_state : {s : Scenario} (hs : List Happening) {device : DeviceId} (t : ℕ) {shown : Shown}
     → Shows s (earlier (t + 1) hs) device shown → shown.state ≡ state_after s (up_to t hs) device
@@ -194,14 +186,11 @@ in_step s hs device from to after broken breaks whole all so t ge le =
 
 -- ---- what owing comes to, and what becomes of a flow where it is not owed
 
-greatest_le : (Has : ℕ → Type 0) {m n : ℕ} → IsGreatest Has m → IsGreatest Has n → m ≤ n
+pub greatest_le : (Has : ℕ → Type 0) {m n : ℕ} → IsGreatest Has m → IsGreatest Has n → m ≤ n
 greatest_le Has {m} a b = elim a.reached [
   | inl zero ↦ omega (arith, zero)
   | inr has ↦ b.most m has
 ]
-
-greatest_one : (Has : ℕ → Type 0) {m n : ℕ} → IsGreatest Has m → IsGreatest Has n → m ≡ n
-greatest_one Has a b = let le = greatest_le Has a b in let ge = greatest_le Has b a in omega (arith, le, ge)
 
 module _ (s : Scenario) (hs : List Happening) (until : ℕ) (flow : Flow) (cycle from : ℕ) where
   pub owed_ends : IsFlow s.network flow → (o : IsOwedFrom s hs until flow cycle from)
@@ -211,7 +200,7 @@ module _ (s : Scenario) (hs : List Happening) (until : ℕ) (flow : Flow) (cycle
       let begins = o.begins in
       record {
         ends = subst (λ p. ReachesPlace s hs flow.device cycle p o.owed.to)
-            (greatest_one (IsWindowEnd s.network flow.vl flow.device) o.owed.greatest is.greatest) o.owed.ends;
+            (greatest_is_unique (IsWindowEnd s.network flow.vl flow.device) o.owed.greatest is.greatest) o.owed.ends;
         in_order = omega (arith, order, begins);
         in_run = o.owed.in_run;
       }

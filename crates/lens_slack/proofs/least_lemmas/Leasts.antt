@@ -1,26 +1,24 @@
 -- The least times: made of parts by links and paths, they keep the rules and lie in their ranges.
 use Rattle.std.{specs.{List.All, Prelude.{◌≤ℤ◌, IfSome, slice_get}}}
-use Rattle.std.proofs.{Math.Nat.mul-le-mul_right, lemmas.{Bool.{cases_Bool, cases_lt}, Int.ints}}
+use Rattle.std.proofs.{Math.Nat.mul-le-mul_right, lemmas.{Bool.cases_lt, Int.ints}}
 use Rattle.std.proofs.Common
-use Common.{◌*◌, ◌+◌, ◌^◌, ◌∷◌, ◌≡◌, ◌≤◌, ◌⊎◌, Bool, List, Option, Some, [], ap, arith, filter, inl, inr, length, pos}
-use Common.{refl, subst, suc, sym, true, ℕ}
+use Common.{◌*◌, ◌+◌, ◌^◌, ◌≡◌, ◌≤◌, ◌⊎◌, List, Option, Some, [], arith, inl, inr, pos, refl, subst, sym, true, ℕ}
 use Rattle.lens_slack.{proofs.least_lemmas.{Drift.drift_more, SamePlan.path_to, Suffice.{AreMade, suffices}}}
 use Rattle.lens_slack.specs.{Bounds.begin_bound, Tightest.IsEnough, declared.least.times.Times.Times}
 use Rattle.lens_slack.specs.least.{Answer.room_of, Laws.{LeastAreLeast, LeastHaveRoom}, Least.{AreLeast, Suffices}}
 use Rattle.lens_slack.specs.least.{Parts.drift_over, Times.{AreAtMost, IsButForTimes, times_of, with_times}}
 use Rattle.net_plan.{proofs.{Amounts.amount_within, Trees.{beta_exists, rules_give_trees}}}
-use Rattle.net_plan.specs.{Bounds.{IsBeta, IsOfPath, beta_at, gamma_of}}
-use Rattle.net_plan.specs.{Places.{IsSwitchOf, device_at, is_end_system, is_master, link_at}}
+use Rattle.net_plan.specs.{Bounds.{IsBeta, IsOfPath, beta_at, gamma_of}, Places.{device_at, is_end_system}}
 use Rattle.net_plan.specs.{Ranges.{IsInRange, IsLinkInRange, IsRowInRange, IsVlInRange, IsWithin}}
-use Rattle.net_plan.specs.declared.{ids.{DeviceId.DeviceId, LinkId.LinkId}, network.Network.Network}
-use Rattle.net_plan.specs.declared.tables.{Device.Device, Link.Link}
-use Rattle.net_plan.specs.declared.tables.{Role.{Role, TheVariants.{Client, Cm, Master, Relay}}}
+use Rattle.net_plan.specs.declared.{ids.LinkId.LinkId, network.Network.Network}
+use Rattle.net_plan.specs.declared.{tables.{Device.Device, Link.Link, Role.TheVariants.Cm}}
 use Rattle.schedule_checker.proofs.{Elements.{all_of_each, each_of_all}, Shape.{same_rule, tree_of}}
 use Rattle.schedule_checker.{specs.Timing.errors_of}
+use Rattle.schedule_tables.{proofs.Margins.some_link}
 use Rattle.schedule_tables.specs.{Delays.{ScheduleFits, delay_on, pcf_port_time}, Numbers.number_of}
 use Rattle.schedule_tables.specs.{Rules.{IsKeptAt, KeepsBelow}}
 use Rattle.schedule_tables.specs.declared.rule.Rule.TheVariants
-use TheVariants.{CompressionMasters, Connections, Correction, Delays, Masters, Precision, ScheduleStart, Settling}
+use TheVariants.{CompressionMasters, Correction, Delays, Masters, Precision, ScheduleStart, Settling}
 use Rattle.tte_units.{proofs.general_lemmas.{Lists.in_all, Options.{closed, opened}}}
 use Rattle.tte_units.specs.{Amount.{amount, units_of}}
 use Rattle.tte_units.specs.{declared.{frames.channel.Channel.TheVariants.A, units.Units.Units}}
@@ -71,35 +69,6 @@ has_room n other t least but h =
     room
 
 -- ---- a network that keeps the rules of its shape has a link, and a path
-
--- one that passes a test, where some do
-some_passes : {X : Type 0} (p : X → Bool) (xs : List X) → 1 ≤ length (filter p xs) → (k : ℕ) × (x : X) × (slice_get xs k ≡ Some x) × (p x ≡ true)
-some_passes p [] some = absurd (omega (arith, some))
-some_passes p (x ∷ xs) some = elim (cases_Bool (p x)) [
-  | inl passes ↦ (0, x, refl, passes)
-  | inr fails ↦
-      let fewer : filter p (x ∷ xs) ≡ filter p xs = rw fails refl in
-      let count = ap length fewer in
-      let rest = some_passes p xs (omega (arith, some, count)) in
-      (suc rest.0, rest.1, rest.2, rest.3)
-]
-
-master_ends : (role : Role) → is_master role ≡ true → is_end_system role ≡ true
-master_ends Master is = refl
-master_ends Client is = absurd cc
-master_ends Cm is = absurd cc
-master_ends Relay is = absurd cc
-
--- the link of a master on channel a
-pub some_link : (n : Network) → KeepsBelow 8 n → (place : ℕ) × (link : Link) × (slice_get n.link place ≡ Some link)
-some_link n shape =
-    let count = (shape Masters (omega arith) 0).least refl in
-    let master = some_passes (λ (d : Device). is_master d.role) n.device (omega (arith, count)) in
-    let device : DeviceId = record { 0 = master.0 } in
-    let ends = closed (λ (d : Device). is_end_system d.role ≡ true) (device_at n device) master.1 master.2 (master_ends master.1.role master.3) in
-    let up = (shape Connections (omega arith) master.0).ends ends A in
-    let link = opened (λ (l : Link). (l.child ≡ device) × IsSwitchOf n A l.parent) (link_at n up.0) up.1 in
-    (up.0.0, link.0, link.1)
 
 -- that of the compression master of channel a has no links
 pub some_path : (n : Network) → KeepsBelow 8 n → (f : List LinkId → ℕ) → IsOfPath n f (f [])

@@ -15,7 +15,8 @@ use Rattle.tte_forms.specs.{Putting.{PutsLines, Shown}}
 use Rattle.tte_forms.specs.{declared.status.Status.{Status, TheVariants.{CaptureRefused, Done, TooLong, WriteFault}}}
 use Rattle.tte_forms.specs.{frames.FrameLine.refusal_text}
 use Rattle.tte_io.specs.{Faults.next_count, Told.AppendsFront}
-use Rattle.tte_observers.{proofs.captures_lemmas.pcap_lemmas.{Heads.finds_head, Packets.{finds_packets, packet_stands}}}
+use Rattle.tte_observers.proofs.captures_lemmas.pcap_lemmas.{Heads.{finds_head, opened_short}}
+use Rattle.tte_observers.proofs.captures_lemmas.pcap_lemmas.{Packets.{finds_packets, packet_stands}}
 use Rattle.tte_observers.specs.captures.Answer.{capture_answer, capture_limit, found_answer, opened_answer}
 use Rattle.tte_observers.specs.captures.Answer.{packets_answer}
 use Rattle.tte_observers.specs.captures.CaptureLine
@@ -25,18 +26,13 @@ use Law.{HasPackets, IsFile, IsJudged, ShowsOctets, ShowsPackets, StandFrom, pac
 use Rattle.tte_observers.specs.captures.pcap.{Layout.{IsHead, IsPacket, head_length, stamp_length}}
 use Rattle.tte_observers.specs.captures.pcap.{Reading.{opened, packet_at}, ReadingLaw.{HasHeadFault, HasPacketFault}}
 use Rattle.tte_observers.specs.declared.captures.pcap.{capture.{CaptureHead.CaptureHead, Packet.Packet}}
-use Rattle.tte_observers.specs.declared.captures.pcap.{refusal.CaptureRefusal.{CaptureRefusal, TheVariants.Header}}
+use Rattle.tte_observers.specs.declared.captures.pcap.{refusal.CaptureRefusal.CaptureRefusal}
 use Rattle.tte_units.specs.declared.frames.pcf.Pcf.{Pcf}
 use Rattle.tte_observers.specs.declared.captures.pcap.refusal.CaptureRefusal.TheVariants as reasons
 
 -- ---- the answer of `capture` for its source, packet by packet
 
 -- ---- the answer of `capture` for a source
-
--- an empty file, or a short one, has no header
-opened_short : (file : List ℕ) → length file < head_length → opened file ≡ Err (Header (length file))
-unfolding opened
-opened_short file short = rw (lt-ltb (length file) head_length short) refl
 
 -- a header has its length
 pub head_whole : (file : List ℕ) (head : CaptureHead) → opened file ≡ Ok head → head_length ≤ length file

@@ -1,5 +1,5 @@
-use Rattle.tte_audit.proofs.{Telling.{digit_shows, digit_spells, few_digits}}
-use Rattle.tte_audit.proofs.{Words.{◌<◌, ◌≡◌, arith, get_or, length, rules, true}}
+use Rattle.trace_text.proofs.WordsBack.{digit_shows, digit_spells}
+use Rattle.tte_audit.proofs.{Telling.few_digits, Words.{◌<◌, ◌≡◌, arith, get_or, length, rules, true}}
 use Rattle.std.{proofs.lemmas.Int.Digits.{digits_more, digits_value_more}, specs.Char.is_ascii_digit}
 use Rattle.tte_audit.proofs.numbers.digits_of.Goals as goal
 

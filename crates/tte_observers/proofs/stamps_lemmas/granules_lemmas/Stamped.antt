@@ -14,7 +14,7 @@ use Rattle.precision_law.proofs.{clocks.Readings.clocks_are_steady, falls_lemmas
 use Rattle.precision_law.proofs.{law.{Precision.{timed_of, up_to_is}, Whole.cycles_kept}, records.Views.room_of}
 use Rattle.precision_law.specs.{Dispatches.AreFromTo, Epochs.epoch_cycle, IdealClocks.ideal_error, Precision.IsRunUpTo}
 use Rattle.precision_law.specs.{Sizes.{HaveRoom, Sizes, sizes_of}}
-use Rattle.run_law.proofs.{device.States.is_in, law.FirstDeliveries.in_filter}
+use Rattle.run_law.proofs.{device.States.is_in, law.FirstDeliveries.in_filter, plain_lemmas.Same.not_true}
 use Rattle.run_law.proofs.{records.{Members.in_kept, Order.{any_in, contains, has_passed, in_any}}}
 use Rattle.run_law.proofs.{runs.Places.{in_left, in_parts, in_right, parted}, scenario.Devices.in_turn}
 use Rattle.sync_state.proofs.VerdictLemmas.{up_state}
@@ -56,10 +56,6 @@ stamps_ready network line device e =
     let state = state_before (scenario_at network line) line.records device line.time in
     let both = and_parts (not broken) (is_synchronised state) e in
     record { correct = not_true broken both.0; synchronised = is_in state both.1 }
-  where
-    not_true : (b : Bool) → not b ≡ true → b ≡ false
-    not_true true e = absurd cc
-    not_true false e = refl
 
 -- what a stamp is
 pub record IsStamped (granule : ℕ) (network : Network) (line : Line) (device : DeviceId) (stamp : ℤ) : Type 0 where
