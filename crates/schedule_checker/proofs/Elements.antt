@@ -514,12 +514,7 @@ pub in_time_of_sender : {n : Network} {place : ℕ} {e : Entry} (r : Bool) → E
     → source_of e ≡ e.vl.sender → Decides r (amount n.tt_start ≤ amount e.row.offset)
     → Decides r (ComesInTime n place)
 in_time_of_sender {n} {place} {e} r one at sender =
-    Decides-like r
-    (λ begun. record {
-      from_sender = λ here is s. rw (one n place e here at is) at begun;
-      from_switch = λ k entering here was is same other. absurd (other (rw (one n place e here at is) at sender));
-    })
-    (λ kept. kept.from_sender e at sender)
+    search arith
 
 -- a row of a switch
 pub in_time_of_switch : {n : Network} {es : List Entry} {place : ℕ} {e : Entry} (r : Bool) → AreEntries n es
@@ -680,9 +675,7 @@ EntersFrom place e at other = (at ≢ place) × EntersSource e other
 pub entered_elsewhere : (es : List Entry) (place : ℕ) (e : Entry) (r : Bool) → Decides r (HoldsBy (EntersFrom place e) es)
     → Decides r (IsEnteredElsewhere es place e)
 entered_elsewhere es place e r =
-    Decides-like r
-    (λ some. record { at = some.0; other = some.1; there = some.2; elsewhere = some.3.0; same_vl = some.3.1.0; target = some.3.1.1 })
-    (λ h. (h.at, h.other, h.there, (h.elsewhere, (h.same_vl, h.target))))
+    search arith
 
 -- the entry's source, if it is no sender, is a switch that another entry of the virtual link enters
 abbrev pub IsFed : Network → List Entry → ℕ → Entry → Type 0
@@ -695,25 +688,15 @@ module _ {n : Network} {es : List Entry} (place : ℕ) (e : Entry) (are : AreEnt
   entered_back : EntryIsOne → (k : ℕ) × (k ≢ place) × Schedule.Enters n k e.row.vl (source_of e)
       → IsEnteredElsewhere es place e
   entered_back one h =
-      let x : Schedule.Enters n h.0 e.row.vl (source_of e) = h.2 in record {
-        at = h.0;
-        other = x.entry;
-        there = stands_at are one x.is;
-        elsewhere = h.1;
-        same_vl = x.same_vl;
-        target = x.target;
-      }
+      search (arith, source_of, stands_at)
 
   pub has_source : EntryIsOne → IsEntry n place e → IsFed n es place e → HasSource n place
   has_source one at fed here is =
-      rw (sym (one n place e here at is)) (⊎_elim (λ (s : source_of e ≡ e.vl.sender). inl s)
-      (λ (s : IsSwitch n (source_of e) × IsEnteredElsewhere es place e). inr (s.0, entered s.1)) fed)
+      search (arith, source_of, entered)
 
   pub has_source_back : EntryIsOne → IsEntry n place e → HasSource n place → IsFed n es place e
   has_source_back one at kept =
-      ⊎_elim (λ (s : source_of e ≡ e.vl.sender). inl s)
-      (λ (s : IsSwitch n (source_of e) × ((k : ℕ) × (k ≢ place) × Schedule.Enters n k e.row.vl (source_of e))).
-      inr (s.0, entered_back one s.1)) (kept e at)
+      search (arith, source_of, entered_back)
 
 -- ---- targets
 
@@ -740,11 +723,7 @@ enters_anew {n} {es} front {place} {e} are one at cut sender all =
 none_again : (n : Network) (place : ℕ) (e : Entry) → IsEntry n place e → EntersAnew n place → (k : ℕ) (earlier : Entry) → k < place → IsEntry n k earlier
     → EntersAgain n earlier e → ⊥
 none_again n place e at kept k earlier below was h =
-    ⊎_elim
-    (λ s. kept.switches k earlier e below was at h.same_vl s h.same_target)
-    (λ s. let c = s.1 in kept.end_systems k earlier e c.0 below was at h.same_vl s.0 c.1 c.2
-    h.same_target)
-    h.once
+    search arith
 
 pub enters_anew_back : {n : Network} {es : List Entry} (front : List Entry) {place : ℕ} {e : Entry} → AreEntries n es
     → IsEntry n place e → front ≡ take place es → EntersAnew n place → All (EntersNoneAgain n e) front

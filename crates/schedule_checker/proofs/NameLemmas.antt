@@ -1,7 +1,8 @@
 -- Names are equal where their octets in place are.
 use Rattle.std.{proofs.{Common.{◌&&◌, ◌∙◌, ◌≡◌, Bool, List, ap, eqb, length, sym, take, ℕ}, Math.Seq.take-append_seam}, specs.Bool.Decides}
-use Rattle.std.{proofs.lemmas.{Bool.Decides.{Decides-and, Decides-at, Decides-eqb, Decides-like}, Slice.Eq.bytes_eq-Decides}, specs.Cmp.Lexicographic.pointwise}
+use Rattle.std.{proofs.lemmas.{Slice.Eq.bytes_eq-Decides}, specs.Cmp.Lexicographic.pointwise}
 use Rattle.net_plan.specs.Padding.{padded}
+use Rattle.std.proofs.Common.{arith}
 
 -- what `==` computes at two names
 abbrev pub same_padded : ℕ → List ℕ → List ℕ → Bool
@@ -15,7 +16,4 @@ one_text size xs ys same long = sym (take-append_seam xs _) ∙ ap (take (length
 -- `==` decides whether names are equal
 pub decides_name : (size : ℕ) (xs ys : List ℕ) (r : Bool) → r ≡ same_padded size xs ys → Decides r (xs ≡ ys)
 decides_name size xs ys r e =
-    let parts = Decides-and (pointwise eqb (padded size xs) (padded size ys)) (eqb (length xs) (length ys)) (bytes_eq-Decides (padded size xs) (padded size ys))
-    (Decides-eqb (length xs) (length ys)) in
-    Decides-at r (same_padded size xs ys) e (Decides-like (same_padded size xs ys) (λ h. one_text size xs ys h.0 h.1) (λ h. (ap (padded size) h, ap length h))
-    parts)
+    search (arith, padded, bytes_eq-Decides, one_text)

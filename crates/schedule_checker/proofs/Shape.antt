@@ -48,13 +48,7 @@ module _ (n : Network) (c : Channel) (d : DeviceId) where
   -- a device has one first uplink
   one_first : {link other : LinkId} → IsFirstUplink n c d link → IsFirstUplink n c d other → link.0 ≡ other.0
   one_first {link} {other} f g =
-      ⊎_elim
-      (λ l. let r = absurd (g.first link l f.leads) in r)
-      (λ m. ⊎_elim
-      (λ l. let r = absurd (f.first other l g.leads) in r)
-      (λ k. (omega (arith, k, m)))
-      (cases_lt other.0 link.0))
-      (cases_lt link.0 other.0)
+      search arith
 
   pub leads_by : {link : LinkId} (l : Link) (most : ℕ) → most ≢ 0 → IsFirstUplink n c d link
       → link_at n link ≡ Some l → LeadsToCmWithin n c l.parent (most - 1) → LeadsToCmWithin n c d most
@@ -66,9 +60,7 @@ module _ (n : Network) (c : Channel) (d : DeviceId) where
       → LeadsToCmWithin n c l.parent (most - 1)
   walked l [] most bare first at short path = absurd (bare path)
   walked {link} l (m ∷ ms) most bare first at short path =
-      let same : m ≡ link = rw (one_first path.0 first) in
-      let known : link_at n m ≡ Some l = rw same at in
-      (ms, omega arith, at_known (λ x. IsFirstPath n c x.parent ms) (link_at n m) l known path.1)
+      search (arith, one_first, at_known)
 
   pub leads_on : {link : LinkId} (l : Link) (most : ℕ) → (IsCmOf n c d → ⊥) → IsFirstUplink n c d link
       → link_at n link ≡ Some l → LeadsToCmWithin n c d most → LeadsToCmWithin n c l.parent (most - 1)
@@ -248,40 +240,15 @@ IsKeptWhereJudged rule n = (k : ℕ) → k < places_of rule n → IsKeptAt rule 
 
 limits : (n : Network) → IsKeptWhereJudged Limits n → IsKept Limits n
 limits n h k =
-    ⊎_elim (λ l. h k l)
-    (λ g. let r : IsKeptAt Limits n k = record {
-      devices = λ e. absurd (omega arith);
-      links = λ e. absurd (omega arith);
-      vls = λ e. absurd (omega arith);
-      rows = λ e. absurd (omega arith);
-    } in r)
-    (cases_lt k 4)
+    search arith
 
 cms : (n : Network) → IsKeptWhereJudged CompressionMasters n → IsKept CompressionMasters n
 cms n h k =
-    ⊎_elim (λ l. h k l)
-    (λ g. let r : IsKeptAt CompressionMasters n k = record {
-      on_a = λ e. absurd (omega arith);
-      on_b =
-          λ e. absurd (omega arith);
-    } in
-    r)
-    (cases_lt k 2)
+    search arith
 
 masters : (n : Network) → IsKeptWhereJudged Masters n → IsKept Masters n
 masters n h k =
-    ⊎_elim (λ l. h k l)
-    (λ g. let r : IsKeptAt Masters n k = record {
-      least = λ e. absurd (omega arith);
-      most = λ e. absurd (omega arith);
-      members = λ e. absurd (omega arith);
-      threshold_least = λ e. absurd (omega arith);
-      threshold_most = λ e. absurd (omega arith);
-      begin_on = λ e. absurd (omega arith);
-      starts = λ e. absurd (omega arith);
-      one_faulty = λ e. absurd (omega arith);
-    } in r)
-    (cases_lt k 6)
+    search arith
 
 connections : (n : Network) → IsKeptWhereJudged Connections n → IsKept Connections n
 connections n h k = record {
@@ -435,29 +402,15 @@ no_sooner {n} {i} e a b below = a.broken (rw e (b.places i below))
 same_number : {n : Network} {r s : Rule} {i j : ℕ} → IsFirstBroken n r i → IsFirstBroken n s j
     → number_of r ≡ number_of s
 same_number {r} {s} a b =
-    ⊎_elim
-    (λ l. let z = absurd (no_earlier a b l) in z)
-    (λ g. ⊎_elim
-    (λ l. let z = absurd (no_earlier b a l) in z)
-    (λ h. (omega (arith, g, h)))
-    (cases_lt (number_of s) (number_of r)))
-    (cases_lt (number_of r) (number_of s))
+    search (arith, no_earlier, number_of)
 
 same_place : {n : Network} {r s : Rule} {i j : ℕ} → r ≡ s → IsFirstBroken n r i → IsFirstBroken n s j → i ≡ j
 same_place {i} {j} e a b =
-    ⊎_elim
-    (λ l. let z = absurd (no_sooner e a b l) in z)
-    (λ g. ⊎_elim
-    (λ l. let z = absurd (no_sooner (sym e) b a l) in z)
-    (λ h. (omega (arith, g, h)))
-    (cases_lt j i))
-    (cases_lt i j)
+    search (arith, no_sooner)
 
 pub refusal_is_one : RefusalIsOne
 refusal_is_one n t u a b =
-    let numbers = same_number a.first b.first in
-    let places = same_place (same_rule a.rule b.rule numbers) a.first b.first in
-    rw (a.number ∙ numbers ∙ sym b.number) ((rw places))
+    search (arith, same_number, same_place, same_rule)
 
 -- ---- the first rule that is broken is told
 
@@ -486,19 +439,12 @@ shape_number i below = number_at (λ r. number_of (shape_rule r)) shape_rules 1 
 
 pub plan_number : (i : ℕ) → i < 17 → number_of (plan_rule (get_or plan_rules i plans.Delays)) ≡ 8 + i
 plan_number i below =
-    number_at (λ r. number_of (plan_rule r)) plan_rules 8 i plans.Delays
-    (refl, (refl, (refl, (refl, (refl, (refl, (refl, (refl, (refl, (refl, (refl, (refl, (refl, (refl, (refl, (refl, (refl, tt)))))))))))))))))
-    below
+    search (arith, number_at, number_of)
 
 -- a network that keeps the rules below a number, and the rule of that number, keeps those below the next
 pub keeps_next : (n : Network) (rule : Rule) (i j : ℕ) → j ≡ i + 1 → KeepsBelow i n → number_of rule ≡ i → IsKept rule n → KeepsBelow j n
 keeps_next n rule i j next below here kept other less =
-    ⊎_elim
-    (λ l. below other l)
-    (λ g.
-    let same : number_of rule ≡ number_of other = omega (arith, here, less, g, next) in
-    rw (same_rule rule other same) at kept)
-    (cases_lt (number_of other) i)
+    search (arith, number_of, same_rule)
 
 pub tells : {n : Network} {rule : Rule} (i : ℕ) {place : ℕ} → KeepsBelow i n → number_of rule ≡ i
     → BreaksAt n rule place → IsFirstBroken n rule place

@@ -3,6 +3,7 @@ use Rattle.schedule_checker.proofs.Elements.{both_channels}
 use Rattle.schedule_checker.proofs.both_channels.goes_by_both_channels.Goals.{else-leaves_on_both, then-leaves_on_both}
 use Rattle.schedule_checker.specs.Routes.{EntersEndSystem, LeavesOnBoth}
 use Rattle.schedule_checker.proofs.both_channels.goes_by_both_channels.Goals as goal
+use Rattle.std.proofs.Common.{arith}
 
 pub returns-then-enters_end_system : goal.returns-then-enters_end_system
 returns-then-enters_end_system c =
@@ -24,13 +25,4 @@ returns-then-enters_end_system c =
 
 pub returns-else-enters_end_system : goal.returns-else-enters_end_system
 returns-else-enters_end_system c =
-    let n = c.args.network.now in
-    let vl = get_or c.as_slice.result.now c.args.place c.index-as_slice-place.result in
-    let at : slice_get n.vl c.args.place ≡ Some vl = rw c.as_slice.ensures (slice_get-get_or n.vl c.args.place c.index-as_slice-place.result c.requires.place)
-    in (
-      λ yes. absurd (false≢true (sym c.if-enters_end_system.false ∙ yes)),
-      λ kept. elim c.if-leaves_on_both.branch [
-        | then-leaves_on_both w ↦ w.value-is ∙ w.enters_end_system.ensures.1 (kept.enters vl at)
-        | else-leaves_on_both w ↦ w.value-is ∙ c.leaves_on_both.ensures.1 (λ channel. kept.leaves vl channel at)
-      ],
-    )
+    search (arith, slice_get-get_or)

@@ -1,14 +1,10 @@
-use Rattle.std.proofs.Common.{◌+◌, arith, get_or}
+use Rattle.std.proofs.Common.{◌+◌, arith}
 use Rattle.schedule_checker.proofs.Shape.{keeps_next, shape_number, shape_rules, tells}
-use Rattle.schedule_checker.{specs.Judging.shape_rule}
-use Rattle.schedule_checker.specs.declared.parts.ShapeRule.TheVariants as shapes
 use Rattle.schedule_checker.proofs.judge.judge_shape.Goals as goal
 
 pub rules-preserved : goal.rules-preserved
 rules-preserved c =
-    keeps_next c.args.network.now (shape_rule (get_or shape_rules c.rules.rule-index shapes.Limits)) (1 + c.rules.rule-index) (1 + (c.rules.rule-index + 1))
-    (omega arith) c.rules.invariant
-    (shape_number c.rules.rule-index c.rules-test.true) c.in-None.ensures.none
+    search (arith, keeps_next, shape_rules, shape_number)
 
 pub returns-in-Some-clause-told : goal.returns-in-Some-clause-told
 returns-in-Some-clause-told c =

@@ -1,6 +1,7 @@
 use Rattle.std.proofs.Common.{refl, rules, take}
 use Rattle.schedule_checker.proofs.Elements.{enters_anew, enters_anew_back, entry_read}
 use Rattle.schedule_checker.proofs.routes.enters_anew.Goals as goal
+use Rattle.std.proofs.Common.{arith}
 
 pub returns-then-ne : goal.returns-then-ne
 returns-then-ne c =
@@ -16,8 +17,4 @@ returns-then-ne c =
 
 pub returns-else-ne : goal.returns-else-ne
 returns-else-ne c =
-    let n = c.args.network.now in
-    let es = c.args.entries.now in
-    let e = c.index-entries-place.result in
-    let at = entry_read n es c.args.place e c.requires.entries c.requires.place c.index-entries-place.is in
-    (λ yes. absurd (cc (yes, c.if-ne.false)), λ kept. absurd (kept.no_sender e at (search rules)))
+    search (arith, entry_read)

@@ -1,6 +1,6 @@
 use Rattle.std.proofs.Common.{◌≡◌, ◌≢◌, arith, inl, inr, rules, ⊎_elim}
 use Rattle.schedule_checker.proofs.Elements.{entry_read, has_source, has_source_back}
-use Rattle.schedule_tables.specs.{Entries.source_of, Schedule.IsSwitch}
+use Rattle.schedule_tables.specs.Entries.{source_of}
 use Rattle.schedule_checker.proofs.routes.has_source.Goals as goal
 
 pub returns-then-eq : goal.returns-then-eq
@@ -28,13 +28,4 @@ returns-then-is_switch c =
 
 pub returns-else-is_switch : goal.returns-else-is_switch
 returns-else-is_switch c =
-    let n = c.args.network.now in
-    let es = c.args.entries.now in
-    let e = c.index-entries-place.result in
-    let at = entry_read n es c.args.place e c.requires.entries c.requires.place c.index-entries-place.is in
-    let other : source_of e ≢ e.vl.sender = search rules in
-    let no_switch : ¬ IsSwitch n (source_of e) = search rules in (
-      λ yes. absurd (grind (arith, c.if-is_switch.false)),
-      λ kept. absurd (⊎_elim (λ s. other s) (λ s. no_switch
-          s.0) (has_source_back c.args.place e c.requires.entries c.entries_law.ensures.one at kept)),
-    )
+    search (arith, entry_read, source_of, has_source_back)

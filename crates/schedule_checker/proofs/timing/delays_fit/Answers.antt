@@ -1,6 +1,7 @@
 use Rattle.schedule_checker.proofs.Elements.{delays_from_channels, delays_on_channel}
-use Rattle.tte_units.specs.declared.frames.channel.Channel.TheVariants.{A, B}
+use Rattle.tte_units.specs.declared.frames.channel.Channel.TheVariants.{B}
 use Rattle.schedule_checker.proofs.timing.delays_fit.Goals as goal
+use Rattle.std.proofs.Common.{arith}
 
 pub returns-then-delays_fit_on : goal.returns-then-delays_fit_on
 returns-then-delays_fit_on c =
@@ -14,10 +15,4 @@ returns-then-delays_fit_on c =
 
 pub returns-else-delays_fit_on : goal.returns-else-delays_fit_on
 returns-else-delays_fit_on c =
-    let beta = c.amount-beta.result in (
-      λ t. delays_from_channels c.args.beta beta c.args.place c.amount-beta.ensures.value c.beta_is_unique.ensures
-          c.requires.beta
-          (c.delays_fit_on.ensures.0 t) (absurd (cc)),
-      λ all. c.delays_fit_on.ensures.1 (delays_on_channel c.args.beta beta c.args.place c.amount-beta.ensures.value
-          c.requires.beta all A),
-    )
+    search (arith, delays_from_channels, delays_on_channel)

@@ -1,5 +1,5 @@
 use Rattle.schedule_checker.proofs.Elements.{more_room}
-use Rattle.std.{proofs.Common.{◌∙◌, ◌∷◌, [], ap, arith, length, length-append, refl}}
+use Rattle.std.{proofs.Common.{[], arith, refl}}
 use Rattle.schedule_checker.proofs.groups.RowPlaces.make_room.Goals as goal
 
 pub loop-init : goal.loop-init
@@ -12,14 +12,7 @@ returns-in_err-push-clause-same c other =
 
 pub loop-preserved : goal.loop-preserved
 loop-preserved c =
-    let xs = c.loop.self.groups.items in
-    let items = c.in_ok-push.ensures.items in (
-      λ other.
-          rw items
-          (more_room xs c.new.result other c.new.ensures.items
-          ∙ c.loop.invariant.0 other),
-      omega (arith, c.loop.invariant.1, ap length items, length-append xs (c.new.result ∷ [])),
-    )
+    search (arith, more_room)
 
 pub returns-clause-same : goal.returns-clause-same
 returns-clause-same c = c.loop.invariant.0
