@@ -471,9 +471,9 @@ module _ {C M : Type 0} {last_step : C → ℕ} {reading : C → ℕ → ℕ} {s
 -- ---- results
 
 pub passed_same : {C M : Type 0} (old new : State C M) (time : ℕ) (early : Bool) → new ≡ record old { time = time; early = early }
-    → new ≡ record old { time = new.time; early = new.early }
+    → new ≡ record old { time = new.time; early = new.early; pending = new.pending }
 passed_same {C} {M} old new time early same = same ∙ ap (λ t. let k : State C M =
-    record old { time = t.time; early = t.early } in k) (sym same)
+    record old { time = t.time; early = t.early; pending = t.pending } in k) (sym same)
 
 -- a source that is not later is of the present instant
 pub now_so : (source : Source) → ((time : ℕ) → source ≡ Later time → ⊥) → IsNow source
@@ -493,7 +493,8 @@ err_open E old new (Err e) until early same = omega arith
 
 -- where time passes, what is first stays so, and the room is as it was
 pub firsts_passed : {C M : Type 0} {old : State C M} {new : State C M} {place : Option DueAt} {due : Option SlotTimer}
-    → new ≡ record old { time = new.time; early = new.early } → AreFirsts old place due → AreFirsts new place due
+    → new ≡ record old { time = new.time; early = new.early; pending = new.pending } → AreFirsts old place due
+    → AreFirsts new place due
 firsts_passed {place} {due} same are =
     rw same (record {
       some_place = are.some_place;
@@ -504,9 +505,38 @@ firsts_passed {place} {due} same are =
     })
 
 pub room_passed : {C M : Type 0} {network : Network} {old : State C M} {new : State C M}
-    → new ≡ record old { time = new.time; early = new.early } → HasRoom network old → HasRoom network new
+    → new ≡ record old { time = new.time; early = new.early; pending = new.pending } → HasRoom network old
+    → HasRoom network new
 room_passed {network} same room =
     rw same (record { places = room.places; numbers = room.numbers; launches = room.launches })
+
+-- where events without an outcome are worked off, no more changes than where time passes
+pub step_same : {C M : Type 0} (old mid : State C M) → mid ≡ record old { early = mid.early; pending = mid.pending }
+    → mid.time ≡ old.time → mid ≡ record old { time = mid.time; early = mid.early; pending = mid.pending }
+step_same {C} {M} old mid same time = same ∙ ap (λ t. let k : State C M =
+    record old { time = t; early = mid.early; pending = mid.pending } in k) (sym time)
+
+-- what passes from there passes from before
+module _ {C M : Type 0} {last_step : C → ℕ} {reading : C → ℕ → ℕ} {stands : Meaning M} {network : Network} where
+  pub passed_then : {old mid new : State C M} {until : ℕ} (turn : Turn)
+      → IsStep last_step reading stands network old mid
+      → mid ≡ record old { early = mid.early; pending = mid.pending }
+      → IsPassed last_step reading stands network until mid new turn
+      → IsPassed last_step reading stands network until old new turn
+  passed_then {old} {mid} {new} {until} turn step same passed = record {
+    well = passed.well;
+    still = λ s notes is. passed.still s notes (step.still s notes is);
+    whole = λ s notes is. passed.whole s notes (step.still s notes is);
+    says = says turn passed.says;
+    same = passed.same ∙ ap (λ t. let k : State C M =
+        record t { time = new.time; early = new.early; pending = new.pending } in k) same;
+    later = let time = step.time in let later = passed.later in omega arith;
+  }
+    where
+      says : (turn : Turn) → PassSays mid new until turn → PassSays old new until turn
+      says Gives is = absurd is
+      says GoesOn is = (is.0, is.1 ∙ step.given)
+      says Ends is = λ early limit. is (step.after.ended ∙ early) limit
 
 -- ---- one turn after the other
 

@@ -225,7 +225,7 @@ pub record IsStep {C M : Type 0} (last_step : C → ℕ) (reading : C → ℕ �
   pub time : new.time ≡ old.time
   pub given : new.given ≡ old.given
 
--- time passes, if it does, and nothing else changes
+-- time passes, if it does, and nothing else changes but that events without an outcome are worked off
 pub record IsPassed {C M : Type 0} (last_step : C → ℕ) (reading : C → ℕ → ℕ) (stands : Meaning M) (network : Network)
     (until : ℕ) (old new : State C M) (turn : Turn) : Type 0 where
   pub well : IsWell last_step reading stands network new
@@ -233,7 +233,7 @@ pub record IsPassed {C M : Type 0} (last_step : C → ℕ) (reading : C → ℕ 
   pub whole : (s : Scenario) (notes : List Note) → Stands reading (keeps stands) s (world_of network old) notes
       → IsWhole s notes until turn
   pub says : PassSays old new until turn
-  pub same : new ≡ record old { time = new.time; early = new.early }
+  pub same : new ≡ record old { time = new.time; early = new.early; pending = new.pending }
   pub later : old.time ≤ new.time
 
 -- a record of the present instant is given

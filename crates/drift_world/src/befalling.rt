@@ -1,5 +1,6 @@
 ghost use Rattle.std.specs.Prelude.{◌+◌, ◌∷◌, ◌≡◌, ◌≤◌, List, OnErr, OnOk, [], false, length, ℕ};
-ghost use Rattle.drift_world.specs.{Nearing.IsLess, Turns.{IsStep, MayWork}, declared.source.Source.Source};
+ghost use Rattle.drift_world.specs.{Nearing.{IsLess, distance}, Turns.{HasRoom, IsStep, MayWork}};
+ghost use Rattle.drift_world.specs.{Wells.IsWell, declared.source.Source.Source};
 ghost use Rattle.drift_world.specs.{Sound.IsSound, Stepping.ChangesOnly, Views.world_of};
 ghost use Rattle.{run_law.specs.records.Order.behind, world_state.specs.Keeping.keeps};
 ghost use Rattle.run_law.specs.{declared.note.Note.Note, scenario.Scenarios.Scenario};
@@ -58,6 +59,21 @@ impl<C: Clock, M: Machine + Drop> State<C, M> {
 }
 
 impl<C: Clock, M: TellsKind + Drop> State<C, M> {
+    /// The events of the present instant are worked off where none of them has an outcome.
+    #[inline(always)]
+    pub fn pass_events(&mut self, network: &Network)
+        requires well { IsWell C.last_step C.reading M.stands network.now self.old }
+        requires room { HasRoom network.now self.old }
+        ensures step { IsStep C.last_step C.reading M.stands network.now self.old self.new }
+        ensures near { (until : ℕ) → distance network.now until self.new ≤ distance network.now until self.old }
+        ensures same { self.new ≡ record self.old { early = self.new.early; pending = self.new.pending } }
+    {
+        if self.pending && self.befell.is_empty() {
+            self.early = false;
+            self.pending = false;
+        }
+    }
+
     /// The outcomes of the events of the instant are settled.
     #[inline(never)]
     pub fn settle(&mut self, network: &Network) -> Result<(), OutOfMemory>

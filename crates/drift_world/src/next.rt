@@ -111,7 +111,8 @@ impl<C: Clock, M: TellsKind + Drop> State<C, M> {
         !self.pending && !self.ended && self.settled.is_empty()
     }
 
-    /// Where nothing is settled or pending, and the end has not come, time passes up to what comes first.
+    /// Where nothing is settled or is to be settled of events, and the end has not come, time passes up to what comes
+    /// first.
     #[inline(always)]
     fn pass_first(
         &mut self,
@@ -121,15 +122,20 @@ impl<C: Clock, M: TellsKind + Drop> State<C, M> {
         due: Option<SlotTimer>,
     ) -> Turn
         requires may { MayTurn C.last_step C.reading M.stands network.now until self.old }
+        requires room { HasRoom network.now self.old }
         requires firsts { AreFirsts self.old place due }
         ensures passed { IsPassed C.last_step C.reading M.stands network.now until self.old self.new result }
         ensures nearer { IsNoFarther network.now until self.old self.new result }
     {
         let time = least_of(place, due, until);
-        if self.time < time && self.is_calm() {
-            return self.pass_on(network, time, until);
+        if time <= self.time {
+            return Turn::GoesOn;
         }
-        Turn::GoesOn
+        self.pass_events(network);
+        if !self.is_calm() {
+            return Turn::GoesOn;
+        }
+        self.pass_on(network, time, until)
     }
 
     /// The first of three fronts goes on: of what is settled, of what is under way, and of the timers. Their ranks tell
