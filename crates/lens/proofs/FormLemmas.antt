@@ -6,7 +6,7 @@ use Rattle.std.specs.{Option.{option_and_then, option_map}}
 use Rattle.std.specs.{Prelude.{if◌then◌else◌, ◌&&◌, ◌==◌, IfSome, Option, bytes_eq, codes, decimal, nat_le, slice_get}}
 use Rattle.std.specs.{Str.Parse.digits_value}
 use Rattle.fault_hypothesis.proofs.storm_lemmas.OneStorm.{one_storm}
-use Rattle.lens_latency.{proofs.{Comings.latency_one, OneReport.latency_report_one}, specs.Answer.IsLatencyOf}
+use Rattle.lens_latency.{proofs.{Latencies.latency_one, OneReport.latency_report_one}, specs.Answer.IsLatencyOf}
 use Rattle.lens_plan.{proofs.Plans.plan_one_for, specs.{Answer.IsPlanFor, messages.Values.{is_name_text, time_spelled}}}
 use Rattle.tte_reports.{proofs.Reports.report_one, specs.Reports.IsOneFor}
 use Rattle.lens.{proofs.draw_lemmas.Naming.named_one}

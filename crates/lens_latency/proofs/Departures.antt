@@ -5,7 +5,7 @@ use Rattle.std.proofs.Common
 use Common.{if◌then◌else◌, ◌++◌, ◌+◌, ◌-◌, ◌<◌, ◌==◌, ◌∙◌, ◌∷◌, ◌≡◌, ◌≤◌, Bool, List, None, Option, Some, [], ap, arith}
 use Common.{false, inl, inr, length, refl, subst, suc, sym, true, zero, ℕ}
 use Rattle.audit_law.{proofs.law_lemmas.Owed.{audit_laws, gap_law}, specs.law.Linked.{AreLinked, HasCause}}
-use Rattle.lens_latency.proofs.{Comings.comes_in_its_time, Givings.given_more}
+use Rattle.lens_latency.proofs.{Givings.given_more, Latencies.comes_in_its_time}
 use Rattle.precision_law.proofs.traffic_lemmas.delivery.{Delivering.fields_fit, Forwarding.Brings, Taken.takings_are_so}
 use Rattle.run_law.proofs.{records.Order.{as_many, none_numbered}, runs.NetworkRuns.one_more}
 use Rattle.lens_latency.specs.{Arrivals.{AreGiven, HasDeparted, IsArrivalBy, IsDeparture, IsDepartureOf}}

@@ -1,4 +1,4 @@
-pub mod Comings
+pub mod Latencies
 pub mod Givings
 pub mod Departures
 pub mod SeenTimes

@@ -1,5 +1,6 @@
 -- A report has one answer of `latency`.
-use Rattle.lens_latency.proofs.{Comings.comings_once, Departures.arrival_once, Givings.given_once, SeenTimes.seen_once}
+use Rattle.lens_latency.proofs.{Departures.arrival_once, Givings.given_once, Latencies.comings_once}
+use Rattle.lens_latency.proofs.{SeenTimes.seen_once}
 use Rattle.lens_latency.specs.{Answer.{IsLatencyReport, told_answer}, Arrivals.IsArrivalBy, Seeing.{AreTold, IsTold, times_of}}
 use Rattle.lens_latency.specs.declared.{arrivals.FrameArrival.FrameArrival, comings.Coming.Coming, seeing.{SeenFrames.SeenFrames, ReportedComing.ReportedComing}}
 use Rattle.{net_plan.specs.declared.network.Network.Network, run_law.specs.{declared.note.Note.Note, records.Happenings.happenings}}

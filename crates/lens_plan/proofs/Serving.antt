@@ -13,7 +13,7 @@ use Rattle.std.specs.{Prelude.{IfSome, IsSomeAnd, nat_le, slice_get}}
 use Rattle.lens_plan.proofs.{Leading.{Behind, Goes, IsRowBy, Lead, leads, relay_is}}
 use Rattle.lens_plan.proofs.Attempts.{IsInTime, best_is_earliest, count_all, count_append, count_both, count_found}
 use Rattle.lens_plan.proofs.Attempts.{count_le, own_attempt, way_one, whole}
-use Rattle.schedule_checker.proofs.Shape.{tree_of}
+use Rattle.schedule_checker.proofs.ShapeRules.{tree_of}
 use Rattle.lens_plan.proofs.Courses
 use Courses.{EntersIt, HasTrees, IsCourse, courses, end_is as system_is, one_link, one_target, reaches, sends, targets}
 use Rattle.lens_plan.specs.{messages.{Message.Message, Values.is_end}}

@@ -4,7 +4,7 @@ use Rattle.std.proofs.{lemmas.{Int.ints, List.Elements.{All-append, All-cons, Al
 use Rattle.std.proofs.Common
 use Common.{◌*◌, ◌++◌, ◌+◌, ◌-◌, ◌/◌, ◌<◌, ◌^◌, ◌∙◌, ◌∷◌, ◌≡◌, ◌≤◌, ◌⊎◌, List, Option, Some, ap, arith, inl, inr}
 use Common.{length, map, pos, refl, subst, sym, ℕ}
-use Rattle.lens_latency.proofs.Comings.{all_in_parts, comings_by_once, part_names, parts_once}
+use Rattle.lens_latency.proofs.Latencies.{all_in_parts, comings_by_once, part_names, parts_once}
 use Rattle.lens_latency.{specs.declared.comings.Coming.Coming}
 use Rattle.lens_sheet.{proofs.Loaded.loads_once}
 use Rattle.lens_sheet.specs.{Answer.{IsSheetOf, sheet_answer}, Laws.{BetaIsTold, HasRoom, RoomIsLeft}, Lines.numbers}

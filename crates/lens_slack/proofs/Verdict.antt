@@ -9,7 +9,7 @@ use Rattle.std.proofs.lemmas.List.{append_assoc}
 use Rattle.lens_slack.proofs.{Taken.bounds_decide}
 use Rattle.lens_slack.proofs.Spots.{bound_spot, bounds_met, channel_number, has_number, number_spot, one_at, one_of}
 use Rattle.lens_slack.proofs.Spots.{path_number, spot_met}
-use Rattle.schedule_checker.proofs.Shape.{refusal_is_one, same_rule, tree_of}
+use Rattle.schedule_checker.proofs.ShapeRules.{refusal_is_one, same_rule, tree_of}
 use Rattle.lens_slack.specs.{Answer.{IsFileAnswer, IsSlackOf, ending_status, found_answer}}
 use Rattle.lens_slack.specs.{Finds.{AreFound, AreOf, IsFoundIn, shorts_of, some_found}, Inequalities.IsInequality}
 use Rattle.lens_slack.specs.{Laws.{IsFirstShort, KeepsOthers, SlackAccepts, SlackRefuses}}

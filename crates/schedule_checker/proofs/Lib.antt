@@ -1,4 +1,4 @@
-pub mod Shape
+pub mod ShapeRules
 pub mod Elements
 pub mod NameLemmas
 pub mod WindowLemmas

@@ -2,5 +2,5 @@ pub mod machines_lemmas
 pub mod exact_lemmas
 pub mod devices_lemmas
 pub mod Earlier
-pub mod Driving
+pub mod Drives
 pub mod Words

@@ -12,7 +12,7 @@ use Rattle.net_plan.specs.{Bounds.{IsBeta, IsOfPath, beta_at, gamma_of}, Places.
 use Rattle.net_plan.specs.{Ranges.{IsInRange, IsLinkInRange, IsRowInRange, IsVlInRange, IsWithin}}
 use Rattle.net_plan.specs.declared.{ids.LinkId.LinkId, network.Network.Network}
 use Rattle.net_plan.specs.declared.{tables.{Device.Device, Link.Link, Role.TheVariants.Cm}}
-use Rattle.schedule_checker.proofs.{Elements.{all_of_each, each_of_all}, Shape.{same_rule, tree_of}}
+use Rattle.schedule_checker.proofs.{Elements.{all_of_each, each_of_all}, ShapeRules.{same_rule, tree_of}}
 use Rattle.schedule_checker.{specs.Timing.errors_of}
 use Rattle.schedule_tables.{proofs.Margins.some_link}
 use Rattle.schedule_tables.specs.{Delays.{ScheduleFits, delay_on, pcf_port_time}, Numbers.number_of}

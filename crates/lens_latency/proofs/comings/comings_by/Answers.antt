@@ -1,4 +1,4 @@
-use Rattle.lens_latency.{proofs.Comings.part_names, specs.{Comings.IsPartOf, declared.comings.Coming.Coming}}
+use Rattle.lens_latency.{proofs.Latencies.part_names, specs.{Comings.IsPartOf, declared.comings.Coming.Coming}}
 use Rattle.std.proofs.Common.{◌++◌, ◌∙◌, List, ap, subst, sym}
 use Rattle.lens_latency.proofs.comings.comings_by.Goals as goal
 

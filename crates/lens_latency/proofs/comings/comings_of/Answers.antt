@@ -1,4 +1,4 @@
-use Rattle.lens_latency.{proofs.Comings.{all_names, pushed_all, pushed_next}, specs.Comings.IsPartOf}
+use Rattle.lens_latency.{proofs.Latencies.{all_names, pushed_all, pushed_next}, specs.Comings.IsPartOf}
 use Rattle.std.proofs.Common.{[], ap, arith, length}
 use Rattle.lens_latency.proofs.comings.comings_of.Goals as goal
 

@@ -1,5 +1,5 @@
 use Rattle.std.specs.Prelude.{[]}
-use Rattle.lens_latency.{proofs.Comings.ArePushed, specs.Comings.IsPartOf}
+use Rattle.lens_latency.{proofs.Latencies.ArePushed, specs.Comings.IsPartOf}
 use Rattle.lens_latency.proofs.comings.comings_of.Given as goal
 
 abbrev pub invariant-vls : goal.invariant-vls

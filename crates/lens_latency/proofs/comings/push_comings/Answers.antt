@@ -1,4 +1,4 @@
-use Rattle.lens_latency.{proofs.Comings.{pushed_first, pushed_next}, specs.Comings.{IsPartAt, some_coming}}
+use Rattle.lens_latency.{proofs.Latencies.{pushed_first, pushed_next}, specs.Comings.{IsPartAt, some_coming}}
 use Rattle.std.proofs.Common.{refl}
 use Rattle.lens_latency.proofs.comings.push_comings.Goals as goal
 

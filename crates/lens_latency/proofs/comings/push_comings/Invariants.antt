@@ -1,4 +1,4 @@
-use Rattle.lens_latency.{proofs.Comings.ArePushed, specs.Comings.IsPartAt}
+use Rattle.lens_latency.{proofs.Latencies.ArePushed, specs.Comings.IsPartAt}
 use Rattle.lens_latency.proofs.comings.push_comings.Given as goal
 
 abbrev pub invariant-devices : goal.invariant-devices

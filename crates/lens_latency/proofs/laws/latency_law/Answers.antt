@@ -1,4 +1,4 @@
-use Rattle.lens_latency.proofs.{Comings.{comes_at_its_place, comes_in_its_time}, Departures.deliveries_are_seen}
+use Rattle.lens_latency.proofs.{Departures.deliveries_are_seen, Latencies.{comes_at_its_place, comes_in_its_time}}
 use Rattle.lens_latency.proofs.laws.latency_law.Goals as goal
 
 pub returns-clause-place : goal.returns-clause-place

@@ -1,4 +1,4 @@
-use Rattle.lens_latency.{proofs.Comings.{none_first, none_next, none_of_all}, specs.Trips.IsHop}
+use Rattle.lens_latency.{proofs.Latencies.{none_first, none_next, none_of_all}, specs.Trips.IsHop}
 use Rattle.std.proofs.{Common.{ap, arith, length}, lemmas.Bool.false≢true}
 use Rattle.lens_latency.proofs.trips.row_at.Goals as goal
 

@@ -1,4 +1,4 @@
-use Rattle.lens_latency.{proofs.Comings.NoneBelow, specs.Trips.IsHop}
+use Rattle.lens_latency.{proofs.Latencies.NoneBelow, specs.Trips.IsHop}
 use Rattle.lens_latency.proofs.trips.row_at.Given as goal
 
 abbrev pub invariant-rows : goal.invariant-rows

@@ -1,4 +1,4 @@
-use Rattle.lens_latency.proofs.Comings.{pushed_first, pushed_next}
+use Rattle.lens_latency.proofs.Latencies.{pushed_first, pushed_next}
 use Rattle.lens_sheet.specs.Sheet.{AreLinesOf}
 use Rattle.lens_sheet.proofs.sheet.push_vls.Goals as goal
 

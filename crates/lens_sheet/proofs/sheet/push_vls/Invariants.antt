@@ -1,4 +1,4 @@
-use Rattle.lens_latency.proofs.Comings.{ArePushed}
+use Rattle.lens_latency.proofs.Latencies.{ArePushed}
 use Rattle.lens_sheet.specs.Sheet.{AreLinesOf}
 use Rattle.lens_sheet.proofs.sheet.push_vls.Given as goal
 

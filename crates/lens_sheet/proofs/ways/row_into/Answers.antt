@@ -1,4 +1,4 @@
-use Rattle.lens_latency.proofs.Comings.{none_first, none_next, none_of_all}
+use Rattle.lens_latency.proofs.Latencies.{none_first, none_next, none_of_all}
 use Rattle.lens_sheet.specs.Going.{Enters}
 use Rattle.std.proofs.{Common.{ap, arith, length}, lemmas.Bool.false≢true}
 use Rattle.lens_sheet.proofs.ways.row_into.Goals as goal

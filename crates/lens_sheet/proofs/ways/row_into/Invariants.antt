@@ -1,4 +1,4 @@
-use Rattle.lens_latency.proofs.Comings.{NoneBelow}
+use Rattle.lens_latency.proofs.Latencies.{NoneBelow}
 use Rattle.lens_sheet.specs.Going.{Enters}
 use Rattle.lens_sheet.proofs.ways.row_into.Given as goal
 

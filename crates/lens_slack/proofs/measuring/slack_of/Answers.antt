@@ -1,6 +1,6 @@
 use Rattle.std.proofs.Common.{◌∙◌, List, subst, sym}
 use Rattle.lens_slack.proofs.Taken.{are_writable}
-use Rattle.schedule_checker.{proofs.Shape.tree_of, specs.Groups.AreGroups}
+use Rattle.schedule_checker.{proofs.ShapeRules.tree_of, specs.Groups.AreGroups}
 use Rattle.lens_slack.specs.{Finds.AreOf, Writing.IsWritable}
 use Rattle.{lens_slack.specs.declared.measuring.Slack.Slack, net_plan.specs.declared.network.Network.Network, std.specs.Prelude.{All, Err, IfOk, Ok, Result}}
 use Rattle.{lens_slack.specs.declared.step.Step.Step, tte_units.specs.declared.memory.OutOfMemory.OutOfMemory}

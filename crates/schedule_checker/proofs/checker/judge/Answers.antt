@@ -1,4 +1,4 @@
-use Rattle.schedule_checker.proofs.Shape.{tree_of}
+use Rattle.schedule_checker.proofs.ShapeRules.{tree_of}
 use Rattle.schedule_checker.proofs.checker.judge.Goals as goal
 use Rattle.std.proofs.Common.{arith}
 

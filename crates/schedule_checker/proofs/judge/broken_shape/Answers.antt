@@ -1,5 +1,5 @@
 use Rattle.std.proofs.Common.{arith, below_more, refl}
-use Rattle.schedule_checker.proofs.Shape.{kept_beyond}
+use Rattle.schedule_checker.proofs.ShapeRules.{kept_beyond}
 use Rattle.schedule_checker.proofs.judge.broken_shape.Goals as goal
 
 pub places-preserved : goal.places-preserved

@@ -1,5 +1,5 @@
 use Rattle.std.proofs.Common.{◌+◌, arith, get_or}
-use Rattle.schedule_checker.{proofs.Shape.{keeps_next, plan_number, plan_rules, tells}, specs.Judging.plan_rule}
+use Rattle.schedule_checker.{proofs.ShapeRules.{keeps_next, plan_number, plan_rules, tells}, specs.Judging.plan_rule}
 use Rattle.schedule_checker.specs.declared.parts.PlanRule.TheVariants as plans
 use Rattle.schedule_checker.proofs.judge.judge_plan.Goals as goal
 

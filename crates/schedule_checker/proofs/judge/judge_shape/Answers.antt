@@ -1,5 +1,5 @@
 use Rattle.std.proofs.Common.{◌+◌, arith}
-use Rattle.schedule_checker.proofs.Shape.{keeps_next, shape_number, shape_rules, tells}
+use Rattle.schedule_checker.proofs.ShapeRules.{keeps_next, shape_number, shape_rules, tells}
 use Rattle.schedule_checker.proofs.judge.judge_shape.Goals as goal
 
 pub rules-preserved : goal.rules-preserved

@@ -1,4 +1,4 @@
-use Rattle.schedule_checker.proofs.Shape.{refusal_is_one}
+use Rattle.schedule_checker.proofs.ShapeRules.{refusal_is_one}
 use Rattle.schedule_checker.proofs.laws.refusal_is_one.Goals as goal
 
 pub returns : goal.returns

@@ -1,6 +1,6 @@
 use Rattle.{std.proofs.lemmas.Iterator.{YieldsList-from_slice, YieldsList-from_take, cases_from_all}}
 use Rattle.std.proofs.Common.{◌≡◌, ◌≢◌, rules, tests}
-use Rattle.schedule_checker.proofs.Shape.{new_from_all}
+use Rattle.schedule_checker.proofs.ShapeRules.{new_from_all}
 use Rattle.schedule_checker.proofs.virtual_links.vl_name_is_new.Goals as goal
 
 pub returns : goal.returns

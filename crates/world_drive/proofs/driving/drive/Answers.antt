@@ -1,8 +1,8 @@
 use Rattle.world_drive.{proofs.Words.{◌++◌, ◌<◌, ◌∷◌, MayGive, [], arith, refl}, specs.exact.Records.HaveEnded}
 use Rattle.world_drive.{specs.Observing.start_by}
-use Rattle.world_drive.proofs.Driving
-use Driving.{asked_end, begun, comes_next, cut_at_end, cut_at_event, drives_all, drives_on, drives_so_far}
-use Driving.{driving_first, given_end, given_one, in_range, may_meet, puts_more, puts_then, seen_then, sees_then}
+use Rattle.world_drive.proofs.Drives
+use Drives.{asked_end, begun, comes_next, cut_at_end, cut_at_event, drives_all, drives_on, drives_so_far}
+use Drives.{driving_first, given_end, given_one, in_range, may_meet, puts_more, puts_then, seen_then, sees_then}
 use Rattle.world_drive.proofs.driving.drive.Goals.{In-Ok-false, In-Ok-true}
 use Rattle.world_drive.proofs.driving.drive.Given as given
 use Rattle.world_drive.proofs.driving.drive.Goals as goal

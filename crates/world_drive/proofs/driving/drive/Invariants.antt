@@ -1,4 +1,4 @@
-use Rattle.world_drive.proofs.Driving.{IsDriving}
+use Rattle.world_drive.proofs.Drives.{IsDriving}
 use Rattle.world_drive.proofs.driving.drive.Given as goal
 
 abbrev pub invariant-events : goal.invariant-events

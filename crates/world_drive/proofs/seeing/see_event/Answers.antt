@@ -1,4 +1,4 @@
-use Rattle.world_drive.proofs.{Driving.{puts_memory, puts_on, puts_so_far}}
+use Rattle.world_drive.proofs.Drives.{puts_memory, puts_on, puts_so_far}
 use Rattle.world_drive.proofs.{Words.{◌++◌, ◌∷◌, CutsAtEvent, None, SeesEvent, [], told_by}}
 use Rattle.world_drive.proofs.Earlier
 use Earlier.{asked_for, befell, come_after, cut_at, cut_before, cut_event, match_on, may_befall, on_ok, same_number}

@@ -1,7 +1,7 @@
 use Rattle.world_drive.proofs.exact_lemmas.Given.{comes_before}
 use Rattle.world_drive.{specs.Seeing.SeesInstant}
 use Rattle.world_drive.proofs.{Earlier.{amount_now, complete_past, given_in, instant_over, match_on, on_ok}}
-use Rattle.world_drive.proofs.Driving.{cut_here, cut_one, puts_cut, puts_more, puts_none, puts_on, seen_none, seen_one}
+use Rattle.world_drive.proofs.Drives.{cut_here, cut_one, puts_cut, puts_more, puts_none, puts_on, seen_none, seen_one}
 use Rattle.world_drive.proofs.Words.{◌++◌, ◌+◌, ◌∙◌, ◌∷◌, CutsBefore, IsPast, None, Some, [], amount, arith, inr, ints, refl, told_by}
 use Rattle.world_drive.proofs.seeing.see_instant.Goals as goal
 

@@ -1,4 +1,4 @@
-use Rattle.world_drive.proofs.{Driving.{HasSeenMore, PutsSoFar}}
+use Rattle.world_drive.proofs.Drives.{HasSeenMore, PutsSoFar}
 use Rattle.world_drive.proofs.{Words.{◌+◌, ◌≡◌, IsUnderwayAt, List, NoteValue, Some, Start, amount, left_of, told_by}}
 use Rattle.net_plan.specs.declared.event.Event.{Event as EventValue}
 use Rattle.world_drive.proofs.seeing.see_instant.Given as goal

@@ -1,8 +1,8 @@
 use Rattle.world_drive.{specs.Observing.instant_of}
 use Rattle.world_drive.proofs.{exact_lemmas.Worlds.below_amount}
-use Rattle.world_drive.proofs.Driving
-use Driving.{cut_here, cut_in_instant, cut_one, puts_cut, puts_more, puts_none, puts_well, seen_instant, seen_none}
-use Driving.{seen_one, seen_until}
+use Rattle.world_drive.proofs.Drives
+use Drives.{cut_here, cut_in_instant, cut_one, puts_cut, puts_more, puts_none, puts_well, seen_instant, seen_none}
+use Drives.{seen_one, seen_until}
 use Rattle.world_drive.proofs.Earlier
 use Earlier.{asked_limit, asked_still, end_stays, fewer, given_before, past_near, past_order, room_now, underway_now}
 use Earlier.{way_reached}

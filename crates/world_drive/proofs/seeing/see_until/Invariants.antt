@@ -1,5 +1,5 @@
 use Rattle.net_plan.specs.declared.event.Event.{Event as EventValue}
-use Rattle.world_drive.proofs.{Driving.{HasSeenMore, PutsSoFar}, Earlier.IsNearing}
+use Rattle.world_drive.proofs.{Drives.{HasSeenMore, PutsSoFar}, Earlier.IsNearing}
 use Rattle.world_drive.proofs.Words.{◌≡◌, IsAsked, List, None, NoteValue, StandsExact, Start, amount, false, left_of}
 use Rattle.world_drive.proofs.Words.{told_by}
 use Rattle.world_drive.proofs.seeing.see_until.Given as goal

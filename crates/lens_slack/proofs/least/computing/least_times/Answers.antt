@@ -1,6 +1,6 @@
 use Rattle.std.proofs.Common.{◌*◌, ◌+◌, ◌-◌, ◌∙◌, ◌≡◌, ap, arith, max, refl, ℕ}
 use Rattle.lens_slack.{proofs.least_lemmas.Leasts.are_least, specs.least.Parts.drift_over}
-use Rattle.schedule_checker.{proofs.Shape.tree_of, specs.Timing.errors_of}
+use Rattle.schedule_checker.{proofs.ShapeRules.tree_of, specs.Timing.errors_of}
 use Rattle.lens_slack.proofs.least.computing.least_times.Goals as goal
 
 left_of_path : (dmax path steady drift : ℕ) → dmax ≡ steady + path + drift → dmax - path ≡ steady + drift

@@ -1,7 +1,7 @@
 use Rattle.{net_plan.specs.{Places.is_master, Rules.masters}, std.{proofs.lemmas.List.Sums.length-filter, specs.List.count_by}}
 use Rattle.{net_plan.specs.declared.tables.Device.Device, std.proofs.{Common.{◌∙◌, Bool, is_some, rules, tests}, lemmas.Iterator.YieldsList-from_slice}}
 use Rattle.std.proofs.lemmas.Iterator.Consumers.{YieldsList-from_filter, count_from_yields_List}
-use Rattle.schedule_checker.proofs.Shape.{decides_at_most}
+use Rattle.schedule_checker.proofs.ShapeRules.{decides_at_most}
 use Rattle.schedule_checker.proofs.shape.masters.enough_begin_on.Goals as goal
 
 pub returns : goal.returns

@@ -1,5 +1,5 @@
 use Rattle.net_plan.specs.Rules.{HasOffSwitch}
-use Rattle.schedule_checker.proofs.Shape.{one_channel}
+use Rattle.schedule_checker.proofs.ShapeRules.{one_channel}
 use Rattle.schedule_checker.proofs.shape.masters.one_channel_begins_off.Goals as goal
 
 pub returns-else-not-has_off_switch : goal.returns-else-not-has_off_switch

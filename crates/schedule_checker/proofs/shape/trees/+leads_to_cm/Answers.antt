@@ -1,6 +1,6 @@
 use Rattle.std.proofs.{Common.{◌∙◌, get_or, sym}, lemmas.{Bool.false≢true, Option.slice_get-get_or}}
 use Rattle.net_plan.specs.{Places.{IsCmOf}}
-use Rattle.schedule_checker.proofs.Shape.{leads_by, leads_nowhere, leads_on, uplink_within}
+use Rattle.schedule_checker.proofs.ShapeRules.{leads_by, leads_nowhere, leads_on, uplink_within}
 use Rattle.schedule_checker.proofs.shape.trees.+leads_to_cm.Goals as goal
 
 pub returns-in-Some : goal.returns-in-Some

@@ -1,7 +1,7 @@
 use Rattle.std.proofs.{Common.{◌≡◌, Some, refl, rules, tests}, lemmas.{Bool.Decides.same_from_decides, Iterator.YieldsList-from_slice}}
 use Rattle.std.proofs.lemmas.Iterator.Consumers.{YieldsList-from_filter, count_from_yields_List}
 use Rattle.net_plan.specs.declared.{tables.{Role.TheVariants.Cm}}
-use Rattle.schedule_checker.proofs.{Elements.decides_one, Shape.{cm_test, decides_cm}}
+use Rattle.schedule_checker.proofs.{Elements.decides_one, ShapeRules.{cm_test, decides_cm}}
 use Rattle.schedule_checker.proofs.shape.trees.has_one_cm_of.Goals as goal
 
 pub returns : goal.returns

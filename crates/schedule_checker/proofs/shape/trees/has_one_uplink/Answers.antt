@@ -1,6 +1,6 @@
 use Rattle.net_plan.specs.{Places.IsSwitchOf, declared.{ids.LinkId.LinkId}}
 use Rattle.std.proofs.Common.{◌≡◌, refl, rules, tests}
-use Rattle.schedule_checker.proofs.{Elements.decides_one, Shape.{decides_uplink, uplink_test}}
+use Rattle.schedule_checker.proofs.{Elements.decides_one, ShapeRules.{decides_uplink, uplink_test}}
 use Rattle.std.proofs.lemmas.{Bool.Decides.same_from_decides, Iterator.{Consumers.{YieldsList-from_filter, count_from_yields_List}, YieldsList-from_slice}}
 use Rattle.schedule_checker.proofs.shape.trees.has_one_uplink.Goals as goal
 

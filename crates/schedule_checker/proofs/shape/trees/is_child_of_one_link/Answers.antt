@@ -1,6 +1,6 @@
 use Rattle.net_plan.specs.declared.{ids.LinkId.LinkId}
 use Rattle.std.proofs.Common.{◌≡◌, refl, rules, tests}
-use Rattle.schedule_checker.proofs.{Elements.decides_one, Shape.{child_test, decides_child}}
+use Rattle.schedule_checker.proofs.{Elements.decides_one, ShapeRules.{child_test, decides_child}}
 use Rattle.std.proofs.lemmas.{Bool.Decides.same_from_decides, Iterator.{Consumers.{YieldsList-from_filter, count_from_yields_List}, YieldsList-from_slice}}
 use Rattle.schedule_checker.proofs.shape.trees.is_child_of_one_link.Goals as goal
 

@@ -1,4 +1,4 @@
-use Rattle.schedule_checker.proofs.Shape.{connected, connected_on}
+use Rattle.schedule_checker.proofs.ShapeRules.{connected, connected_on}
 use Rattle.schedule_checker.proofs.shape.trees.is_connected.Goals as goal
 use Rattle.std.proofs.Common.{arith}
 

@@ -1,5 +1,5 @@
 use Rattle.tte_observers.proofs.stamps_lemmas.LineStamps.{devices_fail, one_more_device}
-use Rattle.world_drive.proofs.Driving.{puts_cut, puts_more, puts_none, puts_well}
+use Rattle.world_drive.proofs.Drives.{puts_cut, puts_more, puts_none, puts_well}
 use Rattle.tte_observers.proofs.stamps_lemmas.Words.{◌∙◌, ◌≡◌, PutsLines, PutsLines-none, ap, arith, length, line_at, lines_by_first, refl, shown_as, subst}
 use Rattle.tte_observers.proofs.stamps_lemmas.Words.{told_by}
 use Rattle.tte_observers.proofs.stamps.stamper.Stamper.put_stamps.Goals as goal

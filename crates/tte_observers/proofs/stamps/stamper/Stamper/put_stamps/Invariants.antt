@@ -1,6 +1,6 @@
 use Rattle.net_plan.specs.declared.event.Event.{Event as EventValue}
 use Rattle.run_law.specs.declared.note.Note.{Note as NoteValue}
-use Rattle.world_drive.proofs.Driving.{PutsSoFar}
+use Rattle.world_drive.proofs.Drives.{PutsSoFar}
 use Rattle.tte_observers.proofs.stamps_lemmas.Words.{◌≡◌, IsAtLine, List, PutsLines, line_at, lines_by_first, shown_as, told_by}
 use Rattle.tte_observers.proofs.stamps.stamper.Stamper.put_stamps.Given as goal
 
