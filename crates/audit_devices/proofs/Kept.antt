@@ -37,8 +37,6 @@ use Rattle.tte_units.proofs.general_lemmas.{Lists.{after_one, filter_off, filter
 use Rattle.tte_units.proofs.general_lemmas.{Naturals.{eqb_same, goes_on}}
 use Rattle.run_law.specs.declared.note.NoteBody.TheVariants as notes
 
--- ---- what the records show of a device, with one more record, and what is read of it
-
 -- ---- more correction points have come where a clock shows more
 
 -- a number that is not negative
@@ -514,8 +512,6 @@ module _ (s : Scenario) (hs : List Happening) (device : DeviceId) (shown : Shown
       neither true b e = absurd cc
       neither false b e = (refl, e)
 
--- ---- what is kept of a device goes on by one more record, and lasts while the same is shown
-
 -- ---- lists whose elements that pass a test are the first
 
 pub in_index : {X : Type 0} (xs : List X) (i : ℕ) (d : X) → i < length xs → IsIn (get_or xs i d) xs
@@ -580,9 +576,7 @@ last_kept {X} p (x ∷ xs) o q e from passes last = elim (either (p x)) [
       (last_kept p xs (Some x) q e (λ same. absurd cc) passes last)
 ]
 
--- ---- what is kept goes on by one more record
-
--- ---- the test of places
+-- ---- what is kept goes on by one more record: the test of places
 
 pub test_chain : (p q r : List ℕ) → is_before p q ≡ true → is_before q r ≡ true → is_before p r ≡ true
 test_chain p q r a b = before_is p r (chain p q r (is_there p q a) (is_there q r b))

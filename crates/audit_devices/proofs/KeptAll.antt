@@ -22,9 +22,7 @@ use Rattle.run_law.specs.timed.{Receptions.{is_taken_before, last_taken, taken_c
 use Rattle.tte_units.proofs.general_lemmas.{Bools.{no_more, none_shorter}, Lists.{set_other, set_same}}
 use Rattle.run_law.specs.declared.note.NoteBody.TheVariants as notes
 
--- ---- what is kept of all devices goes on by one more record
-
--- ---- what holds where a call was not cut short
+-- ---- what is kept of all devices goes on by one more record: what holds where a call was not cut short
 
 pub on_ok : {A E : Type 0} (r : Result A E) (P : Type 0) → (is_ok r ≡ true → P) → OnOk r P
 on_ok (Ok x) P holds = holds refl
@@ -102,9 +100,7 @@ fresh_more {network} xs {x} old new d history there =
     which (y ∷ ys) zero e = inl e
     which (y ∷ ys) (suc i) e = elim (which ys i e) [ inl f ↦ inl f | inr both ↦ inr (omega (arith, both.0), both.1) ]
 
--- ---- what is kept of the frames that were taken
-
--- ---- the last one
+-- ---- what is kept of the frames that were taken: the last one
 
 -- of a record nothing is made and it does not pass, or what is made of it passes where it does
 abbrev Fits : (Happening → Option Taking) → (Happening → Bool) → (Taking → Bool) → (Option Happening → Option Taking → Type 0) → Happening → Type 0

@@ -96,8 +96,6 @@ module _ (s : Scenario) (hs : List Happening) (device : DeviceId) (t : ℕ) (lin
         | inr r ↦ elim r [ inl p ↦ (arrivals.Passes y.frame y.way, p) | inr b ↦ (arrivals.PassesAndWaits y.frame y.way y.point, b) ]
       ]
 
--- ---- what a device has heard by the records before, and to which devices a frame tells the time
-
 -- ---- records that stand before a hearing
 
 rank_before : (u r t q : ℕ) (ks ls : List ℕ) → u ≡ t → IsBefore (u ∷ r ∷ ks) (t ∷ q ∷ ls) → r ≤ q
@@ -198,8 +196,6 @@ unchanged_before s hs device t cycle founded none next =
           no_point (state_before s hs device t) (standing_at s hs device t).number cycle
           (subst (λ n. state_before s hs device n ≡ Integrating) at state) next);
     }
-
--- ---- what is known of a sweep of records, which of them take frames, and what they lack first
 
 -- ---- the first that the records of a report lack
 
@@ -432,8 +428,6 @@ caused_right s hs time body a = tt
 pub takes_rightly : {s : Scenario} {hs : List Happening} {h : Happening} → IsDue s hs h
     → TakesRightly s.network h.note.body
 takes_rightly {s} {hs} {h} due = caused_right s hs h.note.time h.note.body due.cause
-
--- ---- records that are sound, and what is known of them, go on by one more
 
 -- ---- records that are sound, and one more
 

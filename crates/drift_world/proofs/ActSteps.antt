@@ -162,9 +162,7 @@ pub order_put : {w : Happening} {old new : List Happening} → InOrder old → I
 order_put {w} order put =
     subst InOrder (sym put.is) (order_with w put.front put.back (subst InOrder put.was order) put.before put.none)
 
--- ---- the records of an act are those of the law, and are put in
-
--- ---- two records are put in, one after the other
+-- ---- the records of an act are those of the law, and are put in: two records are put in, one after the other
 
 module _ (other network : Network) (now : ℕ) (hs : List Happening) where
   abbrev all_at : List Settled → List Happening

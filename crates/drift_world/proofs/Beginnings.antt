@@ -44,9 +44,7 @@ pub none_under_way : (network : Network) → AreUnderWay network []
 unfolding IsDistinct
 none_under_way network = record { kinds = λ e there. absurd there; placed = λ e there. absurd there; apart = tt }
 
--- ---- an event is applied to a state
-
--- ---- the ways
+-- ---- an event is applied to a state: the ways
 
 last_more : {V : Type 0} (d : Option V) (zs : List V) (o : Option V) (init : V)
     → unwrap_or (last_or d (zs ++ cons_option o [])) init ≡ unwrap_or o (unwrap_or (last_or d zs) init)

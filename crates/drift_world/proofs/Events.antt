@@ -169,9 +169,7 @@ module _ {C M : Type 0} {reading : C → ℕ → ℕ} {stands : Meaning M} (netw
   suits (events.Send link octets) what all of_network = sends_end network past event link octets all within what of_network
   suits other what all of_network = tt
 
--- ---- a device is turned on at the present instant where such an event befell and is pending
-
--- ---- records at a place
+-- ---- a device is turned on at the present instant where such an event befell and is pending: records at a place
 
 rises : (s : Scenario) (hs : List Happening) → IsFounded place_of (IsDue s) hs → (front xs : List Happening) → hs ≡ front ++ xs → Rises xs
 rises s hs founded front [] is = tt
@@ -324,9 +322,7 @@ module _ {C M : Type 0} (reading : C → ℕ → ℕ) (stands : Meaning M) (s : 
   pub turned_on_is : is_turned_on_at s device world.now ≡ list_any (λ b. turns_on device b.what) world.befell
   turned_on_is = same_tests _ _ befell_so fell
 
--- ---- an event of a later time befalls a world, where no record before it is left
-
--- ---- times
+-- ---- an event of a later time befalls a world, where no record before it is left: times
 
 at_most : (time : ℤ) (n : ℕ) → (pos n <ℤ time → ⊥) → time ≤ℤ pos n
 at_most (pos m) n not = grind (arith, ints)

@@ -419,8 +419,6 @@ module _ {C M : Type 0} {last_step : C → ℕ} {reading : C → ℕ → ℕ} (s
         (shown_earlier state.time state.shown device.0 p shown b);
   }
 
--- ---- what comes first of all that a state has under way
-
 -- ---- places of one time, or of a later one
 
 -- what is no earlier, and at the time not before by its rank, is not before

@@ -18,9 +18,7 @@ use Rattle.world_state.specs.{Frames.IsOneMore}
 use Rattle.world_state.specs.{Giving.{MayBeGiven, awaited_by, control_on_wire, place_on_wire, timed_on_wire}}
 use Rattle.world_state.specs.{declared.queue.Entry.Entry}
 
--- ---- once a record is given the state is sound again
-
--- ---- what is put to ports
+-- ---- once a record is given the state is sound again: what is put to ports
 
 -- what is there now was there before, or is at a port by the record of this number
 pub from_ports : {C M : Type 0} {reading : C → ℕ → ℕ} {network : Network} {old new : State C M} {body : NoteBody}

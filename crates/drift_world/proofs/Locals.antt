@@ -49,8 +49,6 @@ pub departure_is : (s : Scenario) (now : ℕ) (e : AtPort) {network : Network} {
     → Some (departed network reading cut e) ≡ departure_in s now e
 departure_is s now e same sound read is = grind (arith, is_cut, way_from)
 
--- ---- the local clocks of devices, as a world shows them, are those of the records
-
 -- ---- the values that local clocks show, where the machines' adjustments are small
 
 -- the machine of a sound device has a small adjustment
@@ -115,9 +113,7 @@ now_reads {reading} {s} {device} {t} old lt at shows =
     let clock = some_same _ _ _ own_clock.1 shows.clock_is in
     rw (sym clock) (sym (own_clock.2 t (omega arith)))
 
--- ---- the local clock of a device, as a world shows it, is that of the records
-
--- ---- what has been up to a time
+-- ---- the local clock of a device, as a world shows it, is that of the records: what has been up to a time
 
 -- all events have befallen up to then
 all_befallen : (t : ℕ) (events : List Event) → ((e : Event) → IsIn e events → amount e.time ≤ t)

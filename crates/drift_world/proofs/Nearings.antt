@@ -27,11 +27,7 @@ use Rattle.world_state.specs.{Befalling.AreSettledBy}
 use Rattle.world_state.specs.declared.{hearing.Before.{Before, TheVariants.{Due, Same}}, queue.Entry.Entry}
 use Rattle.world_state.specs.declared.{timers.Timer.Timer}
 
--- ---- a world comes nearer to a time, turn by turn, as devices act and timers are set
-
--- ---- a world comes nearer to a time, turn by turn
-
--- ---- what is due at the times of timers
+-- ---- a world comes nearer to a time, turn by turn: what is due at the times of timers
 
 -- what one adds
 abbrev work_of : ℕ → Timer → ℕ
@@ -482,9 +478,7 @@ module _ {C M : Type 0} {reading : C → ℕ → ℕ} (stands : Meaning M) (netw
       (subst (λ k. IsTimerBy reading k due old.time was) clock_is
       (record { by = by; part = timed.part; rank_is = refl })))
 
--- ---- what a turn says, and how near it comes
-
--- ---- what a turn says that works a source off
+-- ---- what a turn says, and how near it comes: what a turn says that works a source off
 
 -- what it gives after a step, it gives after the state before
 gives_then : {E C M : Type 0} (network : Network) (old mid new : State C M) (note : Note) (result : Result Turn E) → mid.time ≡ old.time → mid.given ≡ old.given

@@ -47,9 +47,7 @@ use Rattle.run_law.specs.declared.note.NoteBody.TheVariants as kinds
 use Rattle.run_law.specs.declared.steps.Arrival.TheVariants as arrivals
 use Rattle.world_state.specs.declared.contents.Signal.TheVariants as signals
 
--- ---- what is fit stays so where an event befalls
-
--- ---- the ways
+-- ---- what is fit stays so where an event befalls: the ways
 
 set_short : (b : Bool) (n was : ℕ) → n < 2 ^ 62 → was < 2 ^ 62 → unwrap_or (if b then Some n else None) was < 2 ^ 62
 set_short true n was short old = short
@@ -114,8 +112,6 @@ module _ {number : ℕ} (one : Waits) (old new : List Waits) (more : IsPermutati
 pub below_more : (n : ℕ) (q : Waits → Bool) (xs : List Waits) → All (λ w. w.cause < n) xs → All (λ w. w.cause < n + 1) (filter q xs)
 below_more n q xs all k d lt =
     let here = All-filter q (λ w. w.cause < n) xs all k d lt in omega arith
-
--- ---- what is on a wire or settled: the records that put it there, and how it arrives and stays fit
 
 -- ---- what is settled stays fit to be given
 
@@ -382,9 +378,7 @@ module _ (s : Scenario) (hs : List Happening) (founded : IsFounded place_of (IsD
           subst IsPlain so.1 so.0
       by (PutsThis.leaving f of same) = absurd cc
 
--- ---- what is on a wire arrives: its device may hear it, and the world stands again
-
--- ---- the record of what becomes of it
+-- ---- what is on a wire arrives: its device may hear it, and the world stands again: the record of what becomes of it
 
 -- the octets of what is on a wire
 given_same : (b : Bool) (r : Result Pcf PcfRefusal) (given octets : List ℕ) → (if b then control r else timed given) ≡ timed octets → given ≡ octets
@@ -597,9 +591,7 @@ module _ {C M : Type 0} (reading : C → ℕ → ℕ) (stands : Meaning (Kept M)
               (ports_stay network state.under_way.entries rest taken under took refl) turn),
         )
 
--- ---- what a record of the present instant put on a wire is there still
-
--- ---- what is found
+-- ---- what a record of the present instant put on a wire is there still: what is found
 
 -- what has the rank of a wire is on one
 wired : (content : Content) → rank_of content ≡ 2 → (signal : Sent) × (content ≡ Wire signal)

@@ -150,9 +150,7 @@ module _ (s : Scenario) {now : ℕ} (x : Happening) {number : ℕ} (giving : Giv
             (none_awaited s x number (map waiting_as old) (λ w for sound. a.apart w.device w.link for.from for.clock for.arrived))
       ]
 
--- ---- what switches hold once a record is given, as its law asks for it
-
--- ---- lists that are mapped and filtered
+-- ---- what switches hold once a record is given, as its law asks for it: lists that are mapped and filtered
 
 record IsPassed {X : Type 0} (q : X → Bool) (xs : List X) (x : X) : Type 0 where
   was : IsIn x xs
@@ -248,9 +246,7 @@ module _ (network : Network) (x : Happening) (number : ℕ) (held new : List Hol
       (λ other of_vl. ap (is_accepted other of_vl) is) (has_some d l c v k octets has) own stored
   taken_by other octets is has own same = same_taken same (λ device vl. ap (is_accepted device vl) is)
 
--- ---- a device that began off, and that no event turned on, is off
-
--- ---- what hears nothing joins by nothing
+-- ---- a device that began off, and that no event turned on, is off: what hears nothing joins by nothing
 
 -- of a frame of a device that is off nothing comes that tells it the time
 off_hears : (plan : SyncPlan) (precision : ℤ) (adjustment point : ℤ) (cycle : ℕ) (members : Members) (state : State) → state ≡ Off

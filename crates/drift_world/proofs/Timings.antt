@@ -28,9 +28,7 @@ use Rattle.world_state.specs.{Applying.{IsElsewhere, device_in}, Timing.{IsLeast
 use Rattle.net_plan.specs.declared.event.What.TheVariants as events
 use Rattle.run_law.specs.declared.steps.Act.TheVariants as acts
 
--- ---- what a device does first of all that is due, and of which part it is
-
--- ---- parts by kinds
+-- ---- what a device does first of all that is due, and of which part it is: parts by kinds
 
 -- no part is earlier than emissions, or later than what comes last
 pub part_least : (part : Part) → 4 ≤ part_rank part
@@ -178,8 +176,6 @@ left_no_sooner {network} {device} {node} {moment} act {new} range rules zero may
     f.due))) in
     rw (sym first.of_part) (rw (sym f.of_kind) (rw
     (sym (rank_by act)) at (kind_grows (kind_by act) (kind_of f.task) le)))
-
--- ---- the timers of devices are right and stay so, and an event leaves all devices but one as they were
 
 -- ---- timers that are right, and stay so
 
@@ -440,9 +436,7 @@ module _ {C M : Type 0} {reading : C → ℕ → ℕ} {stands : Meaning M} {netw
             ];
       }
 
--- ---- an event leaves all devices as they were but one
-
--- ---- what an event does to another device
+-- ---- an event leaves all devices as they were but one: what an event does to another device
 
 other_clock : {C : Type 0} (after_step : C → ℕ → ℤ → C) (device : DeviceId) (time : Units) (what : What) (clock : C) → IsElsewhere what device
     → clock_after after_step device time what clock ≡ clock

@@ -378,9 +378,7 @@ module _ {s : Scenario} {now : ℕ} (ups downs : List WayState) (ways : AreWays 
   puts (Event line what) octets is has framed own put = absurd has
   puts other octets is has framed own put = none_put (none_launched (ap (launched s x (time_of x)) is)) put
 
--- ---- what a record that is given needs, and what it changes
-
--- ---- what a record changes, and where it stands
+-- ---- what a record that is given needs, and what it changes: what a record changes, and where it stands
 
 -- what arrived may wait at its device
 pub arrived_device : (place : DueAt) (is : Arrival) (signal : SignalSent) → rank (arrived place is signal).body ≡ 2
@@ -655,9 +653,7 @@ ripened {reading} stands {network} state {w} new {machine} after result t apart 
           (is_set state.machines.items w.device.0 after many) (without w state.waiting.items new t apart state.time));
     }
 
--- ---- a source is worked off: its records are put in, or the first of them is given
-
--- ---- the records of a turn
+-- ---- a source is worked off: its records are put in, or the first of them is given: the records of a turn
 
 -- a record that is the only one
 pub one_turn : {C M : Type 0} {reading : C → ℕ → ℕ} (stands : Meaning M)

@@ -24,9 +24,7 @@ use Rattle.run_law.{specs.records.Ranks.key}
 use Rattle.world_law.{specs.world.World.is_at_source}
 use Rattle.run_law.specs.declared.note.NoteBody.TheVariants as kinds
 
--- ---- records that stand where their sources do
-
--- ---- the ranks of sources
+-- ---- records that stand where their sources do: the ranks of sources
 
 -- no source is of rank 1, or of that of changes of state, or of those of what becomes of frames
 pub record IsSourceRank (r : ℕ) : Type 0 where
@@ -108,9 +106,7 @@ all_above stands {network} state low old first =
     all_of (λ z. low < rank z.body) state.settled.items
     (each_above network state.time low state.settled.items (settled_in_order old) first)
 
--- ---- a turn of a world: what comes first, and what the steps keep
-
--- ---- a source and what is settled
+-- ---- a turn of a world: what comes first, and what the steps keep: a source and what is settled
 
 -- the numbers of what is under way at this time and of this rank
 pub ranked_at : {now rank : ℕ} (place : DueAt) → place.at ≡ now → place.rank ≡ rank

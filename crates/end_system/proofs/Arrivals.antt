@@ -34,9 +34,7 @@ use Rattle.tte_units.proofs.general_lemmas.{Bools.takes_by, Integers.whole, Natu
 use Rattle.tte_units.proofs.general_lemmas.{Options.one as one_some}
 use Rattle.schedule_tables.specs.declared.rule.Rule.TheVariants as rules
 
--- ---- control frames that arrive at an end system
-
--- ---- a device that takes no part
+-- ---- control frames that arrive at an end system: a device that takes no part
 
 module _ (network : Network) (device : DeviceId) where
   off_signal : (node : Node) (moment : Moment) (link : LinkId) (signal : Signal) → is_off node.standing.state ≡ true

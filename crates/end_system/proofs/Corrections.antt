@@ -335,9 +335,7 @@ corrected_back {network} {s} {heard} by is plan late h verdict =
 none_qualifies : (s : Standing) (heard : Summary) (by : Units) → heard.best_a ≡ None → heard.best_b ≡ None → HasVerdict s heard (Corrected by) → ⊥
 none_qualifies s heard by a b verdict = grind arith
 
--- ---- a correction point of an end system
-
--- ---- what the correction may rely on
+-- ---- a correction point of an end system: what the correction may rely on
 
 -- where a synchronisation stands whose correction point of this cycle has come
 pub record IsAtPoint (network : Network) (s : Standing) (heard : Summary) (reading : ℤ) (cycle : ℕ) : Type 0 where

@@ -86,9 +86,7 @@ stood_before {other} {network} {before} {node} {e} was now =
       agenda = now.agenda;
     }
 
--- ---- frames that are permanent at an end system
-
--- ---- the range of points
+-- ---- frames that are permanent at an end system: the range of points
 
 low_point : (r q p : ℤ) (n : ℕ) → p ≡ pos n → n ≤ 2 ^ 40 → pos 0 ≤ℤ r → r <ℤ (q +ℤ p) → neg_ℤ (pos (2 ^ 40)) ≤ℤ q
 low_point r q p n e most begun h = omega (arith, ints)

@@ -122,9 +122,7 @@ pub slot_at : {network : Network} {device : DeviceId} {rows : OwnRows} (place : 
 slot_at {network} {device} {rows} place slot are at =
     in_all (IsSlotOf network (SentBy device)) rows.slots.items place slot are.slots.sound at
 
--- ---- the dispatch that comes next, among the slots of a device
-
--- ---- slots, and rows that leave in a cycle
+-- ---- the dispatch that comes next, among the slots of a device: slots, and rows that leave in a cycle
 
 -- the slot of a row that leaves in the cycle
 abbrev slot_of : (network : Network) (device : DeviceId) (row : RowId) (cycle : ℕ) → Leaves network device row cycle → Slot

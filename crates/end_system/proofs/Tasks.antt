@@ -19,8 +19,6 @@ use Rattle.tte_units.proofs.general_lemmas.{Bools.not_both, Integers.{never_both
 use Rattle.tte_units.proofs.general_lemmas.{Naturals.{cases_of, none_less}}
 use Rattle.end_system.specs.declared.agenda.Due.TheVariants as dues
 
--- ---- what an end system has to do, and what of it comes first
-
 -- ---- what is pending is ahead
 
 abbrev pub IsAheadTask : Network → DeviceId → Node → Task → Type 0

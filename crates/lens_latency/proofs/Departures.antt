@@ -229,9 +229,7 @@ deliveries_are_seen s mark ns until cs c channel h link cause cycle up are has i
     seen_within c channel link cause cycle is departed
     (comes_in_its_time s mark ns until cs c cycle channel first h up are has le goes)
 
--- ---- the departures that the causes of records go back to
-
--- ---- the test of a departure
+-- ---- the departures that the causes of records go back to: the test of a departure
 
 tells_departure : (body : NoteBody) → is_departure body ≡ true → IsDeparture body
 tells_departure (notes.TtSent device link cause vl cycle) e = eqb-true cause 0 e

@@ -33,8 +33,6 @@ use Rattle.tte_forms.specs.Answering.{Answer}
 use Rattle.tte_units.{proofs.general_lemmas.Options.{closed, one, one as same_some, opened}}
 use Rattle.tte_units.{specs.declared.frames.channel.Channel.{Channel, TheVariants.{A, B}}}
 
--- ---- the comings of a network, first by first and part by part, and that it has one answer of them
-
 -- ---- the first of a network's rows for which something holds
 
 -- it holds for no row below this number
@@ -250,8 +248,6 @@ module _ (network : Network) where
   -- so there is one answer
   pub latency_one : (a b : Answer) → IsLatencyOf network a → IsLatencyOf network b → a ≡ b
   latency_one a b p q = p.is ∙ ap (latency_answer network) (comings_once p.comings q.comings p.are q.are) ∙ sym q.is
-
--- ---- the lines of `latency` hold in each run, by the rows of virtual links
 
 -- ---- the rows of a virtual link at its sender and at its receivers
 

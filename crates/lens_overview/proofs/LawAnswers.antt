@@ -74,9 +74,7 @@ picture_same network grid last told all flows fs news end columns same =
     ∙ ap (λ x. picture_by network (grid_of (last_cycle x)) (last_cycle x) x flows) news
     ∙ ap (λ x. picture_by network (grid_of (last_cycle all)) (last_cycle all) all x) same
 
--- ---- how far apart clocks are, and whose they are
-
--- ---- whose clocks the ends are
+-- ---- how far apart clocks are, and whose they are: whose clocks the ends are
 
 either : (b : Bool) (x y : ℤ) → ((if b then x else y) ≡ x) ⊎ ((if b then x else y) ≡ y)
 either true x y = inl refl

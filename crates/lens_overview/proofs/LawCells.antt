@@ -208,9 +208,7 @@ violet_is_by_b words network octets ns end a rules r answer flow column =
       λ h. same ∙ to_violet network ns flow column h,
     )
 
--- ---- records that leave the cells of a row as they are
-
--- ---- lists without what makes no difference
+-- ---- records that leave the cells of a row as they are: lists without what makes no difference
 
 pub fold_skips : {A B : Type 0} (take : B → A → B) (p : A → Bool) → ((b : B) (a : A) → p a ≡ false → take b a ≡ b) → (b : B) (xs : List A)
     → fold take b (filter p xs) ≡ fold take b xs

@@ -38,9 +38,7 @@ use Rattle.net_plan.specs.declared.tables.Way.TheVariants as ways
 use Rattle.run_law.specs.declared.judgement.Reason.TheVariants as reasons
 use Rattle.run_law.specs.declared.note.NoteBody.TheVariants as notes
 
--- ---- by which channels the copies of a frame come, and its shade
-
--- ---- what a shade says of a channel
+-- ---- by which channels the copies of a frame come, and its shade: what a shade says of a channel
 
 -- a copy came by the channel
 abbrev pub has : Channel → Shade → Bool
@@ -547,9 +545,7 @@ module _ (network : Network) (s : Scenario) (hs : List Happening) where
     come_delivered ns channel (inr r) =
         subst (λ ms. IsDeliveredIn network ms flow cycle) (sym r.there) (delivered_longer r.before (r.note ∷ r.rest) r.delivered).0
 
--- ---- the rows of flows
-
--- ---- rows of other things
+-- ---- the rows of flows: rows of other things
 
 -- none of the rows is one of a virtual link's frames
 abbrev pub AreOther : List Row → Type 0

@@ -185,9 +185,7 @@ none_red network title news flows line rest i e =
     none_missing news drawn.flow.vl drawn.flow.device stroke.first
     (stroke.each stroke.first (omega arith) stroke.some ∙ drawn.shade ∙ red)
 
--- ---- the rows of devices and ways
-
--- ---- cells that are filled from one on
+-- ---- the rows of devices and ways: cells that are filled from one on
 
 module _ (cells : List Shade) (from : ℕ) (shade : Shade) where
   full : length (filled_from cells from shade) ≡ length cells

@@ -39,9 +39,7 @@ use Rattle.net_plan.specs.declared.event.What.TheVariants as events
 use Rattle.run_law.specs.declared.judgement.Reason.TheVariants as reasons
 use Rattle.run_law.specs.declared.note.NoteBody.TheVariants as notes
 
--- ---- what records make of the shade of a flow's frame
-
--- ---- shades of frames
+-- ---- what records make of the shade of a flow's frame: shades of frames
 
 -- the shade is one of a frame that came, and none says that it is missing
 abbrev HasCome : Shade → Type 0
@@ -310,9 +308,7 @@ is_own vl device cycle channel =
     let c : (cycle == cycle) ≡ true = grind (arith, nat_tests) in
     ap (λ (x : Bool). (x && device.0 == device.0) && cycle == cycle) a ∙ ap (λ (x : Bool). (true && x) && cycle == cycle) b ∙ c
 
--- ---- the cell of a column: the worst of those of its cycles
-
--- ---- places in lists
+-- ---- the cell of a column: the worst of those of its cycles: places in lists
 
 long_each : (f : ℕ → Shade) (n : ℕ) → length (each_below f n) ≡ n
 long_each f zero = refl
@@ -573,9 +569,7 @@ module _ (all : List News) (vl : VlId) (device : DeviceId) where
       let code = high.2 in
       (high.1, code_seen (shade_at cells (column_of grid c)) (omega (arith, come, code)))
 
--- ---- which records tell of a delivery
-
--- ---- a delivery is told by no other record
+-- ---- which records tell of a delivery: a delivery is told by no other record
 
 copied_in : Copied → Change → Copied
 copied_in d (changes.Delivers copied) = copied
@@ -727,9 +721,7 @@ module _ (network : Network) (s : Scenario) (hs : List Happening) where
           },
         )
 
--- ---- the rows of a picture: their pieces, and those of flows
-
--- ---- rows and their pieces
+-- ---- the rows of a picture: their pieces, and those of flows: rows and their pieces
 
 -- the row stands so far down among these pieces
 pub record IsLaid (grid : Grid) (among : List Piece) (row : Row) (y : ℕ) : Type 0 where

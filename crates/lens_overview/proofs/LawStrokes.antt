@@ -64,9 +64,7 @@ alike_differ (x ∷ xs) [] other = refl
 alike_differ (x ∷ xs) (y ∷ ys) other =
     ap (λ (b : Bool). is_same x y && b) (alike_differ xs ys (λ e. other (ap (λ n. suc n) e))) ∙ and_false (is_same x y)
 
--- ---- the bars of the strip
-
--- ---- lines of bars
+-- ---- the bars of the strip: lines of bars
 
 abbrev octet_at : ℕ → List ℕ → ℕ
 octet_at n line = get_or line n 0
@@ -398,9 +396,7 @@ module _ (grid : Grid) (k : ℕ) where
           let no : None ≡ Some m = sym is ∙ e in
           absurd cc
 
--- ---- the strokes of a row, and its cells
-
--- ---- shades of one code are one
+-- ---- the strokes of a row, and its cells: shades of one code are one
 
 shade_by : ℕ → Shade
 shade_by n =

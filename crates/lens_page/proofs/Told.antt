@@ -93,9 +93,7 @@ told_by c cs (v ∷ vs) line letter visible is = record {
   unbroken = line_unbroken ((c ∷ cs) ∷ v ∷ vs) visible;
 }
 
--- ---- what a page tells of a network are lines of words
-
--- ---- words
+-- ---- what a page tells of a network are lines of words: words
 
 role_visible : (role : Role) → IsVisible (role_word role)
 role_visible Master = visible_from_test (codes "master") refl

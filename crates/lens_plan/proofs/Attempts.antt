@@ -30,8 +30,6 @@ use Rattle.schedule_tables.specs.Windows.{tolerance}
 use Rattle.tte_units.{proofs.general_lemmas.Bools.{both_left, both_right}}
 use Rattle.tte_units.{specs.{Amount.amount, declared.frames.channel.Channel.{Channel, TheVariants.{A, B}}}}
 
--- ---- the attempts of a message: rows way by way and receiver by receiver, counted, and the best is one
-
 -- ---- the hops of one more receiver, link and message
 
 ways_more : {network : Network} {sender : DeviceId} (receivers : List DeviceId) {receiver : DeviceId} (hs : List Hop)

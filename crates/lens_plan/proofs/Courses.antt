@@ -24,9 +24,7 @@ use Rattle.schedule_tables.specs.{Entries.{IsEntry, source_by, target_by}, decla
 use Rattle.tte_units.{proofs.general_lemmas.{Lists.pushed, Options.{at_known, closed, opened, some_same}}}
 use Rattle.tte_units.{specs.declared.frames.channel.Channel.Channel}
 
--- ---- the rows of a message that is placed lead from its sender by the ways of the trees
-
--- ---- lists by their ends
+-- ---- the rows of a message that is placed lead from its sender by the ways of the trees: lists by their ends
 
 end_of_list : {X : Type 0} (xs : List X) → (xs ≡ []) ⊎ ((front : List X) × (x : X) × (xs ≡ front ++ x ∷ []))
 end_of_list [] = inl refl

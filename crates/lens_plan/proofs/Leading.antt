@@ -46,9 +46,7 @@ ups_next old now new other path n d within before more =
     ∙ ap (λ (hs : List Hop). old ++ hs) (sym (up_append other (take n path) (get_or path n d ∷ []))
     ∙ ap (up_hops other) (sym (take_more path n d within)))
 
--- ---- the links of the ways between the devices of a tree
-
--- ---- is the link one of these?
+-- ---- the links of the ways between the devices of a tree: is the link one of these?
 
 pub on_first : (link : LinkId) (path : List LinkId) → is_on (link ∷ path) link ≡ true
 on_first link path = or_left (link.0 == link.0) (is_on path link) (eqb_same link.0)
@@ -235,9 +233,7 @@ module _ (network : Network) (channel : Channel) (tree : IsTree network) where
       ∙ ap (λ (b : Bool). up_hops rest from ++ cond b (down_hops from rest) (down_hops from rest ++ hop_by Down link ∷ [])) off
       ∙ sym (append_assoc (up_hops rest from) (down_hops from rest) (hop_by Down link ∷ []))
 
--- ---- the rows of a virtual link lead from its sender by the ways of the trees
-
--- ---- rows one behind another
+-- ---- the rows of a virtual link lead from its sender by the ways of the trees: rows one behind another
 
 -- each of the rows comes behind the window of the one before it, and the first no earlier than this
 abbrev pub Behind : ℕ → List Placed → Type 0

@@ -143,9 +143,7 @@ module _ (network : Network) (ms : List Message) (there : List Taken) where
       (order_moved (length ms) order misfit.turn place is (turn_within unfit)
       (place_at_turn unfit 0 ∙ sym (place_at_turn unfit place)))
 
--- ---- a plan of messages is one
-
--- ---- lists
+-- ---- a plan of messages is one: lists
 
 abbrev found_or : {X : Type 0} → X → Option X → X
 found_or d None = d

@@ -45,9 +45,7 @@ served_next network {planned} ms n before there served k other lt is =
           (subst (IsServedBy planned (record { 0 = length network.vl + n })) same served)
     ]
 
--- ---- the rows and virtual links of a planned network
-
--- ---- lists
+-- ---- the rows and virtual links of a planned network: lists
 
 -- an element of two lists is one of the first, or of the second so far on
 pub parts_at : {X : Type 0} (xs ys : List X) (k : ℕ) (x : X) → slice_get (xs ++ ys) k ≡ Some x

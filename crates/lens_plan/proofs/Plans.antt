@@ -112,8 +112,6 @@ ids_next {taken} {ms} {n} {ids} more {now} new m id first within at same is boun
     All-weaken : All (λ k. k < 65536 + n) now → All (λ k. k < 65536 + (n + 1)) now
     All-weaken all k d lt = let less = all k d lt in omega (arith, less)
 
--- ---- the answer of `plan` for its two files: it is one, and what it tells to be impossible is so
-
 -- ---- what is told to be impossible is so
 
 -- the answer for messages that are refused is no other
@@ -271,9 +269,7 @@ excess_is_true octets text rest is =
     let t = told_of text (codes "rule " ++ rest) is in
     by_excess octets text rest t.network t.messages t.accepted t.read t.cause t.none t.told
 
--- ---- for two files there is one answer of `plan`
-
--- ---- ids
+-- ---- for two files there is one answer of `plan`: ids
 
 id_one : (taken : List ℕ) (given : Option ℕ) (a b : ℕ) → IsIdBy taken given a → IsIdBy taken given b → a ≡ b
 id_one taken (Some n) a b one other = one ∙ sym other

@@ -395,9 +395,7 @@ excess_is_impossible {network} ms (RowsOf device wants) tree many planned range 
     let more = many.crowded.more in
     omega (arith, fit, is, more)
 
--- ---- a message that has no place behind the rows of a network is served by none that extends it
-
--- ---- what is in time
+-- ---- a message that has no place behind the rows of a network is served by none that extends it: what is in time
 
 -- the windows of the rows end by their limits
 abbrev AreInTime : Trial → List Placed → Type 0

@@ -156,8 +156,6 @@ tightest_as Has Other into back (Some f) (n, is, first) = (n, into n f is, λ k 
 only_one : (Has : ℕ → Finding → Type 0) (f : Finding) → Has 0 f → ((n : ℕ) (g : Finding) → Has n g → g ≡ f) → IsFirstTightest Has (Some f)
 only_one Has f is one = (0, is, λ k g has. before_itself 0 k f g (one k g has) (omega arith))
 
--- ---- the spots of a rule by their numbers, the bounds that they have, and how great beta is at most
-
 -- ---- the one bound of a number at a spot with several, or none
 
 -- a link has one

@@ -32,8 +32,6 @@ use Rattle.lens_slack.specs.declared.spot.BoundedNumber.TheVariants as spots
 use Rattle.lens_slack.specs.declared.spot.Measure.TheVariants as measures
 use Rattle.tte_units.specs.declared.speed.Speed.TheVariants as speeds
 
--- ---- what is found of a rule at a place: its bounds there decide it, and a line tells it
-
 -- ---- a rule that is an inequality is kept at a place exactly where all its bounds there are
 
 -- what is the same is as much

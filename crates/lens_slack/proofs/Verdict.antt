@@ -34,9 +34,7 @@ use Rattle.tte_units.specs.declared.frames.channel.Channel.TheVariants.{A, B}
 use Rattle.lens_slack.specs.declared.spot.Measure.TheVariants as measures
 use Rattle.schedule_tables.specs.declared.rule.Rule.TheVariants as rules
 
--- ---- `slack` is done exactly where all rules are kept
-
--- ---- counting what is short
+-- ---- `slack` is done exactly where all rules are kept: counting what is short
 
 -- the finding, if there is one, is enough
 abbrev pub IsMet : Option Finding → Type 0
@@ -225,9 +223,7 @@ accepts network a range is =
       ],
     )
 
--- ---- the first finding that is short, wherever one is
-
--- ---- where the first short finding of several stands
+-- ---- the first finding that is short, wherever one is: where the first short finding of several stands
 
 -- in front, where the first is short
 first_here : (f : Finding) (fs gs : List Finding) → f.has < f.wants → fs ≡ f ∷ gs → IsFirstShort fs f

@@ -34,8 +34,6 @@ use Rattle.run_law.specs.declared.judgement.Why.TheVariants as whys
 use Rattle.run_law.specs.declared.note.NoteBody.TheVariants as bodies
 use Rattle.sync_state.specs.declared.state.State.TheVariants as states
 
--- ---- the text of a record is short, and has no character that SVG reads as its own
-
 -- ---- the text of a record has no character that SVG reads as its own
 
 -- what is visible is plain
@@ -70,9 +68,7 @@ note_plain network note n of_network h =
     (spaced_plain number (time ++ space ∷ body) (visible_plain number (decimal_visible note.number h.number))
     (spaced_plain time body (visible_plain time (units_visible note.time h.time)) (text_plain network note.body n of_network h.body)))
 
--- ---- the text of a record is short
-
--- ---- one word
+-- ---- the text of a record is short: one word
 
 vl_short : (network : Network) (v : VlId) → IsInRange network → HasVl network v → length (vl_name network v) ≤ 16
 vl_short network v range of_network =
@@ -198,9 +194,7 @@ cut_line text line is =
     let less : length line - 1 ≡ length text = omega (arith, ap length is, length-append text (codes "\n")) in
     ap (λ (k : ℕ). take k line) less ∙ ap (take (length text)) is ∙ take-append_seam text (codes "\n")
 
--- ---- how a title grows, and that no element begins in it
-
--- ---- one piece more
+-- ---- how a title grows, and that no element begins in it: one piece more
 
 flat_next : {X : Type 0} (f : X → List ℕ) (xs : List X) (n : ℕ) (d : X) → n < length xs
     → flat_map f (take n xs) ++ f (get_or xs n d) ≡ flat_map f (take (n + 1) xs)

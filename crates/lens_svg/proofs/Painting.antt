@@ -20,9 +20,7 @@ use Rattle.lens_svg.specs.declared.{mark.{Ground.Ground, Mark.Mark}}
 use Rattle.net_plan.specs.declared.network.Network.{Network}
 use Rattle.run_law.{proofs.law.FirstDeliveries.in_front, specs.declared.note.Note.Note}
 
--- ---- there is a mark for each record that is drawn, and an arrow exactly where there is a cause
-
--- ---- sides
+-- ---- there is a mark for each record that is drawn, and an arrow exactly where there is a cause: sides
 
 abbrev side_by : Bool → Bool → Side
 side_by b c = if b then Before else if c then Behind else Within
@@ -315,9 +313,7 @@ arrows_are_causes network view notes numbers falls =
           (record { placed = λ place mark there. absurd (none_there place mark there); long = inl (omega arith) })),
     )
 
--- ---- the lanes are painted as the records leave their devices
-
--- ---- lists
+-- ---- the lanes are painted as the records leave their devices: lists
 
 as_many : (network : Network) (marks : List Mark) (notes : List Note) → AreMarksOf network marks notes → length marks ≡ length notes
 as_many network [] [] are = refl

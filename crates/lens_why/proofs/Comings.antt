@@ -105,9 +105,7 @@ comes_from_earlier s hs founded n h there =
           inr (g.0, whole, omega (arith, within, at.due.number, number))
     ]
 
--- ---- the state of a device, and the record that brought it to it
-
--- ---- one record
+-- ---- the state of a device, and the record that brought it to it: one record
 
 -- a record that changes the device's state leaves it in one, whatever it was in
 left_so : (device : DeviceId) (a b : State) (body : NoteBody) → turns device body ≡ true → state_with device a body ≡ state_with device b body

@@ -230,9 +230,7 @@ left_by {network} {ns} of number h there device link cause clock is =
       sum = by.1.measured;
     }
 
--- ---- what the grounds of drops decide
-
--- ---- reasons
+-- ---- what the grounds of drops decide: reasons
 
 -- is it the reason of a frame that came beside its window?
 abbrev of_row : Reason → Bool

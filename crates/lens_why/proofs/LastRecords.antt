@@ -41,9 +41,7 @@ use Rattle.audit_law.specs.law.DueRecords as audits
 use Rattle.run_law.specs.declared.judgement.Why.TheVariants as whys
 use Rattle.run_law.specs.declared.note.NoteBody.TheVariants as notes
 
--- ---- what a correction comes from: the best frames that were heard
-
--- ---- what is kept of what was heard
+-- ---- what a correction comes from: the best frames that were heard: what is kept of what was heard
 
 behind_of : (frame other : HeardFrame) → is_behind frame other ≡ true → IsBehind frame other
 behind_of frame other e =

@@ -50,9 +50,7 @@ use Rattle.run_law.specs.declared.judgement.Judgement.TheVariants as judgements
 use Rattle.run_law.specs.declared.note.NoteBody.TheVariants as notes
 use Rattle.run_law.specs.declared.steps.Ripe.TheVariants as ripe
 
--- ---- the last collection of a compression master, point after point
-
--- ---- one more record
+-- ---- the last collection of a compression master, point after point: one more record
 
 module _ (network : Network) (d : DeviceId) (hs : List Happening) (h : Happening) where
   -- one that gives none leaves the collection
@@ -243,9 +241,7 @@ collected_is network hs device h carried master last said is before =
     ∙ ap (λ (c : Carried). Collected (master_of (members_in h)) c.cycle last) said
     ∙ ap (λ (o : Option LastCollection). Collected (master_of (members_in h)) (cycle_in h) o) before
 
--- ---- what the grounds of permanences decide
-
--- ---- by the schedule
+-- ---- what the grounds of permanences decide: by the schedule
 
 -- the frame lies in the schedule, in a cycle that is used
 abbrev in_time : SyncPlan → ℤ → ℤ → ℕ → Bool

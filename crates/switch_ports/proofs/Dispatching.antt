@@ -36,11 +36,7 @@ use Rattle.run_law.specs.declared.steps.Arrival.TheVariants as arrivals
 use Rattle.schedule_tables.specs.declared.rule.Rule.TheVariants as rules
 use Rattle.switch_ports.specs.declared.site.Peer.TheVariants as peers
 
--- ---- the rows' frames that a switch has still to dispatch, from call to call
-
--- ---- what a switch has still to dispatch, from call to call
-
--- ---- the clock goes on
+-- ---- what a switch has still to dispatch, from call to call: the clock goes on
 
 pub later_by : (x y a : ℤ) → x ≤ℤ y → (x +ℤ a) ≤ℤ (y +ℤ a)
 later_by x y a h = omega (arith, ints, h)
@@ -307,9 +303,7 @@ awaits_taken Synchronised {network} {device} {taken} t adjustment changed x done
   passed = λ row cycle there. through _ _ _ (h.passed row cycle there) le;
 }
 
--- ---- the rows' frames that a switch has still to dispatch
-
--- ---- no switch is a sender
+-- ---- the rows' frames that a switch has still to dispatch: no switch is a sender
 
 its_role : (o : Option Device) → IsSomeAnd o (λ d. is_end_system d.role ≡ true) → option_map_or (λ d. is_end_system d.role) o false ≡ true
 its_role None some = absurd some
@@ -580,8 +574,6 @@ dispatch_bound {s} {network} {device} {node} next (doing (dispatching row cycle)
     ap (λ (r : RowId). value_of network (dispatching r cycle)) (sym same) ∙ value_is cycle
     (leaves_so s network device node d st there) in
     subst (λ z. next.at.0 ≤ℤ (z -ℤ node.standing.adjustment.0)) (sym value) le
-
--- ---- what the calls of a switch leave as it was, and the time-triggered frames that it takes
 
 -- ---- how a call leaves a switch to what it was given and has done
 

@@ -116,8 +116,6 @@ module _ (network : Network) (device : DeviceId) (channel : Channel) where
       below_by network device (link_at network link) (λ l e is. never_below (accepted.rules rules.Joints link.0 l e).0 l
       (accepted.rules rules.Joints link.0 l e).2 is (is_cm_of_by (device_at network device) channel cm on)) h
 
--- ---- the frames of masters at a compression master, and how it stands when it has sent one
-
 -- ---- how a compression master stands when it has sent a frame
 
 -- the device that has sent one frame more

@@ -108,9 +108,7 @@ first_opened {v} {points} first rest c some st is at =
           omega (arith, ints, lt)
     ]
 
--- ---- what a switch has still to do
-
--- ---- collections
+-- ---- what a switch has still to do: collections
 
 module _ {s : Switch} {network : Network} {device : DeviceId} {node : Node}
     (st : StandsAs s network device node) where

@@ -22,9 +22,7 @@ use Leaving.{AreKeys, HasRow, IsFirstOf, IsFit, IsFresh, IsHeldFit, IsLast, awai
 use Leaving.{key_at, key_by, place_in, reopened, with_held}
 use Rattle.tte_units.proofs.general_lemmas.Naturals.{below_next}
 
--- ---- the order of the rows that leave a switch
-
--- ---- one row more
+-- ---- the order of the rows that leave a switch: one row more
 
 old_at : (rows : List Departure) (d : Departure) (k : ℕ) (e : Departure) → k < length rows → get_or (rows ++ d ∷ []) k e ≡ get_or rows k e
 old_at (x ∷ rows) d zero e lt = refl
@@ -203,9 +201,7 @@ pub distinct : {rows : List Departure} {lasts : List (Option ℕ)} (j k : ℕ) (
     → j < length rows → k < length rows → (get_or rows j d).of.row.0 ≡ (get_or rows k d).of.row.0 → j ≡ k
 distinct j k d h a b e = grind (arith, cases_Bool)
 
--- ---- the keys of what the rows have still to dispatch, from row to row
-
--- ---- rows in their ranges
+-- ---- the keys of what the rows have still to dispatch, from row to row: rows in their ranges
 
 pub awaited_fit : (changed : ℤ) (o : Option Held) → IfSome o IsHeldFit → IfSome (awaited_of changed o) IsHeldFit
 awaited_fit changed None fit = tt

@@ -34,9 +34,7 @@ use Rattle.tte_units.{proofs.general_lemmas.Naturals.{less_than_next, none_less}
 use Rattle.run_law.specs.declared.steps.Ripe.TheVariants as ripe
 use Rattle.schedule_tables.specs.declared.rule.Rule.TheVariants as rules
 
--- ---- what frames that are heard within their time show at the next correction point
-
--- ---- what stays the best
+-- ---- what frames that are heard within their time show at the next correction point: what stays the best
 
 better_keeps : (P : HeardFrame → Type 0) (o : Option HeardFrame) (later best : HeardFrame) → IsBetterOf o later best → P later → IfSome o P → P best
 better_keeps P None later best e new old = subst P (sym e) new
@@ -428,9 +426,7 @@ next_small : (s new : Standing) (heard : Summary) (v : Verdict) → new ≡ afte
 next_small s new heard (Corrected by) e small corrected = corrected
 next_small s new heard other e small corrected = subst (λ (t : Standing). IsSmall t.adjustment.0) (sym e) small
 
--- ---- how a switch stands once its correction point has come
-
--- ---- the correction is not less than a precision below
+-- ---- how a switch stands once its correction point has come: the correction is not less than a precision below
 
 dev_low : (x point adjustment prec : ℤ) → (point +ℤ adjustment) ≤ℤ (x +ℤ prec) → (pos 0 -ℤ prec) ≤ℤ ((x -ℤ point) -ℤ adjustment)
 dev_low x point adjustment prec h = omega (arith, ints, h)

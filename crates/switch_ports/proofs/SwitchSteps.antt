@@ -167,9 +167,7 @@ module _ {s : Switch} (new : Switch) {network : Network} {device : DeviceId} {no
       (sym h.rest)
       (by_taken later cm bit zero_on h h.taken refl))
 
--- ---- how a switch stands when it has dispatched a row's frame
-
--- ---- rows
+-- ---- how a switch stands when it has dispatched a row's frame: rows
 
 departure_closed : {network : Network} {device : DeviceId} {taken : List TakenFrame} {d : Departure} (b : Bool)
     → IsDeparture network device taken d → IsDeparture network device taken

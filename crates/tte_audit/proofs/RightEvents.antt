@@ -16,9 +16,7 @@ use Words.{None, Note, NoteBody, Option, Some, Units, What, [], amount, any_behi
 use Words.{events_of, false, inl, inr, refl, scenario_of, subst, sym, true}
 use Rattle.run_law.specs.declared.note.NoteBody.TheVariants as notes
 
--- ---- the clocks of a report whose events are right keep the clock laws
-
--- ---- its events
+-- ---- the clocks of a report whose events are right keep the clock laws: its events
 
 abbrev event_in : Note → Option Event
 event_in note = event_by note.time note.body

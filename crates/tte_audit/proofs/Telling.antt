@@ -82,8 +82,6 @@ number_first text rest behind n range e parts =
 pub first_number : (ws rest : Words) (m n : ℕ) → m < 2 ^ 64 → n < 2 ^ 64 → ws ≡ decimal m ∷ rest → first_word ws ≡ Some (decimal n) → m ≡ n
 first_number ws rest m n small range is first = decimal_injective m n small range (same_name (decimal m) (decimal n) (sym (ap first_word is) ∙ first))
 
--- ---- what the words of a report's records tell, and how they are spelled and read back
-
 -- ---- what a record says is an event, or words of a kind of record tell it
 
 -- a record without an event begins with the word of a kind

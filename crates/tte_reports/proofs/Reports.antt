@@ -50,8 +50,6 @@ use Rattle.run_law.specs.declared.note.NoteBody.TheVariants as notes
 use Rattle.tte_audit.specs.declared.refusal.AuditRefusal.TheVariants as refusals
 use Rattle.tte_reports.specs.declared.no_report.NoReport.TheVariants as causes
 
--- ---- the answer of a command over a report, whose records are read one by one and are of a safe run
-
 -- ---- the records of a report, taken one after another
 
 module _ {T : Type 0} (holds : Holds T) (network : Network) (notes : List Note) where
@@ -171,9 +169,7 @@ first_then {network} {note} {octets} {left} {notes} named b h =
     by_meeting network note left notes h (inl on) = by_others network note left notes on.more h.of_network on.is on.text
     by_meeting network note left notes h (inr on) = none_behind network note left notes on.more h.of_network on.is on.text
 
--- ---- the events of a report are such as the laws on runs ask for
-
--- ---- what holds of records holds of their events
+-- ---- the events of a report are such as the laws on runs ask for: what holds of records holds of their events
 
 with_one : (P : Event → Type 0) (o : Option Event) (es : List Event) → IfSome o P → All P es → All P (cons_option o es)
 with_one P None es one all = all

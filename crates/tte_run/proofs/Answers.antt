@@ -34,9 +34,7 @@ use Rattle.tte_traces.specs.{storms.Answer.IsStormAnswer}
 use Rattle.tte_units.specs.Amount.{amount}
 use Rattle.world_drive.specs.exact.Records.{clock_reading}
 
--- ---- the answer of `wire` is one, and valid input is written to its end
-
--- ---- the packets of a way
+-- ---- the answer of `wire` is one, and valid input is written to its end: the packets of a way
 
 module _ (link : LinkId) (way : Way) (network : Network) (octets : List ℕ) where
   -- the answer where a trace has a fault

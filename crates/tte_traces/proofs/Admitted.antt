@@ -125,9 +125,7 @@ module _ (network : Network) (before : List Event) (rest : List ℕ) where
   end_has_no_fault (Line refusal) none ended p = p.0.some none
   end_has_no_fault (Outlaw outside) none ended p = p.1.is_open.some none
 
--- ---- the events admitted from the octets of a trace
-
--- ---- no events
+-- ---- the events admitted from the octets of a trace: no events
 
 module _ (network : Network) where
   pub admitted_none : (octets : List ℕ) → AreAdmitted network octets []

@@ -26,9 +26,7 @@ use Rattle.tte_io.specs.declared.ends.Source as sources
 use Rattle.tte_traces.specs.declared.fault.TraceStop.TheVariants as ends
 use Rattle.world_drive.specs.declared.observing.Cut.TheVariants as cuts
 
--- ---- what a run has written, and what it has taken of its trace by then
-
--- ---- what was written grew
+-- ---- what a run has written, and what it has taken of its trace by then: what was written grew
 
 writes_nothing : (s : Shown) → WritesSome s s
 writes_nothing s = ([], Appends-nil s.written)

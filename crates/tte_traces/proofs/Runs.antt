@@ -61,11 +61,7 @@ use Rattle.world_law.specs.{world.World.AreOfNetwork}
 use Rattle.run_law.specs.declared.note.NoteBody.TheVariants as kinds
 use Rattle.tte_forms.specs.declared.accepting.NoNetwork.TheVariants as causes
 
--- ---- the run under a trace: how far it lasts, what its answer begins with, and that it is safe
-
--- ---- there is an answer for each trace
-
--- ---- records
+-- ---- there is an answer for each trace: records
 
 records_before : {network : Network} (events : List Event) (mark : List ℕ) → IsInRange network
     → (notes : List Note) × AreRecordsBefore network events mark notes
@@ -111,9 +107,7 @@ module _ (lines : LinesOf) where
             (a.0, record { events = at.events; admitted = at.admitted; is = inr a.1 }))
       ]
 
--- ---- the run up to the next event lasts under this event and those behind it
-
--- ---- later events change nothing before them
+-- ---- the run up to the next event lasts under this event and those behind it: later events change nothing before them
 
 -- none of them is earlier than the time
 abbrev pub AreFrom : ℕ → List Event → Type 0
@@ -189,9 +183,7 @@ lasts network octets events event others notes all sooner run =
     let from : AreFrom (amount event.time) (event ∷ others) = λ k e is. not_earlier 0 events others event k e order is in
     lasts_under network events event others notes from (all events others event refl).has.is_open.unended sooner run
 
--- ---- what the answer of `run` begins with: the reports of the fronts of its run
-
--- ---- reports
+-- ---- what the answer of `run` begins with: the reports of the fronts of its run: reports
 
 begin_further : (lines front more : List (List ℕ)) → BeginWith front more → BeginWith lines front → BeginWith lines more
 begin_further lines front more a b = (a.0 ++ b.0, b.1 ∙ ap (λ (t : List (List ℕ)). t ++ b.0) a.1 ∙ append_assoc more a.0 b.0)
@@ -300,9 +292,7 @@ module _ (network : Network) (octets : List ℕ) (events : List Event) where
       let report = report_begins network w.notes notes rest.0 rest.1 in
       (report.0, ap (λ (b : Answer). b.lines) w.answer ∙ report.1)
 
--- ---- what a command over a trace writes is of a run that is safe
-
--- ---- what the laws on runs ask
+-- ---- what a command over a trace writes is of a run that is safe: what the laws on runs ask
 
 all_parts : {X : Type 0} (P : X → Type 0) (xs : List X) → ((before behind : List X) (x : X) → xs ≡ before ++ x ∷ behind → P x) → All P xs
 all_parts P [] h = All-nil P
@@ -464,9 +454,7 @@ report_safe {octets} {trace} {network} IsRefusal range {a} m is =
     (λ events notes admitted records. of_whole octets trace network range m events admitted notes _ records refl)
     (λ events notes fault admitted there records. of_fault octets trace network range m events admitted notes _ fault there records refl) a is
 
--- ---- the devices, links and virtual links of a record of a run are the network's
-
--- ---- links and devices
+-- ---- the devices, links and virtual links of a record of a run are the network's: links and devices
 
 received_link : (network : Network) (way : Way) (link : LinkId) (device : DeviceId) (f : Link → DeviceId) → option_map f (link_at network link) ≡ Some device
     → link.0 < length network.link

@@ -17,9 +17,7 @@ use Rattle.world_drive.specs.{Sources.{Gave, GivesNext, Stopped, given_in}}
 use Rattle.world_drive.specs.{declared.observing.Cut.TheVariants.{OutOfMemory, WriteFault}}
 use Rattle.world_drive.specs.{exact.{Records.{AreAllRecords, HaveEnded}, Worlds.IsReached}}
 
--- ---- more records seen by an observer
-
--- ---- what was put
+-- ---- more records seen by an observer: what was put
 
 -- some was put, and no call of the sink failed
 pub record PutsSoFar {K : Type 0} (sink : Ghosts K) (old new : K) : Type 0 where
@@ -174,9 +172,7 @@ seen_until {network} {events} {notes} until from {next} h stands all = record {
   all = all;
 }
 
--- ---- a drive goes on, or ends
-
--- ---- what a source gave
+-- ---- a drive goes on, or ends: what a source gave
 
 module _ {B S K E : Type 0} (gave ended : Gave B E) (stopped : Stopped B S K E) (left : E → ℕ) (network : Network)
     (first : B) (origin : E) (events : List Event) (more : Bool) (event : Event) (from : B) (old new : E) where

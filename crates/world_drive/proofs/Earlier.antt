@@ -74,9 +74,7 @@ in_order {events} {event} may = order_of events event (may.within conditions.Ord
 pub have_ended : (events : List Event) (time : Units) → EndsAt events time → HaveEnded events
 have_ended events time (k, lt, at) = (k, record { time = time; what = End }, lt, at, refl)
 
--- ---- records up to a mark that is not behind a time, or not behind the next event
-
--- ---- before a time
+-- ---- records up to a mark that is not behind a time, or not behind the next event: before a time
 
 module _ (network : Network) (events : List Event) (notes : List Note) where
   -- the records of a world that has not reached the time

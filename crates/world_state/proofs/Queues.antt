@@ -116,8 +116,6 @@ module _ {network : Network} {ups downs : List WayState} {body : NoteBody} {givi
             omega arith
       ]
 
--- ---- what is under way in queues of devices, on wires and at ports, as frames are put in and taken out
-
 -- ---- what is put to ports leaves the wires as they are, and what is put on a wire the ports
 
 -- the wires after a frame is put to ports

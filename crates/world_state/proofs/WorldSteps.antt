@@ -81,9 +81,7 @@ module _ (network : Network) (device : DeviceId) (node : Node) where
       let least = is.1 task pending in
       omega (arith, ints)
 
--- ---- what comes of the events of an instant is settled: the world stands again
-
--- ---- a step of the loop
+-- ---- what comes of the events of an instant is settled: the world stands again: a step of the loop
 
 module _ (network : Network) (broken : List Bool) (ups : List WayState) (time : ℕ) where
   pub settled_more : (befell : List Befallen) (b : Befallen) (old mid new : List Settled) (before between after : List (Entry Content))

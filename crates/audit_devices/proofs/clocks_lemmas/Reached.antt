@@ -73,8 +73,6 @@ has_point q = record { next = q.next; reached = q.reached; correct = q.correct }
 pub comes_so : (o : Option Point) (p : Point) (v : Verdict) → o ≡ Some p → verdict_as p.verdict ≡ v → (cycle : ℕ) × ComesTo o cycle v
 comes_so o p v is comes = (p.cycle, subst (λ x. ComesTo x p.cycle v) (sym is) (refl, comes))
 
--- ---- when a clock reaches a value between records, and what a master sends then
-
 -- ---- when a clock reaches a value, by its readings now and a unit of time before
 
 -- the last of what is earlier lies before the time

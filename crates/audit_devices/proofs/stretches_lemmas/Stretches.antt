@@ -71,9 +71,7 @@ same_emitted f a b is told = grind (arith, and_parts, int_eq, same_numbers, eqb-
 pub equal_emitted : (f a : Emitted) (b : Bool) → b ≡ is_same f a → f ≡ a → b ≡ true
 equal_emitted f a b is same = grind (arith, and_from, int_eq, number_same, eq-eqb)
 
--- ---- what one more record makes of the points of a stretch
-
--- ---- what a record does
+-- ---- what one more record makes of the points of a stretch: what a record does
 
 same_id : (d other : DeviceId) → Some other ≡ Some d → (d.0 == other.0) ≡ true
 same_id d other e = let one : other ≡ d = cc in eq-eqb d.0 other.0 (sym (ap (λ (x : DeviceId). x.0) one))
@@ -315,9 +313,7 @@ each_more P [] x old new (suc i) y e = absurd cc
 each_more P (z ∷ xs) x old new zero y e = old zero y e
 each_more P (z ∷ xs) x old new (suc i) y e = each_more P xs x (λ j w f. old (suc j) w f) new i y e
 
--- ---- the points of a compression master come in order
-
--- ---- lists
+-- ---- the points of a compression master come in order: lists
 
 all_given : (P : Point → Type 0) (f : Happening → Option Point) (xs : List Happening) → ((x : Happening) → IsIn x xs → IfSome (f x) P) → All P (filter_map f xs)
 all_given P f [] each = All-nil P

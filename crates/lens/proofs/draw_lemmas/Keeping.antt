@@ -62,9 +62,7 @@ never_fall {network} {notes} of =
     subst (NeverFall 0) (same_notes network notes)
     (falls_from (scenario_of network notes) (happenings network notes) of.run.founded [] (happenings network notes) 0 refl (inl refl))
 
--- ---- which records a picture of one thing keeps
-
--- ---- where a frame is sent
+-- ---- which records a picture of one thing keeps: where a frame is sent
 
 sends_by : (vl : VlId) (body : NoteBody) → is_sending vl body ≡ true → IsSending vl body
 sends_by vl (notes.TtSent device link cause of cycle) e = eqb-true of.0 vl.0 e
@@ -443,9 +441,7 @@ module _ (network : Network) (subject : Subject) (octets : List ℕ) (ns : List 
       };
     }
 
--- ---- the picture of a part of the run of a report shows it
-
--- ---- the numbers follow each other
+-- ---- the picture of a part of the run of a report shows it: the numbers follow each other
 
 numbers_from : (notes front rest : List Note) → notes ≡ front ++ rest → AreNumbered notes → NumbersFollow (length front + 1) rest
 numbers_from notes front [] whole numbered = tt

@@ -65,11 +65,7 @@ use Rattle.lens.specs.draw.Picture as pictures
 use Rattle.net_plan.specs.declared.event.What.TheVariants as events
 use Rattle.run_law.specs.declared.note.NoteBody.TheVariants as notes
 
--- ---- where in their windows the frames of a report came, as its marks and its picture show it
-
--- ---- of the marks of a report it can be asked where in their windows their frames came
-
--- ---- one more frame
+-- ---- of the marks of a report it can be asked where in their windows their frames came: one more frame
 
 module _ {X Y : Type 0} (h : X → Option Y) (all listed : List X) (same : listed ≡ all) (i : ℕ) (d : X) (within : i < length listed) where
   one_more : filter_map h (take (i + 1) all) ≡ filter_map h (take i all) ++ cons_option (h (get_or listed i d)) []
@@ -129,9 +125,7 @@ report_askable {network} view {octets} {ns} {end} of =
     all_askable network (plan_of network view ns).marks (shown view ns) (pictures_show_runs network view octets ns end of).marks
     (λ n i. timely_in of n (in_shown view ns n i))
 
--- ---- the frames that a picture shows as taken came in their windows
-
--- ---- the record of a mark
+-- ---- the frames that a picture shows as taken came in their windows: the record of a mark
 
 record IsShownBy (network : Network) (ns : List Note) (mark : Mark) : Type 0 where
   pub note : Note
@@ -217,9 +211,7 @@ come_by s ps time {body} {device} {link} {vl} h caused = by h.says
     by (inr e) =
         come_as s ps device (amount time) link h.cause vl h.cycle (inr refl) (subst (IsCaused s ps time) e caused)
 
--- ---- the records before a time
-
--- ---- the tick
+-- ---- the records before a time: the tick
 
 tick_is : (window : Window) (at : ℤ) → 0 < unsigned_abs (window.to.0 -ℤ window.from.0) → window.from.0 ≤ℤ at → at ≤ℤ window.to.0
     → (tick_in window at ≡ 24 * unsigned_abs (at -ℤ window.from.0) / unsigned_abs (window.to.0 -ℤ window.from.0)) × (tick_in window at ≤ 24)
@@ -311,11 +303,7 @@ module _ (network : Network) (octets : List ℕ) (ns : List Note) (end : Units) 
 pub pictures_show_windows : PicturesShowWindows
 pictures_show_windows network view octets ns end rules of mark link vl there look = shows_window network octets ns end rules of view mark link vl there look
 
--- ---- the draft of a picture, and its marks, lines and parts put one after another
-
--- ---- a picture has the line of each thing that its plan draws
-
--- ---- lists
+-- ---- a picture has the line of each thing that its plan draws: lists
 
 in_at : {X : Type 0} (n : ℕ) (x : X) (xs : List X) → slice_get xs n ≡ Some x → IsIn x xs
 in_at n x [] there = absurd cc
@@ -429,9 +417,7 @@ marks_stand network view notes =
     mark_lines_of network view (plan_of network view notes).marks notes
     (subst (λ ms. AreMarksOf network ms (shown view notes)) (sym taken.whole) taken.marks)
 
--- ---- the draft of a picture, and the marks of records put one after another
-
--- ---- the draft
+-- ---- the draft of a picture, and the marks of records put one after another: the draft
 
 plan_more : (network : Network) (plan : Plan) (before : List Note) (note : Note)
     → plan_behind network plan (before ++ note ∷ []) ≡ took network (plan_behind network plan before) note

@@ -51,9 +51,7 @@ use Rattle.lens.specs.draw.Picture as pictures
 use Rattle.net_plan.specs.declared.event.What.TheVariants as events
 use Rattle.run_law.specs.declared.note.NoteBody.TheVariants as notes
 
--- ---- the clocks of a picture are those of correct synchronised devices at the end of the run
-
--- ---- what is told
+-- ---- the clocks of a picture are those of correct synchronised devices at the end of the run: what is told
 
 with_more : {X : Type 0} (xs : List X) (o : Option X) (x : X) → IsIn x xs → IsIn x (with_one xs o)
 with_more xs None x i = i
@@ -378,9 +376,7 @@ titles_are network view notes =
     titles_of network view (plan_of network view notes).marks notes
     (subst (λ ms. AreMarksOf network ms (shown view notes)) (sym taken.whole) taken.marks)
 
--- ---- two reports with one picture have the same lines
-
--- ---- which lines are marks
+-- ---- two reports with one picture have the same lines: which lines are marks
 
 -- does the line begin as those of marks do?
 abbrev is_mark : List ℕ → Bool

@@ -85,9 +85,7 @@ counts_whole IsSo after until n (ts, are, is) none timely = (
   is,
 )
 
--- ---- the fates of a flow's cycles, one cycle after another
-
--- ---- a cycle has one fate
+-- ---- the fates of a flow's cycles, one cycle after another: a cycle has one fate
 
 module _ (s : Scenario) (hs : List Happening) (until : ℕ) {flow : Flow} (cycle from : ℕ)
     (is : IsFlow s.network flow) where

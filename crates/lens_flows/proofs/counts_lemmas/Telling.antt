@@ -132,9 +132,7 @@ pub record IsSmallRest (z d : ℤ) : Type 0 where
   pub is : int_rem_euclid z d ≡ pos number
   pub small : number ≤ 2 ^ 40
 
--- ---- what is told of flows is one
-
--- ---- two lists of all things of a kind are one
+-- ---- what is told of flows is one: two lists of all things of a kind are one
 
 -- no two things are each before the other
 abbrev pub IsOneWay : {X : Type 0} → (X → X → Type 0) → Type 0

@@ -31,9 +31,7 @@ use Rattle.run_law.proofs.control.Verdicts.{by_schedule}
 use Rattle.run_law.specs.declared.note.NoteBody.TheVariants as notes
 use Rattle.run_law.specs.declared.steps.Ripe.TheVariants as ripe
 
--- ---- what each instant of a block brings, from what frames are heard
-
--- ---- laws of frames
+-- ---- what each instant of a block brings, from what frames are heard: laws of frames
 
 -- what is known of the frames that are heard
 pub record FramesGoSo : Type 1 where
@@ -316,9 +314,7 @@ module _ (laws : FramesGoSo) (v : View) (n t : ℕ) (before : Stands v n) (is : 
       (λ x d c dispatch early. tidy v n t before went x d c dispatch (omega (arith, g.in_order))) enough in
       rw (sym (same_some _ _ _ base.is g.is_hull)) (record { least = base.least; most = base.most })
 
--- ---- how a frame tells a device the time
-
--- ---- channels
+-- ---- how a frame tells a device the time: channels
 
 -- a link that has a receiver is there
 link_of_receiver : (n : Network) (o : Option Link) (f : Link → DeviceId) (device : DeviceId) → option_map f o ≡ Some device → (l : Link) × (o ≡ Some l)

@@ -27,9 +27,7 @@ use Std.{and_from, ap, arith, both_ways, by_lt_z, cases_lt, eq-eqb, false, filte
 use Std.{int_le, int_lt, ints, lt-ltb, nat_lt, negsuc, option_map_or, pos, refl, subst, suc, sym, true, zero, ℕ}
 use Rattle.run_law.specs.declared.note.NoteBody.TheVariants as notes
 
--- ---- when a block is over the network stands as it should
-
--- ---- the instants of the block
+-- ---- when a block is over the network stands as it should: the instants of the block
 
 -- an instant of the block that is over
 abbrev instant : (v : View) (n : ℕ) (over : BlockIsOver v n) (t : ℕ) → over.before.next ≤ t → t < over.next → t ≤ v.until → IsInBlock v n t
@@ -268,9 +266,7 @@ stands_on goes come correct switches v n is over =
       kept = none_lost switches goes over share.2 is;
     }
 
--- ---- correction points come while a block lasts
-
--- ---- between the last setting and a time
+-- ---- correction points come while a block lasts: between the last setting and a time
 
 -- a device that has the time at the end did not lose it there
 not_lost : {v : View} (device : DeviceId) (u t : ℕ) (h : Happening) (cause : ℕ) (why : Why) → IsView v → u ≤ t

@@ -20,9 +20,7 @@ use Std.{subst, suc, sym, true, zero, ℕ}
 use Rattle.tte_units.proofs.general_lemmas.Integers.{int_lt-from, int_lt-is}
 use Rattle.run_law.specs.declared.note.NoteBody.TheVariants as notes
 
--- ---- the next correction point of a device whose clock was set before a block
-
--- ---- the last joining
+-- ---- the next correction point of a device whose clock was set before a block: the last joining
 
 -- where the last of one kind is also of a narrower one, it is the last of this
 last_of_both : {X : Type 0} (p q : X → Bool) (o r : Option X) (xs : List X) (h : X) → ((x : X) → p x ≡ true → q x ≡ true) → p h ≡ true

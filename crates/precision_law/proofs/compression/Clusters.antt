@@ -26,9 +26,7 @@ use Std.{trailing_zeros, true, w32, ℕ, ℤ}
 use Rattle.run_law.proofs.records.Order.{contained, place_order}
 use Rattle.run_law.specs.declared.note.NoteBody.TheVariants as notes
 
--- ---- when compression masters send
-
--- ---- middles
+-- ---- when compression masters send: middles
 
 abbrev NotNegative : ℤ → Type 0
 NotNegative z = pos 0 ≤ℤ z
@@ -245,9 +243,7 @@ master_of_bit m small =
           absurd (omega arith))
     ]
 
--- ---- the points of a compression master as records come
-
--- ---- points and their records
+-- ---- the points of a compression master as records come: points and their records
 
 -- the reading of the device comes sharply to the point at the time
 pub record IsReadAt (v : View) (cm : DeviceId) (point : ℤ) (q : ℕ) : Type 0 where

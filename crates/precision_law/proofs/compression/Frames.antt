@@ -30,9 +30,7 @@ use Std.{length, map, negsuc, option_map_or, pos, refl, subst, sym, true, zero_f
 use Rattle.run_law.{proofs.records.Order.contained, specs.control.Emissions.Emits}
 use Rattle.run_law.specs.declared.note.NoteBody.TheVariants as notes
 
--- ---- what compressed frames are made of
-
--- ---- points
+-- ---- what compressed frames are made of: points
 
 -- the point is that of a good master's frame, which is permanent up to this time
 pub record IsGoodPoint (v : View) (cm : DeviceId) (by : ℕ) (q : Point) : Type 0 where
@@ -290,9 +288,7 @@ members_are_masters v h cm cycle members is e =
       ],
     )
 
--- ---- the base of a compressed frame lies in the hull of its cycle
-
--- ---- numbers
+-- ---- the base of a compressed frame lies in the hull of its cycle: numbers
 
 -- a reading that lies so far behind that of a time is read so much later
 later_by : {n : Sizes} {reading : ℕ → ℕ} (a s gap : ℕ) → IsSteady n reading → gap ≤ 2 * n.cycle

@@ -139,9 +139,7 @@ sends_up goes {v} channel {n} {t} block cm {master} is late one whole first =
           (dispatches_pass goes channel there is low sent.2 (omega arith)) soon;
     }
 
--- ---- the compression master of the sound channel takes the frames of the first masters
-
--- ---- points that come
+-- ---- the compression master of the sound channel takes the frames of the first masters: points that come
 
 -- a point that comes to a cluster of another cycle
 pub record MeetsOther (cs : List Cluster) (p : Point) : Type 0 where

@@ -18,9 +18,7 @@ use Std.{◌*◌, ◌+ℤ◌, ◌+◌, ◌-◌, ◌<◌, ◌∙◌, ◌≡◌, �
 use Std.{ints, mul-le-mul_right, pos, refl, subst, suc, sym, zero, ℕ, ℤ}
 use Rattle.schedule_tables.specs.Margins.{dispatch_spread}
 
--- ---- what a clock shows in a block, and how the hulls of two views of one run lie
-
--- ---- what a clock of a block shows
+-- ---- what a clock shows in a block, and how the hulls of two views of one run lie: what a clock of a block shows
 
 -- what a clock shows that was set in the block
 pub record IsNewShown (v : View) (n t : ℕ) (shown : ℤ) : Type 0 where

@@ -16,9 +16,7 @@ use Rattle.run_law.proofs.records.{Members.in_kept, Order.{any_in, has_passed, i
 use Rattle.schedule_tables.proofs.Margins.{master_ends}
 use Rattle.net_plan.specs.declared.event.What.TheVariants as events
 
--- ---- what the fault hypothesis leaves
-
--- ---- broken devices
+-- ---- what the fault hypothesis leaves: broken devices
 
 -- an event that breaks a device at a place
 breaks_it : (place : ℕ) (what : What) → breaks_at place what ≡ true → (d : DeviceId) × (what ≡ events.Break d) × (d.0 ≡ place)
@@ -114,9 +112,7 @@ one_channel_is_sound s t lawful =
       )
     ]
 
--- ---- one master at most is broken, and no two masters have one member number
-
--- ---- one breaks
+-- ---- one master at most is broken, and no two masters have one member number: one breaks
 
 -- an event by which a broken device broke
 pub record BrokeBy (v : View) (device : DeviceId) : Type 0 where

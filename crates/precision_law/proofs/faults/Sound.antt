@@ -24,9 +24,7 @@ use Rattle.sync_state.proofs.membership_lemmas.CountLemmas.{count_of-union_singl
 use Rattle.net_plan.specs.declared.event.What.TheVariants as events
 use Rattle.run_law.specs.declared.outside.Outside.TheVariants as outside
 
--- ---- enough masters began on and are good
-
--- ---- bits
+-- ---- enough masters began on and are good: bits
 
 -- a number whose bits another one has has no more ones
 ones_within : (d n m : ℕ) → n ≤ d → ((i : ℕ) → bit_at n i ≤ bit_at m i) → count_ones n ≤ count_ones m
@@ -188,9 +186,7 @@ enough_masters v members is all =
         both_ways (list_any (λ x. breaks_at device.0 x.what) (before ++ e ∷ [])) none_breaks
         (in_any (λ x. breaks_at device.0 x.what) (before ++ e ∷ []) e (in_right e before (e ∷ []) (inl refl)) hit))
 
--- ---- the sound channel: no way of its links is cut, and its switches begin on
-
--- ---- switches
+-- ---- the sound channel: no way of its links is cut, and its switches begin on: switches
 
 pub sound_switches_begin_on : SoundSwitchesBeginOn
 sound_switches_begin_on v device is switch =

@@ -35,11 +35,7 @@ use Std.{cases_Bool, cases_eq, eq-eqb, false, false_from_ne_true, filter, inl, i
 use Std.{nat_lt, not, option_and_then, option_map, option_map_or, pos, refl, subst, suc, sym, true, unsigned_abs, ℕ, ℤ}
 use Rattle.run_law.specs.declared.note.NoteBody.TheVariants as notes
 
--- ---- the frames that a device hears in a block, how it judges them, and since when it has heard them
-
--- ---- how a device judges what it hears, and the frames with a good member that it hears in a block
-
--- ---- judgements
+-- ---- how a device judges what it hears, and the frames with a good member that it hears in a block: judgements
 
 -- the record has this judgement by records up to its time
 record IsJudgedAs (v : View) (device : DeviceId) (h : Happening) (point : ℤ) (judgement : Judgement) : Type 0 where
@@ -165,9 +161,7 @@ module _ (goes : BlocksGoSo) (v : View) (n t : ℕ) (block : IsInBlock v n t) (i
       (le-leb (suc n) last_cycle (few_cycles (suc n) _ is g.is_hull (omega (arith, ints, g.not_early, block.in_run))))
       (omega (arith, ints, g.timely)) (omega (arith, ints, g.timely))
 
--- ---- what an old device hears in a block it has heard since its last correction point
-
--- ---- lists
+-- ---- what an old device hears in a block it has heard since its last correction point: lists
 
 -- an element that stands behind each of the kind stands behind the last
 in_after_last : {X : Type 0} (p : X → Bool) (xs : List X) (x : X) → IsIn x xs

@@ -27,9 +27,7 @@ use Rattle.compression.specs.declared.taken.Taken.TheVariants as taken
 use Rattle.run_law.specs.declared.note.NoteBody.TheVariants as notes
 use Rattle.run_law.specs.declared.steps.Ripe.TheVariants as ripe
 
--- ---- what a device has heard since its last correction point
-
--- ---- what depends on earlier records alone
+-- ---- what a device has heard since its last correction point: what depends on earlier records alone
 
 abbrev pub cleared_by : Scenario → DeviceId → ℕ → List Happening → Bool
 cleared_by s device by es =
@@ -164,9 +162,7 @@ best_is_heard {channel} {frame} best =
     subst (IsIn (within_on channel frame)) (sym best.is_heard) (in_right (within_on channel frame) best.before (within_on channel frame ∷ best.after)
     (inl refl))
 
--- ---- what a device hears is a frame that a compression master sent
-
--- ---- who hears
+-- ---- what a device hears is a frame that a compression master sent: who hears
 
 -- a judgement of one who hears is no role in a collection
 role_not_heard : (j : Judgement) (t : Taken) → IsOfHearer j → ripe_as j ≡ ripe_by_role t → ⊥

@@ -222,9 +222,7 @@ values_are_reached_on_time sound cover goes s mark ns until beta up is_beta t cy
       not_late = from.not_late;
     }
 
--- ---- in the span of a cycle the clocks keep between the ideal clocks of that cycle
-
--- ---- one hull
+-- ---- in the span of a cycle the clocks keep between the ideal clocks of that cycle: one hull
 
 -- the first and the last dispatch of a cycle are one
 one_span : (s : Scenario) (hs : List Happening) (t cycle : ℕ) (first last least greatest : ℤ) → AreFromTo s hs t cycle first last
@@ -357,9 +355,7 @@ clocks_keep_the_span sound cover goes s mark ns until beta up is_beta t cycle fi
         let one : d ≡ c = omega arith in
         (b.0, b.1, rw one at (from_to_of_cut d b.0 b.1 cut b.2), b.3)
 
--- ---- the clock of a synchronised device keeps between the ideal clocks of a cycle
-
--- ---- of a view
+-- ---- the clock of a synchronised device keeps between the ideal clocks of a cycle: of a view
 
 -- the value is that of a clock which was set for the cycle, in its hull
 pub record ShowsCycle (v : View) (t cycle : ℕ) (shown : ℤ) : Type 0 where

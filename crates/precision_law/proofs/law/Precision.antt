@@ -55,9 +55,7 @@ joiners_come_in together near s mark ns until up device h le f =
       before = λ t e from to own theirs. agree.before t device e to own theirs;
     }
 
--- ---- in a block the clocks of any two good devices with the common time are near
-
--- ---- the hulls of a block
+-- ---- in a block the clocks of any two good devices with the common time are near: the hulls of a block
 
 -- the hull of the cycle before a block is narrow
 pub before_narrow : {v : View} {n : ℕ} (stands : Stands v n) → IsNarrow v.sizes stands.hull
@@ -304,9 +302,7 @@ blocks_cover start on v t is in_run =
     let found = reach_from on t (t + 1) 0 first is in_run (omega arith) (omega arith) in
     (found.0, found.1)
 
--- ---- the precision, from what blocks bring
-
--- ---- the view up to a time
+-- ---- the precision, from what blocks bring: the view up to a time
 
 -- the view of a run up to a time, with a channel that is sound then
 pub record IsViewOf (s : Scenario) (hs : List Happening) (t : ℕ) (channel : Channel) : Type 0 where

@@ -31,9 +31,7 @@ use Rattle.net_plan.specs.declared.event.What.TheVariants as events
 use Rattle.run_law.specs.declared.judgement.Why.TheVariants as whys
 use Rattle.run_law.specs.declared.note.NoteBody.TheVariants as notes
 
--- ---- what holds of a device's state, carried from record to record
-
--- ---- over records
+-- ---- what holds of a device's state, carried from record to record: over records
 
 -- where it holds before the record, it holds behind it
 abbrev pub Carries : (State → Type 0) → DeviceId → NoteBody → Type 0

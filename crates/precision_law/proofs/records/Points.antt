@@ -24,9 +24,7 @@ use Rattle.compression.specs.declared.taken.Taken.TheVariants as taken
 use Rattle.run_law.specs.declared.judgement.Judgement.TheVariants as judgements
 use Rattle.run_law.specs.declared.note.NoteBody.TheVariants as notes
 
--- ---- what is due is recorded: the frames of clusters, and what is permanent
-
--- ---- what is sent
+-- ---- what is due is recorded: the frames of clusters, and what is permanent: what is sent
 
 -- what a time of the run brings, given the records before its place, is recorded
 pub due_there : {v : View} (t : ℕ) (body : NoteBody) {p : List ℕ} (at : IsSplit place_of v.records p) → IsView v

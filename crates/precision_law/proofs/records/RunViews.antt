@@ -25,9 +25,7 @@ use Rattle.run_law.proofs.{control.Summaries.{summary_of, verdict_of}, records.O
 use Rattle.run_law.specs.declared.judgement.Why.TheVariants as whys
 use Rattle.run_law.specs.declared.note.NoteBody.TheVariants as notes
 
--- ---- the correction points of good devices are recorded
-
--- ---- what was heard
+-- ---- the correction points of good devices are recorded: what was heard
 
 -- records of corrections and states tell nothing heard
 high_quiet : (v : View) (device : DeviceId) (u : ℕ) (h : Happening) (body : NoteBody) → time_of h ≡ u → (rank body < 6 → ⊥)
@@ -191,9 +189,7 @@ points_are_recorded steady_on v device u is le timed reaches never =
           (refl, refl, (next_cycle s v.records device u, comes AsyncClique async))
     ]
 
--- ---- the views of a run, and where the dispatches of their cycles lie
-
--- ---- views
+-- ---- the views of a run, and where the dispatches of their cycles lie: views
 
 -- the view of the records up to a time, by which the path error is this one
 abbrev pub view_of : Scenario → ℕ → Channel → ℕ → List Happening → View

@@ -11,9 +11,7 @@ use Std.{false, filter, filter-append, inl, inr, last_or, le-ltb, lt-ltb, nat_lt
 use Rattle.run_law.proofs.records.{Members.in_kept}
 use Rattle.run_law.proofs.records.{Order.{all_kept, from_earlier, has_passed, is_earlier, soon, time_before}}
 
--- ---- the records of a run in the order of their times
-
--- ---- order
+-- ---- the records of a run in the order of their times: order
 
 -- no record is of an earlier time than one before it
 abbrev pub AreSorted : List Happening → Type 0

@@ -243,9 +243,7 @@ has_leg {v} h {device} {link} {cause} clock is i body on to put =
       shows = frame_is at _ body ∙ clocked clock _ putting (with_clock put.clock departs.frame) put.there frame_l;
     }
 
--- ---- where frames come from, leg by leg; those that go up are of masters
-
--- ---- masters
+-- ---- where frames come from, leg by leg; those that go up are of masters: masters
 
 -- a master has a member number
 pub master_member : {v : View} (device : DeviceId) → IsView v → has_role v.scenario.network is_master device ≡ true

@@ -98,9 +98,7 @@ comes_over {v} {channel} {way} {t0} {r} {frame} {sender} {receiver} {link} {l} {
           omega (arith, gone.at);
     }
 
--- ---- the sound channel brings dispatches up to its compression master
-
--- ---- roles
+-- ---- the sound channel brings dispatches up to its compression master: roles
 
 -- a switch is no end system
 pub switch_ends : {v : View} (device : DeviceId) (channel : Channel) → IsView v
@@ -363,9 +361,7 @@ pub sound_frames_go_up : SoundFramesGoUp
 sound_frames_go_up v h master cm cycle is d one opens in_run =
     frames_go_up v v.channel h master cm cycle is (sound_is_whole (time_of h) is) d one opens in_run
 
--- ---- the sound channel brings compressed frames down to its devices
-
--- ---- one link down
+-- ---- the sound channel brings compressed frames down to its devices: one link down
 
 -- a frame of the sound channel has come down to the device
 record ComesDown (v : View) (channel : Channel) (first : Happening) (cm device : DeviceId) (d k : ℕ) : Type 0 where

@@ -25,9 +25,7 @@ use Std.{if◌then◌else◌, ◌+◌, ◌<◌, ◌∙◌, ◌∷◌, ◌≡◌,
 use Std.{ap, arith, bit_at, both_ways, cases_lt, false, inl, inr, le-leb, nat_le, ones_le_self, option_and_then, refl}
 use Std.{subst, suc, sym, true, ℕ}
 
--- ---- what an old device hears outside at its correction point: two masters at most
-
--- ---- lists
+-- ---- what an old device hears outside at its correction point: two masters at most: lists
 
 -- of the elements of a list one is of the first kind, or all are of the second
 one_or_all : {X : Type 0} (P Q : X → Type 0) (xs : List X) → ((x : X) → IsIn x xs → P x ⊎ Q x) → ((x : X) × IsIn x xs × P x) ⊎ ((x : X) → IsIn x xs → Q x)

@@ -30,8 +30,6 @@ use Rattle.tte_observers.specs.declared.captures.pcap.{refusal.CaptureRefusal.Ca
 use Rattle.tte_units.specs.declared.frames.pcf.Pcf.{Pcf}
 use Rattle.tte_observers.specs.declared.captures.pcap.refusal.CaptureRefusal.TheVariants as reasons
 
--- ---- the answer of `capture` for its source, packet by packet
-
 -- ---- the answer of `capture` for a source
 
 -- a header has its length
@@ -147,9 +145,7 @@ module _ (k : ℕ) (head : CaptureHead) (file : List ℕ) where
       subst (λ a. Gives a status old new) (sym (decided at old now (Err e) s within is))
       (Gives-behind (line_answer CaptureRefused (packet_refusal_line k e)) status s.puts g)
 
--- ---- the packets that stand in a file have their lines
-
--- ---- octets
+-- ---- the packets that stand in a file have their lines: octets
 
 module _ (octets : List ℕ) where
   pub has_type : HasPcfType octets → has_pcf_type octets ≡ true

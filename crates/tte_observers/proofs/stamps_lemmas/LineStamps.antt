@@ -132,11 +132,7 @@ stamp_done granule {octets} {trace} {network} {events} m fine all a is =
     all_done (stamp_lines (amount granule)) trace network events a all
     (run_alone granule network trace fine (accepted_alone (IsStampAnswer granule trace) octets network m a is))
 
--- ---- the stamps of a line, device by device, and that they are by the records of earlier times alone
-
--- ---- the stamp of one device, and those of the first devices
-
--- ---- one device
+-- ---- the stamp of one device, and those of the first devices: one device
 
 module _ (granule : ℕ) (network : Network) (world : ExactWorld) (number : ℕ) (before : List Event) (event : Event) (notes : List Note) (device : DeviceId)
     (at : IsAtLine network world number before event notes) where
@@ -347,9 +343,7 @@ stamps_stay granule network events more notes others last on run whole up =
     stamps_parts granule network others [] events more
     ∙ ap (λ (ls : List (List ℕ)). ls ++ stamps_behind granule network others events more) (same_behind granule network others notes [] events same)
 
--- ---- the order of the events of a trace
-
--- ---- of events within the hypothesis
+-- ---- the order of the events of a trace: of events within the hypothesis
 
 pub begun : (events : List Event) → All IsEventInRange events → (e : Event) → IsIn e events → pos 0 ≤ℤ e.time.0
 begun events times e i = (All-contains IsEventInRange events e times (contains events e i)).time

@@ -62,9 +62,7 @@ module _ (granule : ℕ) (network : Network) (octets : List ℕ) (events : List 
       begins more.0 a own (subst (AreAdmitted network octets) more.1 i.admitted)
       (subst (λ es. AnswersEither (stamp_lines granule) network octets es a) more.1 i.is)
 
--- ---- the observer of `stamp` puts its lines along the run
-
--- ---- an observer whose granule is given by it
+-- ---- the observer of `stamp` puts its lines along the run: an observer whose granule is given by it
 
 module _ {O : Type 0} (granule_of : O → ℕ) where
   abbrev pub stamp_sees : Sees O
@@ -125,9 +123,7 @@ stamps_along granule_of begun = record {
   );
 }
 
--- ---- what the observer of `stamp` has put, and what it puts at one more line
-
--- ---- at first
+-- ---- what the observer of `stamp` has put, and what it puts at one more line: at first
 
 pub first_stamps : (granule : ℕ) (network : Network) (told : Told) → PutsStamps granule network [] told told
 first_stamps granule network told = record { notes = []; records = records_none network; puts = PutsLines-none (shown_as told) }

@@ -54,8 +54,6 @@ use Rattle.tte_io.specs.declared.ends.Source as sources
 use Rattle.tte_traces.specs.declared.fault.TraceStop.TheVariants as ends
 use Rattle.world_drive.specs.declared.observing.Cut.TheVariants as cuts
 
--- ---- the observer of `vote` puts nothing along the run, and the votes at its end
-
 -- ---- the observer of `vote` puts nothing along the run
 
 -- what it sees
@@ -179,9 +177,7 @@ module _ {B K : Type 0} (source : sources.Ghosts B) (sink : sinks.Ghosts K) (beg
             (shown_by sink new) (writes_answer a status gives);
       }
 
--- ---- the answer of `vote` is one, and valid input is answered to its end
-
--- ---- the names
+-- ---- the answer of `vote` is one, and valid input is answered to its end: the names
 
 named_one : (network : Network) {name : List ℕ} (vl other : VlId) → IsNamed network name vl
     → IsNamed network name other → vl ≡ other
@@ -353,8 +349,6 @@ pub not_read : {PutFails : Type 0} (wanted status : Status) → (wanted ≡ Read
     → status ≢ ReadFault
 not_read wanted status not (inl is) read = not (sym is ∙ read)
 not_read wanted status not (inr w) read = let is = w.0 in cc
-
--- ---- the lines of votes, one ballot after another, and what they tell of a sender that is outvoted
 
 -- ---- the lines of votes by the places of their ballots
 

@@ -48,9 +48,7 @@ use Rattle.world_drive.specs.{Observing.Told, Sources.{GivesNext, MayGive, given
 use Rattle.world_drive.specs.{exact.{Records.{AreAllRecords, HaveEnded}, Worlds.{ExactWorld, StandsExact}}}
 use Rattle.net_plan.specs.declared.event.What.TheVariants as kinds
 
--- ---- the events of a storm given one after another
-
--- ---- the beginning
+-- ---- the events of a storm given one after another: the beginning
 
 pub storm_first : {network : Network} (seed cycles : ℕ) (it : StormEvents) → 1 ≤ cycles → cycles ≤ 100000
     → it.accepted.now ≡ network → Watches network it.watch []

@@ -51,9 +51,7 @@ use Rattle.run_law.specs.declared.note.NoteBody.TheVariants as kinds
 use Rattle.run_law.specs.declared.note.NoteBody.TheVariants as notes
 use Rattle.tte_forms.specs.declared.accepting.NoNetwork.TheVariants as causes
 
--- ---- what is seen of a correction stays as more records and events come
-
--- ---- what is up to a time
+-- ---- what is seen of a correction stays as more records and events come: what is up to a time
 
 none_up_to : (t c : ℕ) (tail : List Happening) → t < c → ((h : Happening) → IsIn h tail → c ≤ time_of h) → up_to t tail ≡ []
 none_up_to t c [] lt later = refl
@@ -195,9 +193,7 @@ module _ (s other : Scenario) (hs tail : List Happening) (c : ℕ) (past : (h : 
     ];
   }
 
--- ---- records seen one after another, and the spread of the times of corrections
-
--- ---- numbers
+-- ---- records seen one after another, and the spread of the times of corrections: numbers
 
 -- there is room for one more
 pub room_for : (network : Network) (events : List Event) (notes : List Note) (note : Note) (next : ExactWorld) (counts : Counts) → counts ≡ counts_of notes
@@ -404,9 +400,7 @@ seen_settled network events notes t world at old put seen new complete is spread
       unput = is.unput;
     }
 
--- ---- nothing was seen
-
--- ---- an accepted network has one answer under a storm
+-- ---- nothing was seen: an accepted network has one answer under a storm
 
 -- the records of a storm's run, up to its end, are one list
 pub same_records : {network : Network} {seed cycles : ℕ} {events : List Event} (notes others : List Note)
@@ -657,9 +651,7 @@ most_among {N} P each (m ∷ ns) =
     ])
     (λ x p. (m, inl refl, p)) (λ x h. (h.0, inr h.1, h.2)) (each m) (most_among P each ns)
 
--- ---- records have a greatest spread
-
--- ---- decisions
+-- ---- records have a greatest spread: decisions
 
 in_step : (s : Scenario) (hs : List Happening) (device : DeviceId) (t : ℕ) → IsDecided (IsInStep s hs device t)
 in_step s hs device t =

@@ -33,9 +33,7 @@ use Worlds.{dispatches_same, earlier_still, frame_source, of_high_rank, reaches_
 use Rattle.run_law.specs.declared.note.NoteBody.TheVariants as kinds
 use Rattle.run_law.specs.declared.note.NoteBody.TheVariants as notes
 
--- ---- what a device at the present instant has not done of what is due, it has still to do
-
--- ---- a list has a thing or not
+-- ---- what a device at the present instant has not done of what is due, it has still to do: a list has a thing or not
 
 pub contains_or : {X : Type 0} (x : X) → ((y : X) → (y ≡ x) ⊎ (y ≡ x → ⊥)) → (xs : List X) → Contains xs x ⊎ (Contains xs x → ⊥)
 contains_or {X} x same xs =
@@ -197,8 +195,6 @@ came_not {s} {js} {hs} {now} {device} w same (IsActing.dispatches link cause vl 
     had_not w
     (rw (sym (value_is (record { 0 = d.place }) cycle d.row)) at (reaches_back s hs js now device same d.reached))
     x.0 x.1 x.2 x.3
-
--- ---- acts and dispatches of devices: told apart by their cause, and none before what a world has under way
 
 -- ---- a dispatch is told apart from other losses by its cause
 

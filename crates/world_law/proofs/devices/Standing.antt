@@ -30,11 +30,7 @@ use Rattle.run_law.specs.declared.judgement.Judgement.TheVariants as judgements
 use Rattle.run_law.specs.declared.judgement.Why.TheVariants as whys
 use Rattle.run_law.specs.declared.note.NoteBody.TheVariants as notes
 
--- ---- a device stands by the records that bear on it, whatever their numbers and what stands between them
-
--- ---- a device stands by the records that bear on it, wherever others stand between them
-
--- ---- one record
+-- ---- a device stands by the records that bear on it, wherever others stand between them: one record
 
 pub moves_no_other : (device : DeviceId) (body : NoteBody) → bears_on device body ≡ false → moves device body ≡ false
 moves_no_other device (notes.Permanent other link cause point judgements.Integrates) e = e
@@ -246,9 +242,7 @@ other_comes hs ahead {device} h misses left =
     (filter-append q hs ahead ∙ (rw (sym (filter_no q hs h misses)) (sym (filter-append q (hs ++ h ∷ []) ahead))))
     left
 
--- ---- where a device stands does not rest on the numbers of the records
-
--- ---- one record
+-- ---- where a device stands does not rest on the numbers of the records: one record
 
 cycle_plain : (device : DeviceId) (next : ℕ) (h : Happening) (body : NoteBody) → cycle_after device next (plain h) body ≡ cycle_after device next h body
 cycle_plain device next h (notes.State other state cause why) = refl
@@ -428,8 +422,6 @@ told_by_others {s} {hs} gs {device} {t} {node} same left =
 pub plains_parts : (hs gs : List Happening) → plains (hs ++ gs) ≡ plains hs ++ plains gs
 plains_parts [] gs = refl
 plains_parts (h ∷ hs) gs = rw (plains_parts hs gs)
-
--- ---- how a device stands at an instant: what its machine shows, at rest, and right after it is turned on
 
 -- ---- a device that was turned on at an instant, and has done nothing at it, stands right after it as one that looks for the
 -- common time.

@@ -15,9 +15,7 @@ use Words.{time_of, true, ℕ}
 use Rattle.run_law.specs.declared.judgement.Judgement.TheVariants as judgements
 use Rattle.run_law.specs.declared.note.NoteBody.TheVariants as notes
 
--- ---- a record that does not bear on a device leaves it as it was
-
--- ---- one record
+-- ---- a record that does not bear on a device leaves it as it was: one record
 
 -- no frame of the record tells the device the time
 pub joins_no_other : (device : DeviceId) (body : NoteBody) → moves device body ≡ false → is_joined_by device body ≡ false

@@ -24,9 +24,7 @@ use Words.{standpoint, subst, suc, sym, target_by, time_of, timed, timed_arrival
 use Rattle.run_law.specs.declared.note.NoteBody.TheVariants as kinds
 use Rattle.run_law.specs.declared.steps.Arrival.TheVariants as arrivals
 
--- ---- a frame that waits is one that the network has: its `arrived` record was due
-
--- ---- what waits or is passed on
+-- ---- a frame that waits is one that the network has: its `arrived` record was due: what waits or is passed on
 
 -- the frame of an arrival that waits or is passed on
 abbrev frame_of : Arrival → Option Pcf

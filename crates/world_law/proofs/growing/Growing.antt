@@ -194,9 +194,7 @@ from_zero {network} {node} {a} zero_on w =
     let of_a : a.opened.0 ≡ w.cluster.opened = rw w.is in
     whole a.opened.0 (omega (arith, ints))
 
--- ---- where a device has acted, each task that is still due at the moment stands behind what it did
-
--- ---- the precision
+-- ---- where a device has acted, each task that is still due at the moment stands behind what it did: the precision
 
 -- it is a number, and less than the cycle
 pub whole_precision : {network : Network} → IsInRange network → network.precision.0 ≡ pos (amount network.precision)

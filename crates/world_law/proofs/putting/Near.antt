@@ -69,8 +69,6 @@ pub happening_alike : (network : Network) (known : ℕ) (js gs : List Happening)
     → cause_of note.body ≤ known → happening network js note ≡ happening network gs note
 happening_alike network known js gs note given le = grind (arith, frame_alike, frame_by, octets_alike)
 
--- ---- records that tell the same up to a source leave devices, and what is due, the same
-
 -- ---- a device on which a record does not bear stands with it as without it
 
 -- ---- each record of the longer list is one of the shorter, or the new one, and the other way round

@@ -260,9 +260,7 @@ one_by {s} {hs} {front} {now} {r} {more} {w} p last all =
     (λ is. subst (λ q. IsBefore q (behind at))
     (own_here s (hs ++ front) (time_of w) (members_in w) w.note.body at is p.mine) (before_behind at))) all
 
--- ---- a record and the change of state that follows it are put in
-
--- ---- whom the follower is of
+-- ---- a record and the change of state that follows it are put in: whom the follower is of
 
 joins_device : (device : DeviceId) (body : NoteBody) → is_joined_by device body ≡ true → device_of body ≡ Some device
 joins_device device (notes.Permanent other link cause point judgements.Integrates) e = rw (one_device device other e)

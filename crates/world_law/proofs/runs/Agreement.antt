@@ -20,9 +20,7 @@ use Words.{state_at_hearing, state_before, subst, sym, time_of, timed, timed_arr
 use Rattle.run_law.specs.declared.judgement.Why.TheVariants as whys
 use Rattle.run_law.specs.declared.note.NoteBody.TheVariants as notes
 
--- ---- what is due at a time is so in each scenario that agrees up to then
-
--- ---- the events
+-- ---- what is due at a time is so in each scenario that agrees up to then: the events
 
 setting_same : {V : Type 0} {n : Network} {f g : DeviceId → ℕ → ℕ} {events more : List Event} {t : ℕ} (u : ℕ)
     (setting : What → Option V) (initial : V) → Agree n f g events more t → u ≤ t

@@ -58,8 +58,6 @@ is_next : {N : Type 0} {place : N → List ℕ} (IsDue : List N → N → Type 0
     → NoneDueBefore place IsDue mark ns (place x) → IsNextOf place IsDue mark ns x
 is_next IsDue x run not due none = grind (arith, before_later, none_due)
 
--- ---- a world and its run: what it gives next is the next record, and all that is due has a source
-
 -- ---- a run goes on by the record of an event
 
 pub agree_back : {n : Network} {f g : DeviceId → ℕ → ℕ} {events more : List Event} {t : ℕ}

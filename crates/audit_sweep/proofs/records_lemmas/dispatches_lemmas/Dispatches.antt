@@ -39,9 +39,7 @@ use Rattle.tte_units.{proofs.general_lemmas.{Lists.in_all, Naturals.below_next},
 use Rattle.audit_sweep.specs.declared.records.kept.Kept.TheVariants as kepts
 use Rattle.run_law.specs.declared.note.NoteBody.TheVariants as notes
 
--- ---- when a device has a frame at hand
-
--- ---- the last that passes has passed
+-- ---- when a device has a frame at hand: the last that passes has passed
 
 last_from : {X : Type 0} (p : X → Bool) (o : Option X) (xs : List X) (y : X) → ((x : X) → o ≡ Some x → p x ≡ true) → last_or o (filter p xs) ≡ Some y
     → p y ≡ true
@@ -187,9 +185,7 @@ module _ (s : Scenario) (hs : List Happening) (device : DeviceId) (t : ℕ) (lin
   passed_none found is some none (vl, cycle, does) =
       let never = sym none ∙ passed_is kept found is some does in absurd cc
 
--- ---- what is dispatched by the rows of a link
-
--- ---- lists
+-- ---- what is dispatched by the rows of a link: lists
 
 -- what is in a list has a place in it
 pub record IsAtPlace {X : Type 0} (xs : List X) (d x : X) : Type 0 where
@@ -262,9 +258,7 @@ none_in_all P xs d n all none x there holds =
     let within = at.within in
     none at.place (omega (arith, within, all)) within (subst P (sym at.is) holds)
 
--- ---- what a device dispatches as the sender of a virtual link
-
--- ---- a crossing at a time
+-- ---- what a device dispatches as the sender of a virtual link: a crossing at a time
 
 module _ (reading : ℕ → ℕ) (shown : Shown) (series : Series) where
   crossed_then : (t : ℕ) → NoneCrossed reading shown series (t - 1) (t + 1) → CrossesSome reading shown series t → ⊥
@@ -365,9 +359,7 @@ some_sent {s} {hs} {device} {t} {link} {rows} are up found = (to, from)
       };
     }
 
--- ---- the rows of each link, as they are found one after another
-
--- ---- no rows
+-- ---- the rows of each link, as they are found one after another: no rows
 
 abbrev pub items_at : List (Vec LeavingRow Global) → ℕ → List LeavingRow
 items_at lists i = option_map_or (λ (v : Vec LeavingRow Global). v.items) (slice_get lists i) []
@@ -457,9 +449,7 @@ pub all_exits : {network : Network} {n : ℕ} {exits : Exits} → length network
     → AreExits network exits
 all_exits all are link = grind (arith, slice_get_within)
 
--- ---- the cycles in which the virtual link of a row occurs
-
--- ---- the cycles
+-- ---- the cycles in which the virtual link of a row occurs: the cycles
 
 not_none : (phase : ℕ) → (phase == 0) ≡ false → 1 ≤ phase
 not_none zero e = absurd (false≢true (sym e ∙ eq-eqb 0 0 refl))

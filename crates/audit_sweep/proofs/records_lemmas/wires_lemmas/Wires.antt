@@ -174,9 +174,7 @@ launched_put s h t (notes.Event line (events.Send link octets)) l shown e =
     )
 launched_put s h t other l shown e = absurd cc
 
--- ---- where and when what a record puts on a wire arrives
-
--- ---- what arrives is told
+-- ---- where and when what a record puts on a wire arrives: what arrives is told
 
 module _ {s : Scenario} {h : Happening} (r : KeptRecord) {device : DeviceId} {link : LinkId} {t : ℕ}
     {signal : Signal} (shown : ShowsByCause s.network h) (k : r ≡ record_of h)
@@ -397,9 +395,7 @@ module _ (s : Scenario) (hs : List Happening) (device : DeviceId) (t : ℕ) (lin
       → is ≡ arrival_of s hs device t link cause signal
   row_becomes cause signal network at row length last is n a l x f = grind arith
 
--- ---- the devices that give frames to links
-
--- ---- tests
+-- ---- the devices that give frames to links: tests
 
 alike_test : (d e : DeviceId) → d ≡ e → (d.0 == e.0) ≡ true
 alike_test d e s = let n : d.0 ≡ e.0 = ap (λ (x : DeviceId). x.0) s in grind (arith, n)
@@ -499,9 +495,7 @@ module _ (network : Network) where
   given_within (notes.Arrived relay by cause clock) device link g = passes_within device by link g.1.on
   given_within other device link g = absurd g
 
--- ---- when control frames leave, and what becomes of them
-
--- ---- what is kept tells it
+-- ---- when control frames leave, and what becomes of them: what is kept tells it
 
 module _ (s : Scenario) (h : Happening) (r : KeptRecord) (device : DeviceId) (link : LinkId)
     (k : r ≡ record_of h) where

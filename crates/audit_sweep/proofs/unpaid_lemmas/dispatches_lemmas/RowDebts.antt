@@ -38,9 +38,7 @@ use Rattle.tte_units.{proofs.general_lemmas.Lists.in_all, specs.Amount.amount}
 use Rattle.audit_law.specs.law.Owed as debts
 use Rattle.run_law.specs.declared.note.NoteBody.TheVariants as notes
 
--- ---- which frames a row's device can have at hand
-
--- ---- the two cases of an answer
+-- ---- which frames a row's device can have at hand: the two cases of an answer
 
 pub when_true : (b : Bool) (A B : Type 0) → b ≡ true → MatchBool b A B → A
 when_true b A B is h = subst (λ (x : Bool). MatchBool x A B) is h
@@ -91,9 +89,7 @@ module _ (s : Scenario) (hs : List Happening) (link : LinkId) (row : LeavingRow)
             → IsTold s hs link row t (record { cause = k; cycle = cycle })) same told hand
       ]
 
--- ---- what holds of a row of a network in range, and of the local values at which its frames leave
-
--- ---- the row
+-- ---- what holds of a row of a network in range, and of the local values at which its frames leave: the row
 
 pub row_fit : {network : Network} {link : LinkId} {row : LeavingRow} → IsInRange network → IsRowOn network link row
     → IsRowFit row
@@ -164,9 +160,7 @@ pub reached_later : {s : Scenario} {hs : List Happening} {device : DeviceId} {v 
 reached_later zero reaches = grind (arith, changed_early, ints)
 reached_later (suc t) reaches = omega arith
 
--- ---- the dispatches by a row, and by the rows of a link
-
--- ---- a row
+-- ---- the dispatches by a row, and by the rows of a link: a row
 
 -- what is owed by a row of the link is dispatched
 owes_dispatches : {s : Scenario} {hs : List Happening} {link : LinkId} {row : LeavingRow} {t : ℕ} {frame : RowFrame}

@@ -36,9 +36,7 @@ use Rattle.tte_units.{proofs.{Means.mean_of-floor, general_lemmas.{Lists.some_at
 use Rattle.tte_units.{specs.Mean.mean_of}
 use Rattle.audit_law.specs.law.Owed as debts
 
--- ---- emissions come in the order in which their clusters open
-
--- ---- the middle of points
+-- ---- emissions come in the order in which their clusters open: the middle of points
 
 abbrev LieIn : ℤ → ℤ → List ℤ → Type 0
 LieIn low high ps = AllByRecursion (λ q. (low ≤ℤ q) × (q ≤ℤ high)) ps

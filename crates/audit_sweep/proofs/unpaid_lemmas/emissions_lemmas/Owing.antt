@@ -27,9 +27,7 @@ use Rattle.run_law.specs.records.{Ranks.{members_in, place_at, place_of, sign}}
 use Rattle.tte_units.{proofs.general_lemmas.Lists.got_within, specs.{Amount.amount, declared.units.Units.Units}}
 use Rattle.run_law.specs.declared.note.NoteBody.TheVariants as notes
 
--- ---- what a compression master owes is of a cluster that is kept
-
--- ---- lists
+-- ---- what a compression master owes is of a cluster that is kept: lists
 
 contained : {X Y : Type 0} (f : X → Y) (xs : List X) (x : X) → Contains xs x → (k : ℕ) × (slice_get (map f xs) k ≡ Some (f x))
 contained f [] x at = absurd (in_none x at)

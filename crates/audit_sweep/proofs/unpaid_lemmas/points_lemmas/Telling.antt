@@ -117,8 +117,6 @@ heard_front s hs device t at heard shown founded shows told cycle next =
     told (front_after s {hs = hs} device t cycle at founded next)
     (subst (λ gs. Shows s gs device shown) (front_is at) shows)
 
--- ---- which records say that a device sends, and which tell of its correction points
-
 -- ---- which records say that a device sends
 
 -- what stands at the place of a sending is it

@@ -32,9 +32,7 @@ use Rattle.run_law.specs.{scenario.Ways.{delay_at, is_cut, wire_of, wire_set}}
 use Rattle.schedule_tables.specs.{Windows.arrival_of, declared.rule.Rule.TheVariants.VlIdsDiffer}
 use Rattle.run_law.specs.declared.note.NoteBody.TheVariants as notes
 
--- ---- when frames of the schedule arrive
-
--- ---- wire delays
+-- ---- when frames of the schedule arrive: wire delays
 
 -- between the nominal delay and that with the jitter
 abbrev LiesOn : Link → ℕ → Type 0
@@ -122,9 +120,7 @@ arrivals_are_in_windows v place cycle u entry receiver is row arrives timed =
       not_behind = omega (arith, ints, is_far.place_is, far.1, shows.1);
     }
 
--- ---- where the octets of a dispatch come from, and how many they are
-
--- ---- the frame that a sender makes
+-- ---- where the octets of a dispatch come from, and how many they are: the frame that a sender makes
 
 -- octets that fit are padded to the size
 padded_length : (size : ℕ) (octets : List ℕ) → length octets ≤ size → length (padded size octets) ≡ size
@@ -250,9 +246,7 @@ dispatch_shows {v} {h} {device} {link} {cause} {vl} {cycle} is fit d =
           ap (field 4 2) passed.frame ∙ sym taking.by_row.id_is ∙ ap (λ x. x.id) vls
     ]
 
--- ---- where the frames come from that devices take
-
--- ---- spans
+-- ---- where the frames come from that devices take: spans
 
 pub spans_are_apart : SpansAreApart
 spans_are_apart v n zero t u is lt one two = absurd (omega arith)

@@ -41,9 +41,7 @@ use Rattle.run_law.specs.declared.judgement.Judgement.TheVariants as judgements
 use Rattle.run_law.specs.declared.judgement.Why.TheVariants as whys
 use Rattle.run_law.specs.declared.note.NoteBody.TheVariants as notes
 
--- ---- a frame of the schedule is delivered once
-
--- ---- rows into end systems
+-- ---- a frame of the schedule is delivered once: rows into end systems
 
 -- what enters an end system comes from a switch
 pub comes_from_switch : Brings → {v : View} {place : ℕ} {entry : Entry} → IsView v
@@ -290,9 +288,7 @@ synchronised_before {v} {device} n {t} is within reaches timed =
     keeps_then v device found h.note.body (subst (HasNoCorrection v device) here none) found.due.cause)
     (state_after v.scenario (earlier t v.records) device) (rw split at whole)
 
--- ---- each frame that is owed is delivered
-
--- ---- what is owed, in the view of the run up to the end of the last window
+-- ---- each frame that is owed is delivered: what is owed, in the view of the run up to the end of the last window
 
 -- a frame of the virtual link is owed to the device
 record IsOwedIn (v : View) (vl : VlId) (of_vl : VirtualLink) (cycle : ℕ) (device : DeviceId) (from last : ℕ) : Type 0 where

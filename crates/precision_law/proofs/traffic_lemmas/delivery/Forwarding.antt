@@ -47,9 +47,7 @@ use Rattle.tte_units.proofs.general_lemmas.{Integers.not_below, Lists.found_pass
 use Rattle.run_law.specs.declared.note.NoteBody.TheVariants as notes
 use Rattle.run_law.specs.declared.steps.Arrival.TheVariants as arrivals
 
--- ---- the row by which a frame of the schedule enters a device
-
--- ---- the row that is found
+-- ---- the row by which a frame of the schedule enters a device: the row that is found
 
 -- where an element passes the test, one is found
 pub found_some : {X : Type 0} (p : X → Bool) (xs : List X) (i : ℕ) (x : X) → slice_get xs i ≡ Some x → p x ≡ true → (y : X) × (find p xs ≡ Some y)
@@ -146,11 +144,7 @@ row_sound network at entry size last whole occurs from to anew =
     neither true y e f = absurd cc
     neither false y e f = f
 
--- ---- each row of a virtual link dispatches its frame, and a synchronised device that it comes to takes it
-
--- ---- a dispatched frame that comes to a synchronised device is taken, or one was taken before
-
--- ---- ways
+-- ---- a dispatched frame that comes to a synchronised device is taken, or one was taken before: ways
 
 -- a device sends on the way on which it is the source
 way_from_by : (o : Option Link) (l : Link) (way : Way) (device : DeviceId) → o ≡ Some l → l.child ≢ l.parent → source_by way l ≡ device

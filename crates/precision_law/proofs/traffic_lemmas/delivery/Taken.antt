@@ -24,9 +24,7 @@ use Rattle.run_law.specs.control.{Wires.{Arrives, Launch, signal_of}}
 use Rattle.run_law.specs.declared.note.NoteBody.TheVariants as notes
 use Rattle.run_law.specs.declared.steps.Arrival.TheVariants as arrivals
 
--- ---- the records by which devices take frames of the schedule
-
--- ---- ways
+-- ---- the records by which devices take frames of the schedule: ways
 
 -- the way to the device that receives on it
 way_by : (o : Option Link) (way : Way) (device : DeviceId) → ((l : Link) → o ≡ Some l → l.child ≢ l.parent) → option_map (target_by way) o ≡ Some device

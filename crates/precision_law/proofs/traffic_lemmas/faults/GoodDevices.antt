@@ -114,9 +114,7 @@ firm_up_to never {v} {device} next (suc t) is kept firm on le =
 pub sound_switches_keep_time : BringsChannels → TimedAreNotTurnedOn → SoundSwitchesKeepTime
 sound_switches_keep_time channels never v n before device is switch = grind (arith, firm_up_to)
 
--- ---- a device that has the common time is not turned on
-
--- ---- events that turn devices on
+-- ---- a device that has the common time is not turned on: events that turn devices on
 
 -- what is in a list is somewhere there
 to_any : {X : Type 0} (P : X → Type 0) (xs : List X) (x : X) → IsIn x xs → P x → Any P xs
@@ -285,9 +283,7 @@ timed_are_not_turned_on v device t is timed =
     apart Joining off e = cc
     apart Synchronised off e = cc
 
--- ---- only a broken device puts octets of its own on a link
-
--- ---- the order of events
+-- ---- only a broken device puts octets of its own on a link: the order of events
 
 -- each event of a list is no later than those behind it
 abbrev pub AreSorted : List Event → Type 0

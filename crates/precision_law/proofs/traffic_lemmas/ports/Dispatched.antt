@@ -31,9 +31,7 @@ use Rattle.schedule_tables.specs.{declared.rule.Rule.TheVariants.Senders}
 use Rattle.sync_state.proofs.VerdictLemmas.{up_state}
 use Rattle.run_law.specs.declared.note.NoteBody.TheVariants as notes
 
--- ---- the two ends of a link, and the ways on which a device sends by it
-
--- ---- the ends of a link
+-- ---- the two ends of a link, and the ways on which a device sends by it: the ends of a link
 
 -- the ends of a link are two devices
 pub ends_differ : (network : Network) (link : LinkId) (l : Link) → KeepsRules network → link_at network link ≡ Some l → l.child ≢ l.parent
@@ -63,11 +61,7 @@ same_way : {network : Network} {place other : ℕ} {entry second : Entry} → Ke
     → source_of entry ≡ source_of second → entry.row.way ≡ second.row.way
 same_way keeps one two link source = grind (arith, same_some, link_at, one_way, ends_differ, source_by)
 
--- ---- dispatches by the schedule: one of a row in a cycle, whose frame meets no other on a port
-
--- ---- the records of dispatches by the schedule
-
--- ---- what the earlier records fix
+-- ---- the records of dispatches by the schedule: what the earlier records fix
 
 -- the length of a cycle
 pub cycle_is : {v : View} → IsView v → v.sizes.cycle ≡ amount v.scenario.network.cycle
@@ -145,9 +139,7 @@ one_clock brings {v} {n} {t} {u} one two {device} is timed le =
       since = rw (settings_stay v device t u is le early);
     }
 
--- ---- a frame of the schedule and a control frame do not meet on a port
-
--- ---- hulls
+-- ---- a frame of the schedule and a control frame do not meet on a port: hulls
 
 -- it ends not before it begins
 pub hull_proper : {v : View} (n : ℕ) (hull : Hull) → IsView v → hull_of v n ≡ Some hull → hull.least ≤ℤ hull.greatest
@@ -324,9 +316,7 @@ leavings_stand_apart brings away v h g device link cause from clock vl cycle is 
         given_apart brings away cycle is good switch d (record { there = there; gives = gives })
         (time_of g) begun over
 
--- ---- one row has one dispatch in a cycle
-
--- ---- records at one place
+-- ---- one row has one dispatch in a cycle: records at one place
 
 -- of records in the order of their places two at one place are one
 same_in_places : (hs : List Happening) (h g : Happening) → AreInPlaces hs → IsIn h hs → IsIn g hs → place_of h ≡ place_of g → h ≡ g

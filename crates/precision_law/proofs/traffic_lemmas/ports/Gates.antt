@@ -51,9 +51,7 @@ use Rattle.run_law.specs.declared.judgement.Why.TheVariants as whys
 use Rattle.run_law.specs.declared.note.NoteBody.TheVariants as notes
 use Rattle.run_law.specs.declared.steps.Ripe.TheVariants as ripe
 
--- ---- no frame meets a frame of the schedule on a port
-
--- ---- what occupies a port
+-- ---- no frame meets a frame of the schedule on a port: what occupies a port
 
 -- a frame of the schedule occupies the port at the time
 record IsTtThen (s : Scenario) (h : Happening) (device : DeviceId) (link : LinkId) (t : ℕ) : Type 0 where
@@ -133,11 +131,7 @@ ports_stay_apart brings channels away s mark ns until run h g device link t i j 
           ]
     ]
 
--- ---- when a synchronised master's frames pass gates, and a switch gives no control frame to a link
-
--- ---- what a synchronised compression master sends was opened by a frame that passed its gate
-
--- ---- the opener's record
+-- ---- what a synchronised compression master sends was opened by a frame that passed its gate: the opener's record
 
 -- the record of a frame that was permanent at the device gives this point
 record IsPermanentRecord (device : DeviceId) (h : Happening) (reading : ℤ) : Type 0 where

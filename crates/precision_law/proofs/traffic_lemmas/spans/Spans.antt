@@ -35,9 +35,7 @@ use Rattle.run_law.specs.declared.judgement.Why.TheVariants as whys
 use Rattle.run_law.specs.declared.note.NoteBody.TheVariants as notes
 use Rattle.run_law.specs.declared.steps.Ripe.TheVariants as ripe
 
--- ---- the clock of a synchronised device was last set by a correction
-
--- ---- the earlier records
+-- ---- the clock of a synchronised device was last set by a correction: the earlier records
 
 -- the records of earlier times are founded
 pub earlier_founded : {v : View} (t : ℕ) → IsView v → IsFounded place_of (IsDue v.scenario) (earlier t v.records)
@@ -117,9 +115,7 @@ pub last_is_correction : {v : View} (device : DeviceId) (t : ℕ) (h : Happening
 last_is_correction {v} device t h is timed last =
     is_correction_by device h.note.body (setting_is v device t h last).sets (not_joined device t h is timed last)
 
--- ---- the span of a cycle: what clocks show there, and when they reach a value of the schedule
-
--- ---- devices with the time
+-- ---- the span of a cycle: what clocks show there, and when they reach a value of the schedule: devices with the time
 
 -- a synchronised device has the common time
 pub has_time_at : {v : View} {device : DeviceId} {t : ℕ} → IsTimedAt v device t → HasTimeAt v device t
@@ -261,9 +257,7 @@ values_are_reached_in_spans brings v n value t device is timed in_run begun with
           ))
     ]))
 
--- ---- a synchronised device stays so in the span of a cycle
-
--- ---- who joins
+-- ---- a synchronised device stays so in the span of a cycle: who joins
 
 -- the judgement that is an integration
 pub ripe_integrates : (j : Judgement) → ripe.Integrates ≡ ripe_as j → Integrates ≡ j
@@ -550,9 +544,7 @@ values_are_reached brings never v (suc c) value before device is timed begun wit
     reached_by brings never c (unsigned_abs last) (unsigned_abs end) before is timed begun within in_run
     (whole last (omega (arith, ints, behind.0, behind.1))) (whole end (omega (arith, ints, behind.0, behind.1)))
 
--- ---- since when a synchronised device has been so
-
--- ---- backwards
+-- ---- since when a synchronised device has been so: backwards
 
 -- the record leaves no device synchronised that was not
 abbrev pub Keeps : DeviceId → NoteBody → Type 0

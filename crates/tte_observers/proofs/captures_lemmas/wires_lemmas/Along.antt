@@ -43,11 +43,7 @@ use Rattle.tte_io.specs.declared.ends.Sink as sinks
 use Rattle.tte_io.specs.declared.ends.Source as sources
 use Rattle.tte_traces.specs.declared.fault.TraceStop.TheVariants as ends
 
--- ---- the capture of a way along the run: its header, the packets of each front, and how it ends
-
--- ---- the capture of a run begins with the packets of the settled records of each front of it
-
--- ---- a front of a run
+-- ---- the capture of a run begins with the packets of the settled records of each front of it: a front of a run
 
 -- the run goes on from these records to those, as further events befall the network, which come behind the first records
 pub record GoesOnTo (network : Network) (events : List Event) (notes : List Note) (all : List Event) (others : List Note) : Type 0 where
@@ -439,9 +435,7 @@ module _ {B K : Type 0} (source : sources.Ghosts B) (sink : sinks.Ghosts K) (beg
             (writes_answer (record { status = wanted; lines = sent_packets it.cut it.time it.sends.items }) status g);
       }
 
--- ---- the answer of `wire` for a name
-
--- ---- a name
+-- ---- the answer of `wire` for a name: a name
 
 module _ (link : LinkId) (way : Way) (octets : List ℕ) {network : Network} (range : IsInRange network) where
   -- there is an answer for each link and each trace

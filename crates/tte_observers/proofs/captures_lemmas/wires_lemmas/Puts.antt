@@ -231,9 +231,7 @@ module _ {K : Type 0} (sink : Ghosts K) (time : ℕ) (old : Capture) where
       let p = lines_put new before after passes in
       subst (λ (e : Cut). PutsFurther {T = Unit {0}} sink (Err e) before after) (sym err) (memory_further sink p.0 (tt {0}) before after p.1)
 
--- ---- the packet of a frame that a record put on a wire, from what a world shows of it
-
--- ---- the record stands last
+-- ---- the packet of a frame that a record put on a wire, from what a world shows of it: the record stands last
 
 last_at : {X : Type 0} (xs : List X) (x : X) → slice_get (xs ++ x ∷ []) (length xs) ≡ Some x
 last_at [] x = refl

@@ -80,9 +80,7 @@ of_locals granule network line device (Some l) shown =
     ∙ sym (ap (λ (b : Bool). if b then Some (stamp_of granule (shown_at network line device)) else None)
     (ready_stamps network line shown.0))
 
--- ---- what the events of a run tell at a line of its trace
-
--- ---- the times of events
+-- ---- what the events of a run tell at a line of its trace: the times of events
 
 -- none is before time 0
 begun : (s : Scenario) → IsLawful s → (event : Event) → IsIn event s.events → pos 0 ≤ℤ event.time.0
@@ -144,9 +142,7 @@ module _ (s : Scenario) (mark : List ℕ) (hs : List Happening) (line : Line) (l
         | inr after ↦ (let le = later found.0 after in absurd (omega (arith, le, early, lt)))
       ])
 
--- ---- what a device shows that stamps a line, and what it showed just before
-
--- ---- at time 0
+-- ---- what a device shows that stamps a line, and what it showed just before: at time 0
 
 -- a start is from 0 to settled
 start_within : {s : Scenario} (device : DeviceId) (u : Units) → IsLawful s → start_of s.network device ≡ Some u
@@ -243,9 +239,7 @@ are_small path range room =
     let start = range.settled.least in
     record { step = omega (arith, ints, small.0, least); start = omega (arith, ints, small.1, least, start); error = omega (arith, ints, small.2, least) }
 
--- ---- stamps of one line agree, and stamps that are far apart tell the order of their lines
-
--- ---- a run
+-- ---- stamps of one line agree, and stamps that are far apart tell the order of their lines: a run
 
 -- its path error, against which all is little
 record HasSizes (s : Scenario) : Type 0 where

@@ -25,9 +25,7 @@ use Keeping.{none_cast, seat_payload, seat_with, seats_at, seats_with, with_cast
 use Rattle.tte_units.proofs.general_lemmas.{Bools.{both_left, both_right}, Options.{more_by, same_by}}
 use Rattle.run_law.specs.declared.note.NoteBody.TheVariants as notes
 
--- ---- the seats of a ballot behind a further record
-
--- ---- what is taken by a record
+-- ---- the seats of a ballot behind a further record: what is taken by a record
 
 none_taken : (body : NoteBody) (vl : VlId) (cycle : ℕ) (device : DeviceId) → delivery_in body ≡ None → is_delivery vl cycle device body ≡ false
 none_taken (notes.Delivered other link cause of_vl of_cycle) vl cycle device e = absurd cc
@@ -86,9 +84,7 @@ seat_cast hs h vl of_vl cycle device number None e last is = by (vl.0 == of_vl.0
     by true t = (h, numbered_next hs [] h number last, last_by hs h vl cycle device true t is)
     by false t = last_by hs h vl cycle device false t is
 
--- ---- the ballots of a run behind a further record
-
--- ---- a ballot that the record is not of
+-- ---- the ballots of a run behind a further record: a ballot that the record is not of
 
 -- the record is no delivery for a seat of the ballot
 record IsApart (h : Happening) (voters : Voters) (cycle : ℕ) (device : DeviceId) : Type 0 where
@@ -298,9 +294,7 @@ more_taken (Ok x) own behind {was} n same holds number keeps step =
     keeps step
 more_taken (Err e) own behind n same holds number keeps step = tt {0}
 
--- ---- the first of the ballots that are kept is given up
-
--- ---- all ballots
+-- ---- the first of the ballots that are kept is given up: all ballots
 
 -- ballots that are held are held from the first place on
 pub held_from_first : {network : Network} {voters : Voters} {ns : List Note} {votes : KeptVotes}

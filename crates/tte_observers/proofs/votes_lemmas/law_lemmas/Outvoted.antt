@@ -36,9 +36,7 @@ find_one {X} p (y ∷ xs) x at hit one =
     by true e rest = ap (λ (b : Bool). cond b (Some y) (find p xs)) e ∙ ap Some (one y (inl refl) e)
     by false e rest = ap (λ (b : Bool). cond b (Some y) (find p xs)) e ∙ rest (behind e at)
 
--- ---- what a device takes of a frame that is owed to it
-
--- ---- the payload that a sender makes
+-- ---- what a device takes of a frame that is owed to it: the payload that a sender makes
 
 -- behind the first 14 octets of the frame stand the cycle and zeros
 pub payload_made : (network : Network) (vl : VirtualLink) (cycle : ℕ) → payload_in (tt_frame_by network vl cycle) ≡ sent_payload vl cycle

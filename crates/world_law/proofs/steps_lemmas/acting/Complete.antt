@@ -67,9 +67,7 @@ module _ (s : Scenario) (js : List Happening) (now : ℕ) (device : DeviceId) (t
   point_cause_of (kinds.Lost other link cause) (inr (inr own)) c = absurd (grind arith)
   point_cause_of other own c = absurd (grind arith)
 
--- ---- what is done, or is not due, is told
-
--- ---- what tells of one dispatch stands at one place
+-- ---- what is done, or is not due, is told: what tells of one dispatch stands at one place
 
 pub same_told : (s : Scenario) {now : ℕ} (device : DeviceId) (link : LinkId) (cause : ℕ) (vl : VlId) (cycle : ℕ)
     (x y : Happening)

@@ -28,9 +28,7 @@ use Work.{IsAtWork, IsPutAs, all_earlier, does, goes_on, left_on, put_now, reach
 use Rattle.run_law.specs.declared.note.NoteBody.TheVariants as kinds
 use Rattle.run_law.specs.declared.steps.Act.TheVariants as acts
 
--- ---- a device dispatches a row's frame: its record, and how the device stands then
-
--- ---- it is a dispatch
+-- ---- a device dispatches a row's frame: its record, and how the device stands then: it is a dispatch
 
 -- its cause is one of the records
 pub hand_within : (s : Scenario) {hs : List Happening} {device : DeviceId} (entry : Entry) {t cause cycle : ℕ}

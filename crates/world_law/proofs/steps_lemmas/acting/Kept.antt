@@ -380,9 +380,7 @@ acts_wait {stands} {s} {hs} {coming} {frontier} {now} {device} {machine} k task 
     (up.1 task b (task_acts task law k.taken (at_work k later of past
     late up.0) pending due))
 
--- ---- a device that has acted is kept, as its new node says
-
--- ---- it may be called, and is ready again
+-- ---- a device that has acted is kept, as its new node says: it may be called, and is ready again
 
 pub may_act_now : (s : Scenario) (device : DeviceId) (node : Node) (now : ℕ) → IsReadyAt (s.reading device) s.network device node now
     → IsSteady (s.reading device) (amount s.network.precision) → now ≤ 2 ^ 60 → MayCall s.network device node (moment_of s device now) acting

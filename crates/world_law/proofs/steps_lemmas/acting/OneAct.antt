@@ -342,9 +342,7 @@ one_goes_by {C} {M} {reading} {stands} {s} {world} {notes} {device} {machine} {a
     held_aside s hs front back w other x.0 refl (frames_aside s hs front back w other x.0 x.1)
     (rw p.parts at held))))
 
--- ---- a device sends the frame of a cycle
-
--- ---- a record put in
+-- ---- a device sends the frame of a cycle: a record put in
 
 pub as_put : (now : ℕ) (w : Happening) → time_of w ≡ now → 4 ≤ rank w.note.body → IsPutAs now w
 as_put now w at late = record { at = at; late = late }
@@ -592,9 +590,7 @@ act_goes_by {C} {M} {stands} {s} {world} {notes} {old} {device} {machine} {after
     (bare_act s.network device on.node (moment_of s device now) act then_ on.did.1 on.st.bare) turned it.phase on.st.reach on.st.calm.falls
     (λ task b a. elim (done_or then_ task) [ inl did ↦ did | inr not ↦ absurd (none_due task (due_of_act task a not) b) ]) worked)
 
--- ---- the steps by which a compression master emits the frame of a collection, and does not join by it
-
--- ---- judgements
+-- ---- the steps by which a compression master emits the frame of a collection, and does not join by it: judgements
 
 judged_back : (v : Judgement) → judged_as (ripe_as v) ≡ v
 judged_back judgements.Opened = refl

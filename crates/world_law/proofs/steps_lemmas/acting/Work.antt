@@ -291,9 +291,7 @@ emits {s} {hs} {coming} front back {now} {device} {node} sent w e pending due =
       heard = grind (arith, heard_as, plan_of, observation_window, state_at_hearing);
     }
 
--- ---- a device that has acted, and has more to do at the instant, is at work still
-
--- ---- the record is put in
+-- ---- a device that has acted, and has more to do at the instant, is at work still: the record is put in
 
 -- it is of the instant, and stands behind the frames that are heard, or is the device's own
 pub record IsPutAs (now : ℕ) (w : Happening) : Type 0 where

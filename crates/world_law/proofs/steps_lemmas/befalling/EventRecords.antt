@@ -22,8 +22,6 @@ use Rattle.net_plan.specs.declared.event.What.TheVariants as events
 use Rattle.run_law.specs.declared.note.NoteBody.TheVariants as kinds
 use Rattle.run_law.specs.declared.note.NoteBody.TheVariants as notes
 
--- ---- events and the records of what comes of them: what code sees of them, and what they leave as it was
-
 -- ---- the record of what comes of an event leaves a device as it was, but for its state
 
 -- is it the record that a device was turned on, or that what was sent met a cut way?
@@ -144,9 +142,7 @@ module _ (s : Scenario) (hs zs : List Happening) (device : DeviceId) (now : ℕ)
   adjustment_unmoved =
       search (arith, fold_up, cycle_in, keeps_adjustment)
 
--- ---- the events of a run and their records
-
--- ---- a test of a list
+-- ---- the events of a run and their records: a test of a list
 
 any_from : {X : Type 0} (p : X → Bool) (xs : List X) → list_any p xs ≡ true → (i : ℕ) × (x : X) × (slice_get xs i ≡ Some x) × (p x ≡ true)
 any_from p [] e = absurd cc

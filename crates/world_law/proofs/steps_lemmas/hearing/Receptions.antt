@@ -34,11 +34,7 @@ use Rattle.run_law.specs.declared.note.NoteBody.TheVariants as kinds
 use Rattle.run_law.specs.declared.note.NoteBody.TheVariants as notes
 use Rattle.run_law.specs.declared.steps.Arrival.TheVariants as arrivals
 
--- ---- the one record of what becomes of a frame that arrives, and how it is put in
-
--- ---- what becomes of a frame that arrives: the one record of it
-
--- ---- the body of the record
+-- ---- what becomes of a frame that arrives: the one record of it: the body of the record
 
 body_cause : (device : DeviceId) (link : LinkId) (cause : ℕ) (is : Arrival) → cause_of (arrival_body device link cause is) ≡ cause
 body_cause device link cause (arrivals.Dropped reason) = refl
@@ -213,9 +209,7 @@ own_there s js e is m (kinds.Accepted device link cause vl cycle) w place o = in
 own_there s js e is m (kinds.Delivered device link cause vl cycle) w place o = inl (o ∙ sym (ap (ranked 2) place))
 own_there s js e is m other w place o = grind (arith, other_kind, second)
 
--- ---- the record of an arrival is put in among those to come
-
--- ---- no record to come is from the place of the arrival on
+-- ---- the record of an arrival is put in among those to come: no record to come is from the place of the arrival on
 
 -- the own source of what is to come is before the arrival
 never_from : {s : Scenario} {hs coming : List Happening} {now : ℕ} {more : List ℕ}
@@ -433,11 +427,7 @@ left_took : {s : Scenario} {hs : List Happening} {device : DeviceId} {t : ℕ} {
     (vl : VlId) (cycle : ℕ) → IsLeft s hs device t node → IsLeft s hs device t (took moment vl cycle node)
 left_took moment vl cycle left = grind arith
 
--- ---- what a device takes: how it judges a frame that arrives, and what it took last
-
--- ---- a device judges a frame that arrives as the records say
-
--- ---- where the device stands
+-- ---- a device judges a frame that arrives as the records say: where the device stands
 
 -- the moment is that of the device at the time
 pub record IsMomentOf (s : Scenario) (device : DeviceId) (t : ℕ) (moment : Moment) : Type 0 where
@@ -490,9 +480,7 @@ out_drops network device node moment link (control frame) e =
 out_drops network device node moment link (timed octets) e =
     timed_off network device link (standpoint_at node moment) octets (last_taken_by node) (no_part (not (is_off node.standing.state)) node.broken e)
 
--- ---- a control frame leaves the node as it is
-
--- ---- what a device took last, by its node and by the records
+-- ---- a control frame leaves the node as it is: what a device took last, by its node and by the records
 
 -- did the device take a frame of the virtual link by the record?
 abbrev pub is_taking : DeviceId → VlId → NoteBody → Bool

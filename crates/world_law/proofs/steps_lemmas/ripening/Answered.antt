@@ -45,9 +45,7 @@ use Rattle.run_law.specs.declared.judgement.Why.TheVariants as whys
 use Rattle.run_law.specs.declared.note.NoteBody.TheVariants as kinds
 use Rattle.run_law.specs.declared.steps.Ripe.TheVariants as ripe
 
--- ---- the device of a frame that is permanent, and tells it no time, is kept
-
--- ---- where it stands before the call
+-- ---- the device of a frame that is permanent, and tells it no time, is kept: where it stands before the call
 
 -- a device that stands at this instant: it has not acted, or a frame has told it the time
 pub record IsYet (s : Scenario) (hs coming : List Happening) (now up : ℕ) (e : Waiting) : Type 0 where
@@ -362,8 +360,6 @@ next_by_role {stands} {s} {hs} {coming} {now} {e} {machine} w verdict r k hears 
       turned = λ frontier2 it. turned_aside s hs [] coming w device it (rw same_earlier);
       frames = frames_placed s hs [] coming w device (λ z. ap (taken_in device z) body) (λ h i. sooner_of r w h at i);
     }
-
--- ---- the machine answers for a frame that is permanent, or is told the time by it, and its device is kept
 
 -- ---- the device that a frame tells the time is kept
 

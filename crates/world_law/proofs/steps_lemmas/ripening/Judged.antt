@@ -38,9 +38,7 @@ use Rattle.run_law.specs.declared.judgement.Why.TheVariants as whys
 use Rattle.run_law.specs.declared.note.NoteBody.TheVariants as kinds
 use Rattle.run_law.specs.declared.steps.Ripe.TheVariants as ripe
 
--- ---- a device that took part once is on from then on
-
--- ---- no record turns a device off
+-- ---- a device that took part once is on from then on: no record turns a device off
 
 -- does the record say in which state the device is?
 abbrev pub stirs : DeviceId → NoteBody → Bool
@@ -173,9 +171,7 @@ still_on {s} {hs} front {now} t device run past befallen le inside on sound =
           ])
     ]
 
--- ---- what is heard at a time counts as before it, where no frame has told the device the time at it
-
--- ---- lists and places
+-- ---- what is heard at a time counts as before it, where no frame has told the device the time at it: lists and places
 
 none_of : {X : Type 0} (p : X → Bool) (xs : List X) (x : X) → list_any p xs ≡ false → IsIn x xs → p x ≡ false
 none_of p [] x e i = absurd i
@@ -633,9 +629,7 @@ module _ {s : Scenario} {hs coming : List Happening} {now : ℕ} {e : Waiting}
             ∙ sym looking ∙ sym (ap (λ b. if b then Joining else state_before s hs device now) none)
       ]
 
--- ---- what a device's machine makes of a frame that is permanent is what the records given say
-
--- ---- places as tests
+-- ---- what a device's machine makes of a frame that is permanent is what the records given say: places as tests
 
 -- the records given are all those before the place
 pub judged_all : {s : Scenario} {hs coming : List Happening} (front : List Happening)

@@ -152,9 +152,7 @@ drop_fresh : {s : Scenario} {hs coming : List Happening} {now : ℕ} {e : Waitin
 drop_fresh {s} {hs} {coming} {now} {e} r permanent y i at =
     search (arith, place_drop, parted, some_same, numbered_front, no_launch, same_place, never_self, no_higher)
 
--- ---- a frame that waits is permanent
-
--- ---- the source is first
+-- ---- a frame that waits is permanent: the source is first
 
 ripening_first : {C M : Type 0} {reading : C → ℕ → ℕ} {stands : M → Network → DeviceId → Node → Type 0}
     {s : Scenario} {world : World C M} {notes : List Note} (e : Waiting) {old : Stands reading stands s world notes}

@@ -28,8 +28,6 @@ use Rattle.run_law.specs.declared.judgement.Judgement.TheVariants as judgements
 use Rattle.run_law.specs.declared.judgement.Why.TheVariants as whys
 use Rattle.run_law.specs.declared.note.NoteBody.TheVariants as kinds
 
--- ---- a device stands as the records leave it where a frame tells it no time or a record does not bear on it
-
 -- ---- records that do not bear on a device, but for what they say of its state
 
 -- the record does not bear on the device, or it is of a state

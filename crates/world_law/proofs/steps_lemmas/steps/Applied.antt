@@ -467,9 +467,7 @@ module _ {M : Type 0} (stands : M → Network → DeviceId → Node → Type 0) 
           (turned_as not_on) left)
           (λ up on. same_off (turned_as not_on ∙ on))
 
--- ---- an event befalls before all else of its instant: the world stands again
-
--- ---- the end
+-- ---- an event befalls before all else of its instant: the world stands again: the end
 
 is_end : (what : What) → ends_world what ≡ true → what ≡ events.End
 is_end events.End e = refl

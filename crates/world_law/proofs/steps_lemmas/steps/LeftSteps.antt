@@ -19,9 +19,7 @@ use Rattle.world_law.specs.{world.{Outcomes.departure_body, World.IsAtPort}}
 use Rattle.run_law.specs.declared.judgement.Why.TheVariants as whys
 use Rattle.run_law.specs.declared.note.NoteBody.TheVariants as kinds
 
--- ---- what becomes of a frame that leaves: the one record of it
-
--- ---- the body of the record
+-- ---- what becomes of a frame that leaves: the one record of it: the body of the record
 
 body_idle : (e : AtPort) (is : Departure) → IsIdle (departure_body e is)
 body_idle e (leaves clock) = tt
@@ -228,9 +226,7 @@ module _ {s : Scenario} {hs : List Happening} (zs : List Happening) (now m : ℕ
       ]
   own_there other w late place o = absurd (grind (arith, other_kind, second))
 
--- ---- a frame at a port leaves
-
--- ---- the source is first
+-- ---- a frame at a port leaves: the source is first
 
 port_at : (e : AtPort) {now : ℕ} → e.at ≡ now → port_place e ≡ now ∷ 8 ∷ e.device.0 ∷ e.link.0 ∷ e.cause ∷ []
 port_at e at = rw at

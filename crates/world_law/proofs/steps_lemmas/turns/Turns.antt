@@ -27,9 +27,7 @@ use Rattle.run_law.specs.declared.steps.Ripe.TheVariants as ripe
 use Rattle.sync_state.specs.declared.answers.Verdict.TheVariants as verdicts
 use Rattle.sync_state.specs.declared.state.State.TheVariants as states
 
--- ---- the turn of a source, which is worked off with its records to come: what stands there is given
-
--- ---- what is put in
+-- ---- the turn of a source, which is worked off with its records to come: what stands there is given: what is put in
 
 -- each that is there then was there, or is one of these
 pub put_is : (network : Network) (hs : List Happening) (now : ℕ) (bodies : List NoteBody) (old new : List Happening)
@@ -320,9 +318,7 @@ acted_turn reading stands s world notes device after bodies machines old a set =
     (act_there s (happenings s.network notes) now device a.was a.adjustment a.act bodies a.are)
     (λ settled put. acted_step reading stands s settled a set put))
 
--- ---- the turns of what leaves, arrives and is permanent
-
--- ---- a frame leaves
+-- ---- the turns of what leaves, arrives and is permanent: a frame leaves
 
 left_there : (network : Network) (hs : List Happening) (now : ℕ) (e : AtPort) (is : Departure)
     → AreThere network hs now (now ∷ 8 ∷ e.device.0 ∷ e.link.0 ∷ e.cause ∷ []) (departure_body e is ∷ [])

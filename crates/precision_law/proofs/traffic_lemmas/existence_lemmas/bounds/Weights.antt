@@ -43,9 +43,7 @@ use Rattle.run_law.specs.declared.judgement.Judgement.TheVariants as judgements
 use Rattle.run_law.specs.declared.judgement.Why.TheVariants as whys
 use Rattle.run_law.specs.declared.note.NoteBody.TheVariants as notes
 
--- ---- what the numbers in the places of records are bounded by
-
--- ---- sums
+-- ---- what the numbers in the places of records are bounded by: sums
 
 total : {X : Type 0} → (X → ℕ) → List X → ℕ
 total w [] = 0
@@ -154,9 +152,7 @@ size_of r =
     if r == 1 then 1 else (if r == 6 then 1 else (if r == 14 then 1 else (if r == 5 then 2 else (if r == 7 then 2 else (if r == 3 then 5
     else (if r == 10 then 5 else (if r == 4 then 7 else 3)))))))
 
--- ---- what the tables have, and of what a record speaks
-
--- ---- what is in the tables
+-- ---- what the tables have, and of what a record speaks: what is in the tables
 
 pub device_there : (network : Network) (kind : Role → Bool) (device : DeviceId) → has_role network kind device ≡ true → device.0 < length network.device
 device_there network kind device e = grind (arith, slice_get, length, slice_get_within)
@@ -257,9 +253,7 @@ signs : (z : ℤ) → sign z < 2
 signs (pos n) = omega arith
 signs (negsuc n) = omega arith
 
--- ---- how great the numbers in the place of a record may be that is due at a time and rank
-
--- ---- the ranks
+-- ---- how great the numbers in the place of a record may be that is due at a time and rank: the ranks
 
 module _ (s : Scenario) (t r : ℕ) (ms more : List Happening) (recent : (x : Happening) → IsIn x more → (time_of x ≡ t) × (rank x.note.body ≡ r)) where
   -- what bounds the numbers

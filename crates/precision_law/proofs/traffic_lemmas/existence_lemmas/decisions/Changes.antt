@@ -99,9 +99,7 @@ corrected_decided s hs t ks =
     says (notes.Corrected device cycle by adjustment) is ranked = (cycle, by, adjustment, is)
     says other is ranked = absurd (omega arith)
 
--- ---- decisions: whether the record of an event, or of a device's clock at the end, is due
-
--- ---- an event
+-- ---- decisions: whether the record of an event, or of a device's clock at the end, is due: an event
 
 -- the line has an event of this time
 abbrev HasEvent : Scenario → ℕ → ℕ → Type 0

@@ -37,9 +37,7 @@ use Rattle.tte_units.{specs.{Amount.{amount, units_of}, declared.frames.pcf.Pcf.
 use Rattle.run_law.specs.declared.note.NoteBody.TheVariants as notes
 use Rattle.run_law.specs.declared.steps.Arrival.TheVariants as arrivals
 
--- ---- decisions: whether the record of a frame that leaves a device is due
-
--- ---- what gives a frame to a link
+-- ---- decisions: whether the record of a frame that leaves a device is due: what gives a frame to a link
 
 module _ (network : Network) (device : DeviceId) (link : LinkId) where
   child : IsDecided (IsChildOf network device link)
@@ -290,9 +288,7 @@ tt_sent_decided s hs t ks =
     says (notes.TtSent device link cause vl cycle) is ranked = is
     says other is ranked = absurd (omega arith)
 
--- ---- decisions: whether the record of a frame that is lost, or dropped, is due
-
--- ---- a frame meets a cut way
+-- ---- decisions: whether the record of a frame that is lost, or dropped, is due: a frame meets a cut way
 
 -- the body is that of a `send` event on the link
 abbrev SendsOn : LinkId → NoteBody → Type 0

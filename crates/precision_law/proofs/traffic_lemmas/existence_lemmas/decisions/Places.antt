@@ -35,11 +35,7 @@ use Rattle.run_law.specs.declared.note.NoteBody.TheVariants as notes
 use Rattle.run_law.specs.declared.steps.Arrival.TheVariants as arrivals
 use Rattle.run_law.specs.declared.steps.Ripe.TheVariants as ripe
 
--- ---- decisions on values, on when a clock reaches one, and on the bodies that are caused at a place
-
--- ---- decisions on values: equalities, and searches below a bound
-
--- ---- equalities
+-- ---- decisions on values: equalities, and searches below a bound: equalities
 
 pub same_int : (a b : ℤ) → IsDecided (a ≡ b)
 same_int (pos m) (pos n) = elim (cases_eq m n) [ inl e ↦ inl (ap pos e) | inr ne ↦ inr (λ e. absurd (ne cc)) ]
@@ -307,11 +303,7 @@ reaches_decided s hs device v t =
     (decided_and (decided_less_int (local_at_change s hs device t) v)
     (reach_decided (s.reading device) (pos (changed_at hs device t)) (v -ℤ (adjustment_before s hs device t).0) t))
 
--- ---- decisions: whether the record of a frame that arrives, is permanent, or is compressed and sent is due
-
--- ---- decisions: whether the record of a frame that arrives, and is taken, is due
-
--- ---- what becomes of what arrives
+-- ---- decisions: whether the record of a frame that arrives, and is taken, is due: what becomes of what arrives
 
 -- something arrives, and this becomes of it
 abbrev pub HasArrival : Scenario → List Happening → DeviceId → ℕ → LinkId → ℕ → Type 0

@@ -22,9 +22,7 @@ use Rattle.tte_units.specs.{Amount.{amount, units_of}, declared.units.Units.Unit
 use Rattle.run_law.specs.declared.judgement.Why.TheVariants as whys
 use Rattle.run_law.specs.declared.note.NoteBody.TheVariants as notes
 
--- ---- decisions: whether the record of a device's new state is due
-
--- ---- the records that change a state
+-- ---- decisions: whether the record of a device's new state is due: the records that change a state
 
 -- the record turns the device on
 abbrev TurnsOn : DeviceId → Happening → Type 0

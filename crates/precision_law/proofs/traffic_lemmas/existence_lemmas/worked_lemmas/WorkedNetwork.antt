@@ -48,8 +48,6 @@ use Rattle.tte_units.specs.{Amount.{amount, units_of}}
 use Rattle.tte_units.specs.{declared.{frames.channel.Channel.{Channel, TheVariants.{A, B}}, units.Units.Units}}
 use Rattle.net_plan.specs.declared.event.What.TheVariants as events
 
--- ---- the worked network keeps the rules of its schedule: its rows, its times, and how long its paths are
-
 -- ---- what holds of each entry of a list that is written out
 
 -- this holds of each entry and its place
@@ -90,9 +88,7 @@ all_each : {X : Type 0} (P : X → Type 0) (xs : List X) → AllEach P xs → Al
 all_each {X} P [] all = All-nil P
 all_each {X} P (x ∷ xs) all = All-cons P x xs all.0 (all_each P xs all.1)
 
--- ---- the worked network keeps the rules of its schedule
-
--- ---- the virtual link
+-- ---- the worked network keeps the rules of its schedule: the virtual link
 
 abbrev the_vl : VirtualLink
 the_vl = record {
@@ -393,9 +389,7 @@ begins = leb-true 26261585920 26542080000 refl
 schedule_fits : ScheduleFits worked
 schedule_fits = grind (arith, begins, all_each, leb-true)
 
--- ---- the worked network keeps the rules of its shape
-
--- ---- limits and names
+-- ---- the worked network keeps the rules of its shape: limits and names
 
 limits_kept : (part : ℕ) → IsWithinLimits worked part
 limits_kept part = grind (arith, leb-true)
@@ -655,8 +649,6 @@ worked_keeps_rules Spacing place = rows_stand_apart place
 worked_keeps_rules BothChannels place = both_channels place
 worked_keeps_rules Forwarding place = comes_in_time place
 worked_keeps_rules RowsOfDevice place = few_rows place
-
--- ---- the worked network is in range, and its rough day is one of which the laws on runs speak
 
 -- ---- the worked network is in range
 
