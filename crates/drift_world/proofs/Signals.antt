@@ -403,10 +403,10 @@ module _ (network other : Network) (hs : List Happening) (device : DeviceId) (li
       → frame_kept is ≡ frame_by other hs (arrival_body device link cause is)
   told_control clock is of one two = one ∙ ap (option_map (with_clock clock)) (sym of) ∙ sym two
 
-  told : (node : Node) (moment : Moment) (sent : Signal) → signal_as network signal ≡ sent
-      → ((frame : Pcf) → sent ≡ control (Ok frame) → frame_from hs cause ≡ Some frame)
-      → ((octets : List ℕ) → sent ≡ timed octets → octets_from hs cause ≡ octets)
-      → IsTold network other hs device link cause signal (arrival_at other device node moment link sent)
+  told : (node : Node) (moment : Moment) (was_sent : Signal) → signal_as network signal ≡ was_sent
+      → ((frame : Pcf) → was_sent ≡ control (Ok frame) → frame_from hs cause ≡ Some frame)
+      → ((octets : List ℕ) → was_sent ≡ timed octets → octets_from hs cause ≡ octets)
+      → IsTold network other hs device link cause signal (arrival_at other device node moment link was_sent)
   told node moment (control (Err refusal)) as_sent frames octets = record { frame = refl; octets = refl }
   told node moment (control (Ok frame)) as_sent frames octets =
       let of = frames frame refl in
@@ -653,12 +653,12 @@ module _ {C M : Type 0} {reading : C → ℕ → ℕ} {stands : Meaning (Kept M)
       let to = received s.network launch within in
       let t = time_of h + time_on_port s.network launch.link launch.signal + delay_at s launch.link launch.way (time_of h) in
       let arrives : Arrives s h to.0 launch.link t launch.signal = record { way = launch.way; put = put; receiver = to.1; at = refl } in
-      let arriving : IsArriving s (happenings s.network notes) t to.0 launch.link number =
+      let coming : IsArriving s (happenings s.network notes) t to.0 launch.link number =
       record { putting = h; there = of.there; signal = launch.signal; arrives = arrives } in
       let later = is.forward launch.link launch.way to.0 (time_of h) to.1 in
       let now = of.at in
       let first = is.run.within h (numbered_in (happenings s.network notes) number h of.there) in
-      let w = is.wires.all t to.0 launch.link number arriving
+      let w = is.wires.all t to.0 launch.link number coming
       (λ pending same. not_early h of.at of.behind (is.untold.early pending (place_of h) first))
       (λ before. not_soon t state.time (to.0.0 ∷ launch.link.0 ∷ number ∷ []) (omega arith)
       (is.not_later (t ∷ 2 ∷ to.0.0 ∷ launch.link.0 ∷ number ∷ []) before)) in

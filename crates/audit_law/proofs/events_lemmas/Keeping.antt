@@ -366,7 +366,7 @@ module _ (network : Network) (event : Event) (device : DeviceId) (rate : Ppb) (b
 -- a reading that grew from 0 in a time of at most 2^60
 bound_of : (rho grain r t zero_time d : ℕ) → t ≤ 2 ^ 60 → rho ≤ 1000000 → grain ≤ 2 ^ 20 → zero_time ≡ 0 → r ≤ d + t
     → 10 ^ 9 * d ≤ rho * t + 2 * grain * 10 ^ 9 → r ≤ 2 ^ 60 + 2 ^ 51
-bound_of rho grain r t z d le slow fine zero near h =
+bound_of rho grain r t z d le slow fine is_zero near h =
     let most = mul-le-mul_right t slow in
     omega arith
 

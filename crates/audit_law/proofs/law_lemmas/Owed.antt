@@ -555,7 +555,7 @@ module _ (s : Scenario) (before : List Happening) where
   caused time (notes.Left device link cause clock) founded h = inr (h.giving, h.there)
   caused time (notes.Lost device link cause) founded h =
       elim h [
-        | inl leaves ↦ inr (leaves.giving, leaves.there)
+        | inl left_by ↦ inr (left_by.giving, left_by.there)
         | inr (inl row) ↦ elim row.2.at_hand [ inl own ↦ inl own.1 | inr taken ↦ has_number founded taken.1 ]
         | inr (inr send) ↦ inr (send.event, send.is.there)
       ]

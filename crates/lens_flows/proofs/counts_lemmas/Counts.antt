@@ -575,7 +575,7 @@ pub no_window : {network : Network} {vl : VlId} {device : DeviceId} {flow : Flow
     → ((n : ℕ) → IsWindowEnd network vl device n → ⊥) → IsTo network vl device flow → ⊥
 no_window {network} {vl} {flow} none to =
     elim to.is.greatest.reached [
-      | inl zero ↦ let end = window_end network to.is.into in
+      | inl is_zero ↦ let end = window_end network to.is.into in
           none end (subst (λ d. IsWindowEnd network vl d end) to.to
           (subst (λ v. IsWindowEnd network v flow.device end) to.of_vl (to.is.into, to.is.enters, refl)))
       | inr has ↦ none flow.last (subst (λ d. IsWindowEnd network vl d flow.last) to.to

@@ -165,7 +165,7 @@ module _ (s other : Scenario) (hs tail : List Happening) (c : ℕ) (past : (h : 
       | inl there ↦ g.bound apart (seen_back apart a there)
       | inr there ↦ absurd (none a.seen_at there a.correction)
     ];
-    reached = elim g.reached [ inl zero ↦ inl zero | inr a ↦ inr (seen_on spread.0 a) ];
+    reached = elim g.reached [ inl is_zero ↦ inl is_zero | inr a ↦ inr (seen_on spread.0 a) ];
   }
 
   -- where corrections of one time come it is the greater of it and of the spread of this time
@@ -180,9 +180,9 @@ module _ (s other : Scenario) (hs tail : List Happening) (c : ℕ) (past : (h : 
           omega (arith, ints, le, second)
     ];
     reached = elim either [
-      | inl old ↦ elim g.reached [ inl zero ↦ inl (old ∙ zero) | inr a ↦ inr (subst (AreSeenApart other (hs ++ tail)) (sym old) (seen_on spread.0 a)) ]
+      | inl old ↦ elim g.reached [ inl is_zero ↦ inl (old ∙ is_zero) | inr a ↦ inr (subst (AreSeenApart other (hs ++ tail)) (sym old) (seen_on spread.0 a)) ]
       | inr new ↦ elim is.reached [
-        | inl zero ↦ inl (new ∙ zero)
+        | inl is_zero ↦ inl (new ∙ is_zero)
         | inr a ↦ inr (subst (AreSeenApart other (hs ++ tail)) (sym new) (record {
           seen_at = one;
           there = in_right one hs tail there;

@@ -79,8 +79,8 @@ module _ (s : Scenario) (hs : List Happening) (link : LinkId) (row : LeavingRow)
   one_taken taking true some so own lacks = record { cause = taking.number; at_hand = lacks.0; untold = lacks.1 }
   one_taken taking false some so own told = λ cause hand.
       elim (cause_of s.network row.sender accepted so hand) [
-        | inl zero ↦ subst (λ (k : ℕ). IsAtHand s.network hs row.device row.sender row.vl t k cycle
-            → IsTold s hs link row t (record { cause = k; cycle = cycle })) (sym zero) own hand
+        | inl is_zero ↦ subst (λ (k : ℕ). IsAtHand s.network hs row.device row.sender row.vl t k cycle
+            → IsTold s hs link row t (record { cause = k; cycle = cycle })) (sym is_zero) own hand
         | inr last ↦
             let same : taking.number ≡ cause =
             eqb-true taking.number cause (and_parts (taking.number == cause) (taking.cycle == cycle)

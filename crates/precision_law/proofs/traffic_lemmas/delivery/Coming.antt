@@ -98,17 +98,17 @@ frames_arrive_in_spans brings v h device link cause vl cycle way is good d in_ru
     } in
     record {
       span = span;
-      shows = λ receiver timed.
-          let keep = synchronised_keep_time brings v cycle u span receiver is timed in (
+      shows = λ receiver with_time.
+          let keep = synchronised_keep_time brings v cycle u span receiver is with_time in (
             omega (arith, ints, keep.shows.least, here.not_early, delay.0, space.errors.reach_is),
             omega (arith, ints, keep.shows.most, space.errors.reach_is),
           );
     }
 
 pub arrivals_are_in_windows : ArrivalsAreInWindows
-arrivals_are_in_windows v place cycle u entry receiver is row arrives timed =
+arrivals_are_in_windows v place cycle u entry receiver is row arrives with_time =
     let z = shown_at v receiver u in
-    let shows = arrives.shows receiver timed in
+    let shows = arrives.shows receiver with_time in
     let times = rows_are_in_time v place entry is row in
     let space = room is in
     let far = so_far z (cycle * v.sizes.cycle) v.sizes.cycle (omega (arith, ints, shows.0, times.begins, space.eight_errors))

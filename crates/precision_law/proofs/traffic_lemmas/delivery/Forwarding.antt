@@ -117,7 +117,7 @@ skip false x o e = refl
 -- octets of the network, for a synchronised device, have no fault
 octets_sound : (network : Network) (at : Standpoint) (octets : List ℕ) → at.takes_part ≡ true → least_type ≤ field 12 2 octets
     → is_synchronised at.state ≡ true → field 0 4 octets ≡ network.marker → octets_fault network at octets ≡ None
-octets_sound network at octets part type timed marker = grind (arith, skip, not, not_from_true, nat_lt, field, le-ltb, is_synchronised, eq-eqb)
+octets_sound network at octets part type with_time marker = grind (arith, skip, not, not_from_true, nat_lt, field, le-ltb, is_synchronised, eq-eqb)
 
 -- a frame of the row, in the row's window, has none
 row_sound : (network : Network) (at : Standpoint) (entry : Entry) (size : ℕ) (last : Option ℕ) → size ≡ entry.vl.length
@@ -573,9 +573,9 @@ taken_there brings {v} {vl} {of_vl} {cycle} {last} is fit sources sent {k} {entr
     let in_time = arrives_in_time brings is sent good d window in
     let arrives = frames_arrive_in_spans brings.blocks v h device link went.cause vl cycle d.entry.row.way is good d in_time in
     let timed = firm_at brings arrives.span receiver is switch in
-    let off = brings.not_on v receiver (arrives_at v h link d.entry.row.way d.entry) is (has_time_at timed).timed in
+    let off = brings.not_on v receiver (arrives_at v h link d.entry.row.way d.entry) is (has_time_at with_time).timed in
     let taken = arrivals_are_taken brings.blocks brings.channels v h device receiver link went.cause vl cycle is fit good fine d whole (ap target_of went.same)
-    in_time timed off in
+    in_time with_time off in
     let no_end = switch_no_end v.channel receiver is.lawful.range switch in
     record {
       taking = taken.taking;
@@ -681,14 +681,14 @@ taken_before_offset brings {v} {vl} {cycle} {place} {entry} is fit sources row o
     (sources taking.by_row.place taking.by_row.entry taking.by_row.row taking.by_row.of_vl) in
     let behind = (is.lawful.rules Forwarding place).from_switch taking.by_row.place taking.by_row.entry entry taking.by_row.row row
     (own ∙ sym taking.by_row.of_vl) other taking.by_row.enters in
-    let timed : IsTimedAt v device (time_of g.taking) = record { good = good; synchronised = taking.synchronised } in
-    let shows = (comes.in_span.shows device timed).1 in
+    let with_time : IsTimedAt v device (time_of g.taking) = record { good = good; synchronised = taking.synchronised } in
+    let shows = (comes.in_span.shows device with_time).1 in
     let times = rows_are_in_time v taking.by_row.place taking.by_row.entry is taking.by_row.row in
     let space = room is in
     elim (cases_lt (time_of g.taking) r.at) [
       | inl lt ↦ lt
       | inr ge ↦
-          let clock = one_clock brings.blocks r.in_span.span comes.in_span.span is timed ge in
+          let clock = one_clock brings.blocks r.in_span.span comes.in_span.span is with_time ge in
           let sharp = clocks_reach_sharply v device (pos (cycle * v.sizes.cycle + amount entry.row.offset)) r.at is r.reached in
           let up = (steady v is device).never_falls r.at (time_of g.taking) ge in
           absurd (omega (arith, ints, clock.adjustment, sharp.least, times.tolerates, space.eight_errors))
@@ -732,7 +732,7 @@ sent_below brings (suc bound) {v} {vl} {of_vl} {cycle} {last} is fit sources sen
             let narrow = before_narrow before in
             let space = room is in
             let timed = brings.switches v cycle before device is firm in
-            let r = values_are_reached brings.blocks brings.not_on v cycle (amount entry.row.offset) before device is timed sent.occurs.begun
+            let r = values_are_reached brings.blocks brings.not_on v cycle (amount entry.row.offset) before device is with_time sent.occurs.begun
             (offset_in_schedule is row)
             (omega (arith, ints, times.tolerates, sent.in_run, space.eight_errors)) in
             let early = taken_before_offset brings is fit sources row own other good taken r in

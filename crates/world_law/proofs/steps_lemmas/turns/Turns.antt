@@ -334,16 +334,16 @@ left_or_none false there = there
 
 pub left_turn : {C M : Type 0} (reading : C → ℕ → ℕ) (stands : M → Network → DeviceId → Node → Type 0)
     → LeftTurn reading stands
-left_turn reading stands s world notes e ports old i at first without =
+left_turn reading stands s world notes e ports old i at foremost without =
     let now = world.now in
     let rest = e.device.0 ∷ e.link.0 ∷ e.cause ∷ [] in
     let place : port_place e ≡ now ∷ 8 ∷ rest = rw at in
     let is = departure_now s e now in
     rw place (turn_of old 8 (inr (inr (inl refl))) (record world { ports = ports; early = false }) refl
-    (subst (λ q. NoneBefore place_of world.settled q) place first.after)
+    (subst (λ q. NoneBefore place_of world.settled q) place foremost.after)
     (left_or_none (is_broken s e.device now)
     (left_there s.network (happenings s.network notes) now e is))
-    (λ settled put. left_step reading stands s world notes e ports settled i at first without put))
+    (λ settled put. left_step reading stands s world notes e ports settled i at foremost without put))
 
 -- ---- a frame arrives
 
@@ -358,17 +358,17 @@ heard_there_too network hs now device link cause other = one_there _ refl refl
 
 pub heard_turn : {C M : Type 0} (reading : C → ℕ → ℕ) (stands : M → Network → DeviceId → Node → Type 0)
     → HeardTurn reading stands
-heard_turn reading stands s world notes e machine heard octets result machines wires old i at first there octets_of may
+heard_turn reading stands s world notes e machine heard octets result machines wires old i at foremost there octets_of may
     hears set without =
     let rest = e.device.0 ∷ e.link.0 ∷ e.cause ∷ [] in
     let place : wire_place e ≡ world.now ∷ 2 ∷ rest = rw at in
     let arrived = record world { early = false; machines = machines; wires = wires } in
     subst (λ q. TurnsBy reading stands s notes (arrival_body e.device e.link e.cause result ∷ []) arrived q) (sym place)
-    (turn_of old 2 (inl refl) arrived refl (subst (λ q. NoneBefore place_of world.settled q) place first.after)
+    (turn_of old 2 (inl refl) arrived refl (subst (λ q. NoneBefore place_of world.settled q) place foremost.after)
     (heard_there_too s.network (happenings s.network notes) world.now e.device e.link e.cause result)
     (λ settled put. heard_step s e result wires
     settled i at
-    first there octets_of may hears set without put))
+    foremost there octets_of may hears set without put))
 
 -- ---- a frame is permanent
 
@@ -389,25 +389,25 @@ ripe_there network hs now number e frame other = one_there _ refl (judged_there 
 
 pub ripened_turn : {C M : Type 0} (reading : C → ℕ → ℕ) (stands : M → Network → DeviceId → Node → Type 0)
     → RipenedTurn reading stands
-ripened_turn reading stands s world notes e machine ripe result machines waiting old i reached first there has set
+ripened_turn reading stands s world notes e machine ripe result machines waiting old i reached foremost there has set
     without =
     let it = old.waiting.real e i in
     let frame : frame_from (happenings s.network notes) e.cause ≡ Some e.frame =
     rw it.there
     it.awaited.of_frame in
     turn_of old 3 (inr (inl refl))
-    (record world { early = false; machines = machines; waiting = waiting }) refl first.after
+    (record world { early = false; machines = machines; waiting = waiting }) refl foremost.after
     (ripe_there s.network (happenings s.network notes) world.now (length notes + 1) e frame result)
     (λ settled put. ripened_step s e result waiting settled i
-    reached first there has set without put)
+    reached foremost there has set without put)
 
 -- ---- the clock of a device is shown at the end, and its record is given
 
 pub clock_turn : {C M : Type 0} (reading : C → ℕ → ℕ) (stands : M → Network → DeviceId → Node → Type 0)
     → ClockTurn reading stands
-clock_turn reading stands s world notes device machine state adjustment old lt ended shown first there stood =
+clock_turn reading stands s world notes device machine state adjustment old lt ended shown foremost there stood =
     turn_of old 14 {rest = (device.0 ∷ [])} (inr (inr (inr (inl refl))))
     (record world { early = false; shown = world.shown + 1 })
-    refl first.after (one_there _ refl refl)
+    refl foremost.after (one_there _ refl refl)
     (λ settled put. clock_step s device state adjustment settled lt ended shown
-    first there stood put)
+    foremost there stood put)

@@ -247,13 +247,13 @@ module _ (s : Scenario) (hs : List Happening) (device : DeviceId) (t : ℕ) (lin
   dispatches_decided = decided_by there back (decided_below IsRowAt row_at (length s.network.row))
     where
       there : (place : ℕ) × (place < length s.network.row) × IsRowAt place → Dispatches s hs device t link cause vl cycle
-      there (place, lt, (entry, is, (by, (of_vl, (leaves, (occurs, (up, (reached, at_hand)))))))) = record {
+      there (place, lt, (entry, is, (by, (of_vl, (is_left, (occurs, (up, (reached, at_hand)))))))) = record {
         place = place;
         entry = entry;
         row = is;
         by = by;
         of_vl = of_vl;
-        leaves = leaves;
+        leaves = is_left;
         occurs = occurs;
         up = up;
         reached = reached;
