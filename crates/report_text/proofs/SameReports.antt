@@ -38,6 +38,8 @@ use Rattle.run_law.specs.declared.judgement.Why.TheVariants as whys
 use Rattle.run_law.specs.declared.note.NoteBody.TheVariants as bodies
 use Rattle.sync_state.specs.declared.state.State.TheVariants as states
 
+-- ---- words of one spelling are one, and so are records of one text
+
 -- ---- words of one spelling are one
 
 -- each thing of the network has a name of its own

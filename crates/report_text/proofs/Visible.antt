@@ -87,7 +87,11 @@ pub words_of_line : (ws : Words) → AreOfLine ws → words (join_with_byte spac
 words_of_line [] h = absurd h
 words_of_line (w ∷ ws) h = words_joined w ws (visible_word w h.0) (visible_are_words ws h.1)
 
--- ---- the words of names, numbers and events are short: words
+-- ---- the words of records are visible, and those of names, numbers and events are short
+
+-- ---- the words of names, numbers and events are short
+
+-- ---- words
 
 -- how many octets the words have, with one more each
 unfoldable pub size : Words → ℕ
@@ -156,7 +160,9 @@ what_short network (events.Send l o) range of_network h =
     omega arith
 what_short network events.End range of_network h = omega arith
 
--- ---- the words of records are visible: names and numbers
+-- ---- the words of records are visible
+
+-- ---- names and numbers
 
 pub device_visible : (network : Network) (d : DeviceId) → IsInRange network → HasDevice network d → IsVisible (device_name network d)
 device_visible network d h of_network =

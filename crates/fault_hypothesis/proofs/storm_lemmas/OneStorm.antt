@@ -66,6 +66,8 @@ pub end_is_behind : {network : Network} (seed cycles : ℕ) {before : List Event
 end_is_behind {network} seed cycles {before} n (inl step) end = absurd (step_goes_on network before _ _ step.1 end)
 end_is_behind seed cycles n (inr last) end = last.0
 
+-- ---- the masters, devices and links that a network has which keeps the rules
+
 -- ---- the masters of a network: the last one, and the uplinks that they have
 
 -- the device is the last master below a place, or there is none below it
@@ -182,6 +184,8 @@ some_link network rules =
     let one = some_master network rules in
     let up = master_uplink network one.0 A rules one.1 in
     omega (arith, uplink_within network one.0 up.0 A up.1)
+
+-- ---- what the events of a storm draw and send is one, so there is one storm of a seed
 
 -- ---- what the kinds of events draw
 
