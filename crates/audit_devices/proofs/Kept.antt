@@ -66,7 +66,7 @@ points_on {network} cycle at_change a b range le =
     (λ e. quotient_on (a -ℤ first) (b -ℤ first) network.cycle.0 (omega (arith, ints, range.cycle.least)) (omega (arith, ints, int_le-is first a e))
     (omega (arith, ints, le)))
 
-points_mono : {network : Network} (shown : Shown) (a b : ℕ) → IsInRange network → a ≤ b
+pub points_mono : {network : Network} (shown : Shown) (a b : ℕ) → IsInRange network → a ≤ b
     → points_by network shown a ≤ points_by network shown b
 points_mono shown a b range le =
     points_on shown.cycle shown.at_change (pos a +ℤ shown.adjustment) (pos b +ℤ shown.adjustment) range
@@ -122,30 +122,30 @@ TellsAs s device h e =
     (λ next. cycle_after device next h h.note.body) (is_joined_by device h.note.body) (changes_adjustment device h.note.body)
     (hearing_by s.network device h h.note.body) e
 
-told : (s : Scenario) (device : DeviceId) (h : Happening) (e : Effect) → effect_of s.network device h ≡ e → TellsAs s device h e
+pub told : (s : Scenario) (device : DeviceId) (h : Happening) (e : Effect) → effect_of s.network device h ≡ e → TellsAs s device h e
 told s device h e is = subst (TellsAs s device h) is (tells s device h h.note.body)
 
 -- ---- one more record, by what it tells
 
 module _ {s : Scenario} (hs : List Happening) {device : DeviceId} (h : Happening) {e : Effect}
     (t : TellsAs s device h e) where
-  state_on : state_by (state_after s hs device) e ≡ state_after s (with_one hs h) device
+  pub state_on : state_by (state_after s hs device) e ≡ state_after s (with_one hs h) device
   state_on = sym (t.state_is (state_after s hs device)) ∙ sym (fold-append _ _ hs (h ∷ []))
 
-  adjustment_on : adjustment_by s device (adjustment_after s hs device) e
+  pub adjustment_on : adjustment_by s device (adjustment_after s hs device) e
       ≡ adjustment_after s (with_one hs h) device
   adjustment_on = sym (t.adjustment_is (adjustment_after s hs device)) ∙ sym (fold-append _ _ hs (h ∷ []))
 
-  cycle_on : cycle_by (recorded_cycle hs device) e ≡ recorded_cycle (with_one hs h) device
+  pub cycle_on : cycle_by (recorded_cycle hs device) e ≡ recorded_cycle (with_one hs h) device
   cycle_on = sym (t.cycle_is (recorded_cycle hs device)) ∙ sym (fold-append _ _ hs (h ∷ []))
 
-  integrated_on : (if joins_by e then Some (cycle_in h) else integration_cycle hs device)
+  pub integrated_on : (if joins_by e then Some (cycle_in h) else integration_cycle hs device)
       ≡ integration_cycle (with_one hs h) device
   integrated_on =
       ap (λ (b : Bool). if b then Some (cycle_in h) else integration_cycle hs device) (sym t.joins_is) ∙ sym
       (fold-append _ _ hs (h ∷ []))
 
-  joined_on : (if joins_by e then Some (time_of h) else last_joining hs device)
+  pub joined_on : (if joins_by e then Some (time_of h) else last_joining hs device)
       ≡ last_joining (with_one hs h) device
   joined_on = ap (λ (b : Bool). if b then Some (time_of h) else last_joining hs device) (sym t.joins_is) ∙ sym
       (fold-append _ _ hs (h ∷ []))
@@ -154,7 +154,7 @@ changed_at_once : (hs : List Happening) (device : DeviceId) (h : Happening) → 
     → time_of h ≡ last_change (with_one hs h) device
 changed_at_once hs device h is = grind (arith, changes_adjustment, option_map_or, time_of, last_or, filter_on, last_pushed, filter)
 
-unchanged : (hs : List Happening) (device : DeviceId) (h : Happening) → changes_adjustment device h.note.body ≡ false
+pub unchanged : (hs : List Happening) (device : DeviceId) (h : Happening) → changes_adjustment device h.note.body ≡ false
     → last_change hs device ≡ last_change (with_one hs h) device
 unchanged hs device h is =
     let test : Happening → Bool = λ x. changes_adjustment device x.note.body in
@@ -164,7 +164,7 @@ unchanged hs device h is =
 abbrev pub kept_where : Scenario → DeviceId → Shown → ℕ → Happening → Bool
 kept_where s device shown points h = points == points_by s.network shown (s.reading device (time_of h - 1))
 
-heard_on : (s : Scenario) (hs : List Happening) (device : DeviceId) (h : Happening) (shown : Shown) (points : ℕ)
+pub heard_on : (s : Scenario) (hs : List Happening) (device : DeviceId) (h : Happening) (shown : Shown) (points : ℕ)
     → changes_adjustment device h.note.body ≡ false → heard_at s (with_one hs h) device shown points
     ≡ heard_at s hs device shown points
     ++ filter_map (λ x. hearing_by s.network device x x.note.body) (if kept_where s device shown points h then h ∷ [] else [])
@@ -187,7 +187,7 @@ module _ {s : Scenario} (hs : List Happening) {device : DeviceId} (h : Happening
   has_joined_on = grind (arith, list_any-append, time_of, is_joined_by)
 
   -- no frame tells it the time at this time by a record that tells it of none
-  not_joined : joins_by e ≡ false → has_joined_at (with_one hs h) device t ≡ has_joined_at hs device t
+  pub not_joined : joins_by e ≡ false → has_joined_at (with_one hs h) device t ≡ has_joined_at hs device t
   not_joined none =
       has_joined_on
       ∙ ap (λ (b : Bool). has_joined_at hs device t || (time_of h == t && b)) none
@@ -222,10 +222,10 @@ joined_last hs {device} h t told joins late le =
     always false = refl
 
 module _ (t : ℕ) (hs : List Happening) (h : Happening) (later : NoneLater t (with_one hs h)) where
-  front_later : NoneLater t hs
+  pub front_later : NoneLater t hs
   front_later x i = later x (in_left x hs (h ∷ []) i)
 
-  one_later : time_of h ≤ t
+  pub one_later : time_of h ≤ t
   one_later = later h (in_right h hs (h ∷ []) (inl refl))
 
 -- ---- the steps
@@ -336,7 +336,7 @@ module _ (s : Scenario) (hs : List Happening) (device : DeviceId) (h : Happening
   heard_else more t is lt = grind (arith, hearing_by, kept_where, goes_on, heard_on, heard_at, filter_map, append-nil)
 
 -- what is kept of what was heard where so many points had come
-kept_then : {s : Scenario} {hs : List Happening} {device : DeviceId} {shown : Shown} (points : ℕ)
+pub kept_then : {s : Scenario} {hs : List Happening} {device : DeviceId} {shown : Shown} (points : ℕ)
     → Shows s hs device shown → shown.come ≤ points → Summarizes silence []
     → Summarizes (heard_by_then shown points) (heard_at s hs device shown points)
 kept_then {s} {hs} {device} {shown} points sh from none =

@@ -110,7 +110,7 @@ pub none_later : {t : ℕ} {judged : List Happening} → IsHeardBefore t judged 
 none_later {t} b h i =
     time_before (time_of h) (rank h.note.body) t b.rank (key (members_in h) h.note.body) b.rest (b.before h i)
 
-joins_only : (device : DeviceId) (body : NoteBody) → rank body < 6 → is_joined_by device body ≡ changes_adjustment device body
+pub joins_only : (device : DeviceId) (body : NoteBody) → rank body < 6 → is_joined_by device body ≡ changes_adjustment device body
 joins_only device (notes.Corrected other cycle by adjustment) low = absurd (omega (arith, low))
 joins_only device body low = refl
 
@@ -129,7 +129,7 @@ heard_before t r rest hs low = record {
 -- ---- a frame tells the time only to a device that is integrating
 
 -- a record of a founded list by which a frame tells a device the time finds it integrating
-joins_integrating : (s : Scenario) (hs : List Happening) (device : DeviceId) (h : Happening) → IsFounded place_of (IsDue s) hs → IsIn h hs
+pub joins_integrating : (s : Scenario) (hs : List Happening) (device : DeviceId) (h : Happening) → IsFounded place_of (IsDue s) hs → IsIn h hs
     → is_joined_by device h.note.body ≡ true → state_before s hs device (time_of h) ≡ states.Integrating
 joins_integrating s hs device h founded i e =
     let d : IsDueIn place_of (IsDue s) hs h = due_in place_of (IsDue s) hs h founded i in

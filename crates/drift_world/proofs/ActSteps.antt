@@ -37,8 +37,7 @@ use Acting.{Acts, AreActBodies, first_bodies, joining_bodies, place_of_act, rank
 use Rattle.world_law.specs.world.{Calls.{IsSet, IsStateOf}, Moves.IsPutIn, World.{AreStored, IsAtPort, IsKept, Stored}}
 use Rattle.world_state.{proofs.WorldSteps.made_octets}
 use Rattle.world_state.specs.{Leaving.frame_after}
-use Rattle.world_state.specs.Acting
-use Acting.{AreOutcomes, HasItsRow, IsHeldIn, bodies_of, body_of, corrected_by, dispatched_by, first_by, joined_by}
+use Rattle.world_state.specs.Acting.{AreOutcomes, HasItsRow, IsHeldIn, bodies_of, body_of, corrected_by, dispatched_by, first_by, joined_by}
 use Rattle.world_state.specs.declared.{contents.Timed.TheVariants.Made, hands.AtHand.AtHand, outcomes.Outcomes.Outcomes}
 use Rattle.run_law.specs.declared.note.NoteBody.TheVariants as kinds
 use Rattle.run_law.specs.declared.steps.Act.TheVariants as acts
@@ -86,7 +85,7 @@ module _ (network : Network) (now : ℕ) where
   all_before (suc (suc at)) (x ∷ (y ∷ old)) z order le behind h (inr rest) =
       all_before (suc at) (y ∷ old) z order.1 (omega arith) (λ k d e. behind (suc k) d (omega arith)) h rest
 
-  none_before : (at : ℕ) (old : List Settled) (z : Settled)
+  pub none_before : (at : ℕ) (old : List Settled) (z : Settled)
       → ((k : ℕ) (d : Settled) → at ≤ k → k < length old → IsBefore (own_place (get_or old k d)) (own_place z) → ⊥)
       → NoneBefore place_of (map shown (drop at old)) (place_of (shown z))
   none_before zero [] z none h there before = absurd there
@@ -368,7 +367,7 @@ same_outcomes {s} {hs} {now} {device} {was} {adjustment} {act} a same =
     subst (λ o. AreProper s hs now device was adjustment act o) (sym same)
 
 -- the records of an act of a device of a world that stands
-proper : {M : Type 0} {stands : Meaning M} {s : Scenario}
+pub proper : {M : Type 0} {stands : Meaning M} {s : Scenario}
     {hs coming : List Happening} (stored : List Holding) {now : ℕ} {device : DeviceId}
     {machine : M} {node : Node} (after : Node) (was : Standing) (adjustment : Units) (act : Act)
     (outcomes : Outcomes) {r : ℕ} {more : List ℕ}

@@ -193,7 +193,7 @@ module _ {C M : Type 0} {last_step : C → ℕ} {reading : C → ℕ → ℕ} {s
       (subst (λ l. IsBefore l (act ∷ part_rank part ∷ device.0 ∷ [])) q.1 b)
 
   -- nor is it before the place
-  acts_by : (due : Option SlotTimer) → IfSome due (λ d. IsFirstDue state.timers d) → IfNone due (AreFrom never state.timers)
+  pub acts_by : (due : Option SlotTimer) → IfSome due (λ d. IsFirstDue state.timers d) → IfNone due (AreFrom never state.timers)
       → IfSome due (λ d. (IsBefore (due_place (length network.device) d) p → ⊥) ⊎ IsRipePlace reading network state d p)
       → {device : DeviceId} (node : Node) (task : Task) (t : ℕ) → state.time ≤ t → t ≤ 2 ^ 60
       → (timed : IsActTimed reading stands network state.timers state device) → keeps stands timed.machine network device node
@@ -258,7 +258,7 @@ module _ {C M : Type 0} {last_step : C → ℕ} {reading : C → ℕ → ℕ} {s
   }
 
 -- where the first of each kind is not before the place, nothing is
-nothing_before : {C M : Type 0} {last_step : C → ℕ} {reading : C → ℕ → ℕ}
+pub nothing_before : {C M : Type 0} {last_step : C → ℕ} {reading : C → ℕ → ℕ}
     {stands : Meaning M} {network : Network} {state : State C M} {place : Option DueAt}
     {due : Option SlotTimer} {p : List ℕ} → IsSized last_step network state → AreTimed reading stands network state
     → AreFirsts state place due → AreNotBefore reading network state place due p
@@ -285,7 +285,7 @@ sooner_too {w} p has not = record {
 module _ {C M : Type 0} {reading : C → ℕ → ℕ} {stands : Meaning M} {network : Network} {state : State C M}
     {due : SlotTimer} (are : AreTimed reading stands network state) (first : IsFirstDue state.timers due) where
   -- it is not past
-  due_time : state.time ≤ due.time
+  pub due_time : state.time ≤ due.time
   due_time = in_all (λ t. state.time ≤ t.time) state.timers due.slot _ are.later first.timer
 
   -- where it is not for frames that wait, it is for a part of what a device does
@@ -302,7 +302,7 @@ module _ {C M : Type 0} {reading : C → ℕ → ℕ} {stands : Meaning M} {netw
       )
 
   -- its rank is that of the frames that wait, or of a part
-  due_ranks : (3 ≤ due.rank) × (due.rank ≤ 6)
+  pub due_ranks : (3 ≤ due.rank) × (due.rank ≤ 6)
   due_ranks = elim (cases_lt due.slot (length network.device)) [
     | inl low ↦
         let timed = (are.each (record { 0 = due.slot }) low).ripe in

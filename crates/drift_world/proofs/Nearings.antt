@@ -172,7 +172,7 @@ module _ {C M : Type 0} (last_step : C → ℕ) (reading : C → ℕ → ℕ) (s
   part_work part = let most = part_most part in omega arith
 
   -- what a device does leaves as much to work off, and the device has nothing more to do
-  act_less : {part : Part} {device : DeviceId} {old mid new : State C M} → IsActive reading stands network old part device
+  pub act_less : {part : Part} {device : DeviceId} {old mid new : State C M} → IsActive reading stands network old part device
       → mid ≡ record old { machines = mid.machines; early = mid.early; settled = mid.settled; spare = mid.spare } → IsRunning reading stands network mid
       → new ≡ record mid { timers = new.timers }
       → ((slot : ℕ) → (slot ≡ length network.device + device.0 → ⊥) → slice_get new.timers slot ≡ slice_get mid.timers slot)
@@ -186,7 +186,7 @@ module _ {C M : Type 0} (last_step : C → ℕ) (reading : C → ℕ → ℕ) (s
       fewer_acts active acted same others later.1 (omega arith)
 
   -- or only what is of a later part, which it has put off
-  defer_less : (part other : Part) {device : DeviceId} {old mid new : State C M} → IsActive reading stands network old part device
+  pub defer_less : (part other : Part) {device : DeviceId} {old mid new : State C M} → IsActive reading stands network old part device
       → part_rank part < part_rank other
       → mid ≡ record old { machines = mid.machines; early = mid.early; settled = mid.settled; spare = mid.spare }
       → new ≡ record mid { timers = new.timers }
@@ -216,7 +216,7 @@ module _ {C M : Type 0} (last_step : C → ℕ) (reading : C → ℕ → ℕ) (s
       omega arith
 
   -- a step that leaves less to work off comes nearer to any time
-  less_nears : (until : ℕ) (old new : State C M) → IsWell last_step reading stands network new → new.time ≡ old.time → IsLess network old new
+  pub less_nears : (until : ℕ) (old new : State C M) → IsWell last_step reading stands network new → new.time ≡ old.time → IsLess network old new
       → distance network until new < distance network until old
   less_nears until old new well time (inl lt) =
       fewer ((until - new.time) + burden network new) ((until - old.time) + burden network old) (7 * length network.device) (acting network new)
@@ -270,7 +270,7 @@ on_both (Err e) P Q R p q f = tt
 
 module _ {C M : Type 0} (network : Network) (until : ℕ) (old : State C M) where
   -- what nears a state with more room nears the state before it
-  nears_behind : (mid new : State C M) (turn : Turn) → distance network until mid ≤ distance network until old
+  pub nears_behind : (mid new : State C M) (turn : Turn) → distance network until mid ≤ distance network until old
       → Nears network until mid new turn → Nears network until old new turn
   nears_behind mid new Gives le nears = tt
   nears_behind mid new Ends le nears = tt

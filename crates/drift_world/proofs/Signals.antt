@@ -239,14 +239,14 @@ module _ {s : Scenario} {hs : List Happening} (founded : IsFounded place_of (IsD
       it.arrives.put
 
   -- a control frame on a wire is that of its record
-  frame_told : (frame : Pcf) → e.signal ≡ control (Ok frame) → frame_from hs e.cause ≡ Some frame
+  pub frame_told : (frame : Pcf) → e.signal ≡ control (Ok frame) → frame_from hs e.cause ≡ Some frame
   frame_told frame is =
       let at = founded_at s hs it.putting founded (numbered_in hs e.cause it.putting it.there) in
       ap (option_and_then (λ h. h.frame)) it.there
       ∙ this_frame frame at.due (rw is at puts_it)
 
   -- and so are other octets
-  octets_told : (octets : List ℕ) → e.signal ≡ timed octets → octets_from hs e.cause ≡ octets
+  pub octets_told : (octets : List ℕ) → e.signal ≡ timed octets → octets_from hs e.cause ≡ octets
   octets_told octets is =
       let at = founded_at s hs it.putting founded (numbered_in hs e.cause it.putting it.there) in
       rw it.there
@@ -364,7 +364,7 @@ module _ (s : Scenario) (hs : List Happening) (founded : IsFounded place_of (IsD
       plain_next s hs founded range n (all_plain n) k (omega arith) there h.note.body refl timed_so
 
   -- octets of the schedule that are on a wire are no control frame
-  plain_on_wire : {e : OnWire} → IsOnWire s hs e → (octets : List ℕ) → e.signal ≡ timed octets
+  pub plain_on_wire : {e : OnWire} → IsOnWire s hs e → (octets : List ℕ) → e.signal ≡ timed octets
       → signal_of octets ≡ timed octets
   plain_on_wire {e} it octets is =
       plain_signal octets (by (rw is at (puts_it founded it)))
@@ -514,7 +514,7 @@ module _ {C M : Type 0} (reading : C → ℕ → ℕ) (stands : Meaning (Kept M)
     called node m = MayCall s.network e.device node m arriving
 
     -- the machine stands for a node that may be called
-    node_of : (node : Node) × stands machine s.network e.device node × MayCall s.network e.device node moment arriving
+    pub node_of : (node : Node) × stands machine s.network e.device node × MayCall s.network e.device node moment arriving
     node_of =
         elim held [
           | inl k ↦ (

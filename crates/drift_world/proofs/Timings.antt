@@ -260,7 +260,7 @@ acts_timed reading stands network clock machine device now (Some due) time part 
 -- ---- they stay so
 
 -- where the device is as it was, and time has not gone back
-still_timed : {C M : Type 0} {reading : C → ℕ → ℕ} {stands : Meaning M}
+pub still_timed : {C M : Type 0} {reading : C → ℕ → ℕ} {stands : Meaning M}
     {network : Network} {old : State C M} (new : State C M) {device : DeviceId}
     → IsTimed reading stands network old.timers old device
     → slice_get new.clocks.items device.0 ≡ slice_get old.clocks.items device.0

@@ -111,7 +111,7 @@ module _ {s : Scenario} {now : ℕ} (ups downs : List WayState) (ways : AreWays 
       let w = way_there (is_parent_of s.network device link) link lt in
       rw w.1 (ap WayNow.hold w.2)
 
-  delay_is : (device : DeviceId) (link : LinkId) → link.0 < length s.network.link
+  pub delay_is : (device : DeviceId) (link : LinkId) → link.0 < length s.network.link
       → delay_by s.network ups downs device link ≡ delay_at s link (way_from s.network device link) now
   delay_is device link lt =
       let w = way_there (is_parent_of s.network device link) link lt in
@@ -244,7 +244,7 @@ module _ {s : Scenario} {now : ℕ} (ups downs : List WayState) (ways : AreWays 
   module _ (device : DeviceId) (link : LinkId) (signal : Signal) (sent : SignalSent)
       (put : launched s x (time_of x) x.note.body ≡ Some (record { link = link; way = way_from s.network device link; signal = signal }))
       (as_signal : signal_as s.network sent ≡ signal) where
-    abbrev placed : DeviceId → DueAt
+    abbrev pub placed : DeviceId → DueAt
     placed receiver = record {
       at = now + time_on_port s.network link signal + delay_by s.network ups downs device link;
       rank = 2;

@@ -32,7 +32,7 @@ pub record IsSourceRank (r : ℕ) : Type 0 where
   pub no_change : r ≡ 7 → ⊥
   pub either : (r ≤ 8) ⊎ (14 ≤ r)
 
-ranks : (source : Source) → IsSourceRank (source_rank source)
+pub ranks : (source : Source) → IsSourceRank (source_rank source)
 ranks (Act part device) =
     let least = part_least part in
     let most = part_most part in
@@ -60,7 +60,7 @@ at_rank other r = refl
 pub source_at : (source : Source) (body : NoteBody) → rank body ≡ source_rank source → is_at_source body ≡ true
 source_at source body same = at_rank body (subst IsSourceRank (sym same) (ranks source))
 
-rank_most : (body : NoteBody) → rank body ≤ 14
+pub rank_most : (body : NoteBody) → rank body ≤ 14
 rank_most (kinds.Event line what) = omega arith
 rank_most other = omega arith
 
@@ -73,7 +73,7 @@ each_of P (y ∷ ys) x all (inl same) = subst P (sym same) (all zero y (omega ar
 each_of P (y ∷ ys) x all (inr i) = each_of P ys x (λ k d within. all (suc k) d (omega arith)) i
 
 -- nothing that is settled stands where its source does
-is_late : {C M : Type 0} {reading : C → ℕ → ℕ} (stands : Meaning M) {network : Network}
+pub is_late : {C M : Type 0} {reading : C → ℕ → ℕ} (stands : Meaning M) {network : Network}
     (state : State C M) {z : Settled} {others : List Settled} {s : Scenario} {notes : List Note}
     → state.settled.items ≡ z ∷ others
     → (old : Stands reading (keeps stands) s (world_of network state) notes)
@@ -157,7 +157,7 @@ none_settled [] time first = refl
 none_settled (z ∷ zs) time first = let above = first z zs refl in let most = rank_most z.body in absurd (omega (arith, above, most))
 
 -- nothing that is settled is before what the first of it is not before
-none_sooner : (network : Network) (now : ℕ) (settled : List Settled) (w : List ℕ) → InOrder (map (settled_at network now) settled)
+pub none_sooner : (network : Network) (now : ℕ) (settled : List Settled) (w : List ℕ) → InOrder (map (settled_at network now) settled)
     → ((first : Settled) (others : List Settled) → settled ≡ first ∷ others → IsBefore (place_of (settled_at network now first)) w → ⊥)
     → (z : Happening) → IsIn z (map (settled_at network now) settled) → IsBefore (place_of z) w → ⊥
 none_sooner network now [] w order not z there before = absurd there

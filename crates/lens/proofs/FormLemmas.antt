@@ -39,8 +39,7 @@ use Rattle.tte_forms.{proofs.{FormLemmas.form_in_range as storm_in_range, networ
 use Rattle.tte_forms.specs.{Answering.Answer, Putting.Shown}
 use Rattle.tte_forms.specs.{declared.{form.Form.TheVariants.Storm, status.Status.{Status, TheVariants.{Done, Usage}}}}
 use Rattle.tte_forms.specs.{networks.Accepting.IsNetworkAnswer}
-use Rattle.tte_forms.specs.Forms
-use Forms.{IsFormInRange as IsStormInRange, cycles_spelled, form_of as storm_form_of, if_some, seed_spelled, storm_form}
+use Rattle.tte_forms.specs.Forms.{IsFormInRange as IsStormInRange, cycles_spelled, form_of as storm_form_of, if_some, seed_spelled, storm_form}
 
 -- ---- the form of words by their count and their first, and the numbers of forms
 
@@ -209,7 +208,7 @@ five_words_by true draw h = h
 five_words_by false draw h = tt
 
 -- the numbers of the form of words lie in their ranges
-form_in_range : (words : List (List ℕ)) → IfSome (form_of words) IsFormInRange
+pub form_in_range : (words : List (List ℕ)) → IfSome (form_of words) IsFormInRange
 unfolding form_of
 form_in_range [] = tt
 form_in_range (command ∷ []) = tt

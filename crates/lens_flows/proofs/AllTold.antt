@@ -28,7 +28,7 @@ use Rattle.run_law.specs.declared.note.NoteBody.TheVariants as notes
 
 -- ---- nothing that is owed is missing
 
-none_counted : (IsSo : ℕ → Type 0) (n : ℕ) → ((t : ℕ) → IsSo t → ⊥) → IsCountOf IsSo n → n ≡ 0
+pub none_counted : (IsSo : ℕ → Type 0) (n : ℕ) → ((t : ℕ) → IsSo t → ⊥) → IsCountOf IsSo n → n ≡ 0
 none_counted IsSo n none ([], are, is) = is
 none_counted IsSo n none (t ∷ ts, are, is) = absurd (none t (are.each t (inl refl)))
 
@@ -39,7 +39,7 @@ module _ (network : Network) (octets : List ℕ) (ns : List Note) (end : Units) 
       let d = (report_well rules r).safe.delivery flow.vl flow.of_vl m.cycle flow.device m.owed.owed in
       m.none d.delivery d.link d.cause d.there d.is
 
-  missing_none : (one : FlowTold) → KeepsRules network → IsReportOf network octets ns end
+  pub missing_none : (one : FlowTold) → KeepsRules network → IsReportOf network octets ns end
       → IsMissing network ns end one 0
   missing_none one rules r = (
     [],

@@ -57,7 +57,7 @@ blocks : BringsBlocks
 blocks = record { cover = blocks_known.cover; goes = blocks_known.goes; come = blocks_known.come }
 
 -- what the fault hypothesis leaves, and what is known of blocks
-brings : Brings
+pub brings : Brings
 brings = record {
   blocks = blocks;
   channels = channels;
@@ -133,7 +133,7 @@ begins_below channel (suc bound) {v} {h} {device} {link} {cause} {vl} {cycle} is
           }
     ]
 
-begins_on : (channel : Channel) {v : View} {h : Happening} {device : DeviceId} {link : LinkId} {cause : ℕ}
+pub begins_on : (channel : Channel) {v : View} {h : Happening} {device : DeviceId} {link : LinkId} {cause : ℕ}
     {vl : VlId} {cycle : ℕ} → IsView v → FieldsFit v.scenario.network → IsGood v device → HasGoodSources v vl
     → (d : IsRowDispatch v h device link cause vl cycle) → IsOnChannel v.scenario.network channel d.entry
     → BeginsOn v h vl cycle channel
@@ -231,11 +231,11 @@ deliveries_are_seen s mark ns until cs c channel h link cause cycle up are has i
 
 -- ---- the departures that the causes of records go back to: the test of a departure
 
-tells_departure : (body : NoteBody) → is_departure body ≡ true → IsDeparture body
+pub tells_departure : (body : NoteBody) → is_departure body ≡ true → IsDeparture body
 tells_departure (notes.TtSent device link cause vl cycle) e = eqb-true cause 0 e
 tells_departure other e = absurd (false≢true e)
 
-denies_departure : (body : NoteBody) → is_departure body ≡ false → IsDeparture body → ⊥
+pub denies_departure : (body : NoteBody) → is_departure body ≡ false → IsDeparture body → ⊥
 denies_departure (notes.TtSent device link cause vl cycle) e is =
     false≢true (sym e ∙ ap (λ (n : ℕ). n == 0) is)
 denies_departure other e is = is
@@ -253,7 +253,7 @@ module _ (hs : List Happening) where
   -- ---- by the cause
 
   -- a departure departs itself
-  departs_here : (h : Happening) (t : ℕ) → IsDeparture h.note.body → time_of h ≡ t → HasDeparted hs h t
+  pub departs_here : (h : Happening) (t : ℕ) → IsDeparture h.note.body → time_of h ≡ t → HasDeparted hs h t
   departs_here h t is at = record { first = h; back = record { causes = []; chain = tt; begins = refl }; departs = is; at = at }
 
   -- what is no departure goes back to one by its cause
@@ -265,13 +265,13 @@ module _ (hs : List Happening) where
       (g, chain.0, record { first = first; back = record { causes = causes; chain = chain.1; begins = begins }; departs = departs; at = at })
 
   -- a record without a cause that is no departure goes back to none
-  departs_never : (h : Happening) → (IsDeparture h.note.body → ⊥) → cause_of h.note.body ≡ 0 → IsDepartureOf hs h None
+  pub departs_never : (h : Happening) → (IsDeparture h.note.body → ⊥) → cause_of h.note.body ≡ 0 → IsDepartureOf hs h None
   departs_never h not none t has =
       let by = by_cause h has.first has.back.causes t not has.back.chain has.back.begins has.departs has.at in
       none_at_zero hs (cause_of h.note.body) by.0 none by.1
 
   -- any other goes back where its cause does
-  departs_by : (h g : Happening) (departure : Option ℕ) → (IsDeparture h.note.body → ⊥) → numbered hs (cause_of h.note.body) ≡ Some g
+  pub departs_by : (h g : Happening) (departure : Option ℕ) → (IsDeparture h.note.body → ⊥) → numbered hs (cause_of h.note.body) ≡ Some g
       → IsDepartureOf hs g departure → IsDepartureOf hs h departure
   departs_by h g None not there none = λ t has.
       let by = by_cause h has.first has.back.causes t not has.back.chain has.back.begins has.departs has.at in
@@ -306,7 +306,7 @@ module _ (hs : List Happening) where
   -- ---- arrivals
 
   -- the arrival that the record tells
-  arrival_is : (h : Happening) (departure : Option ℕ) (body : NoteBody) → h.note.body ≡ body → IsDepartureOf hs h departure
+  pub arrival_is : (h : Happening) (departure : Option ℕ) (body : NoteBody) → h.note.body ≡ body → IsDepartureOf hs h departure
       → IsArrivalBy hs h (arrival_by departure (time_of h) body)
   arrival_is h (Some left) (notes.Delivered device link cause vl cycle) is has =
       record { link = link; cause = cause; cycle = cycle; is = is; left = left; departed = has; time = refl }

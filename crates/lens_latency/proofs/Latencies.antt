@@ -59,7 +59,7 @@ none_of_all network Has n none whole k entry is has =
     none k entry (omega (arith, within, whole)) is has
 
 -- there is one first row
-first_once : (network : Network) (Has : Entry → Type 0) (a b : Option Entry) → IsFirstOf network Has a → IsFirstOf network Has b → a ≡ b
+pub first_once : (network : Network) (Has : Entry → Type 0) (a b : Option Entry) → IsFirstOf network Has a → IsFirstOf network Has b → a ≡ b
 first_once network Has None None none empty = refl
 first_once network Has None (Some e) none (place, is, has, before) = absurd (none place e is has)
 first_once network Has (Some e) None (place, is, has, before) none = absurd (none place e is has)
@@ -135,7 +135,7 @@ module _ {X : Type 0} (IsPart : ℕ → List X → Type 0) where
       ∙ ap (λ (zs : List X). one ++ zs) (parts_once once (first + 1) n others more rest left) ∙ sym there
 
   -- the part of an element
-  part_of : (first n : ℕ) (xs : List X) (x : X) → InParts IsPart first n xs → Contains xs x
+  pub part_of : (first n : ℕ) (xs : List X) (x : X) → InParts IsPart first n xs → Contains xs x
       → (k : ℕ) × (part : List X) × (k < first + n) × IsPart k part × Contains part x
   part_of first zero xs x none has =
       let within = (subst (λ (ys : List X). Contains ys x) none has).1 in
@@ -149,7 +149,7 @@ module _ {X : Type 0} (IsPart : ℕ → List X → Type 0) where
       ]
 
   -- the elements of each part
-  has_part : (first n k : ℕ) (xs : List X) → InParts IsPart first n xs → first ≤ k → k < first + n
+  pub has_part : (first n k : ℕ) (xs : List X) → InParts IsPart first n xs → first ≤ k → k < first + n
       → (part : List X) × IsPart k part × ((x : X) → Contains part x → Contains xs x)
   has_part first zero k xs none from to = absurd (omega (arith, from, to))
   has_part first (suc n) k xs (part, others, is, rest, same) from to =
@@ -264,7 +264,7 @@ module _ (n : Network) (range : IsInRange n) (keeps : KeepsRules n) where
           absurd (both_ways _ (switch_no_end channel device range switch) end)
 
   -- the virtual link's row that leaves its sender on the channel is one
-  one_first : (vl : VlId) (channel : Channel) (place other : ℕ) (entry second : Entry) → IsEntry n place entry → IsEntry n other second
+  pub one_first : (vl : VlId) (channel : Channel) (place other : ℕ) (entry second : Entry) → IsEntry n place entry → IsEntry n other second
       → entry.row.vl ≡ vl → second.row.vl ≡ vl → IsOnChannel n channel entry → IsOnChannel n channel second → source_of entry ≡ entry.vl.sender
       → source_of second ≡ second.vl.sender → entry ≡ second
   one_first vl channel place other entry second row also own same on there source from =
@@ -279,7 +279,7 @@ module _ (n : Network) (range : IsInRange n) (keeps : KeepsRules n) where
       (rows_go_once n place other entry second keeps row also (own ∙ sym same) link).1
 
   -- so is the one that enters an end system on the channel
-  one_last : (vl : VlId) (channel : Channel) (device : DeviceId) (place other : ℕ) (entry second : Entry) → IsEndSystem n device
+  pub one_last : (vl : VlId) (channel : Channel) (device : DeviceId) (place other : ℕ) (entry second : Entry) → IsEndSystem n device
       → IsEntry n place entry → IsEntry n other second → entry.row.vl ≡ vl → second.row.vl ≡ vl → IsOnChannel n channel entry
       → IsOnChannel n channel second → target_of entry ≡ device → target_of second ≡ device → entry ≡ second
   one_last vl channel device place other entry second end row also own same on there target into =
@@ -298,7 +298,7 @@ module _ (n : Network) (range : IsInRange n) (keeps : KeepsRules n) where
       ]
 
   -- a row that leaves a switch comes behind a window, so its own begins in the cycle
-  begins_in_cycle : (channel : Channel) (place : ℕ) (entry : Entry) → IsEntry n place entry → IsSwitchOf n channel (source_of entry)
+  pub begins_in_cycle : (channel : Channel) (place : ℕ) (entry : Entry) → IsEntry n place entry → IsSwitchOf n channel (source_of entry)
       → tolerance n ≤ arrival_of entry
   begins_in_cycle channel place entry row switch =
       let not : source_of entry ≡ entry.vl.sender → ⊥ = λ e.

@@ -176,7 +176,7 @@ module _ (s : Scenario) (hs : List Happening) (t : ℕ) where
         is = h.2;
       }
 
-  by_apart : (body : NoteBody) (n : ℕ) → spread_by s hs t body ≡ Some n → AreApart n
+  pub by_apart : (body : NoteBody) (n : ℕ) → spread_by s hs t body ≡ Some n → AreApart n
   by_apart (notes.Corrected device cycle by adjustment) n e = at_apart n e
   by_apart body n e = absurd cc
 
@@ -185,7 +185,7 @@ module _ (s : Scenario) (hs : List Happening) (t : ℕ) where
 abs_most : (d p : ℤ) → d ≤ℤ p → (pos 0 -ℤ d) ≤ℤ p → unsigned_abs d ≤ unsigned_abs p
 abs_most d p up down = grind (arith, unsigned_abs, ints)
 
-abs_close : (x y p : ℤ) → x ≤ℤ (y +ℤ p) → y ≤ℤ (x +ℤ p) → unsigned_abs (x -ℤ y) ≤ unsigned_abs p
+pub abs_close : (x y p : ℤ) → x ≤ℤ (y +ℤ p) → y ≤ℤ (x +ℤ p) → unsigned_abs (x -ℤ y) ≤ unsigned_abs p
 abs_close x y p one other = abs_most (x -ℤ y) p (omega (arith, ints, one)) (omega (arith, ints, other))
 
 -- ---- each stroke of a device's or a way's row is one of its cells
@@ -355,7 +355,7 @@ module _ (network : Network) (s : Scenario) (hs : List Happening) (ns : List Not
             ];
       })
 
-  lane_true : (line rest : List ℕ) → IsIn line (lines network title news missed flows) → line ≡ codes "<path class=\"lane " ++ rest
+  pub lane_true : (line rest : List ℕ) → IsIn line (lines network title news missed flows) → line ≡ codes "<path class=\"lane " ++ rest
       → ((device : DeviceId) × (d : Device) × (slice_get network.device device.0 ≡ Some d)
       × IsStrokeAlong network grid_here (lines network title news missed flows) (labels.Lane device) (device_cell network grid_here ns device (start_of d.start)) line)
       ⊎ ((ribbon : Ribbon) × (synchronised : ℕ) × (off : ℕ) × (ribbon.label ≡ labels.Others synchronised off) × (line ≡ ribbon_line network ribbon))
@@ -391,7 +391,7 @@ module _ (network : Network) (s : Scenario) (hs : List Happening) (ns : List Not
                 (λ k within. ap (λ cs. shade_at cs k) made.2 ∙ lane_is network s hs ns grid_here some_columns device (start_of d.start) k within),
           )
 
-  passage_true : (line rest : List ℕ) → IsIn line (lines network title news missed flows) → line ≡ codes "<path class=\"passage " ++ rest
+  pub passage_true : (line rest : List ℕ) → IsIn line (lines network title news missed flows) → line ≡ codes "<path class=\"passage " ++ rest
       → (link : LinkId) × (way : Way)
       × IsStrokeAlong network grid_here (lines network title news missed flows) (labels.Passage link way) (way_cell network grid_here ns link way) line
   passage_true line rest i e =

@@ -49,7 +49,7 @@ module _ (shade : Shade) where
   seen_code : is_blank shade ≡ false → 1 ≤ code_of shade
   seen_code e = grind (arith, nat_tests, e)
 
-  code_seen : 1 ≤ code_of shade → is_blank shade ≡ false
+  pub code_seen : 1 ≤ code_of shade → is_blank shade ≡ false
   code_seen some = grind (arith, nat_tests, some)
 
   blank_code : is_blank shade ≡ true → code_of shade ≡ 0
@@ -196,7 +196,7 @@ module _ (vl : VlId) (device : DeviceId) (cycle : ℕ) where
       by (inr brings) more = (news, inl refl, brings)
 
   -- where a record does, it has
-  brought_come : (all : List News) (shade : Shade) (news : News) → code_of shade ≤ 3 → IsIn news all → Brings news.change
+  pub brought_come : (all : List News) (shade : Shade) (news : News) → code_of shade ≤ 3 → IsIn news all → Brings news.change
       → 1 ≤ code_of (frame_behind shade all)
   brought_come [] shade news most i brings = absurd i
   brought_come (x ∷ all) shade news most (inl is) brings =
@@ -266,13 +266,13 @@ module _ (vl : VlId) (device : DeviceId) where
   seen_long cells (changes.Repeats copied) = long_if (is_of vl device copied) cells copied.cycle (repeated (shade_at cells copied.cycle) copied.channel)
   seen_long cells change = refl
 
-  filled_long : (grid : Grid) (all : List News) (cells : List Shade)
+  pub filled_long : (grid : Grid) (all : List News) (cells : List Shade)
       → length (fold (taken grid (labels.Flow vl device)) cells all) ≡ length cells
   filled_long grid [] cells = refl
   filled_long grid (news ∷ all) cells = filled_long grid all (seen vl device news.change cells) ∙ seen_long cells news.change
 
   -- the cell of a cycle is what the records make of its frame
-  filled_at : (grid : Grid) (all : List News) (cells : List Shade) (c : ℕ) → c < length cells
+  pub filled_at : (grid : Grid) (all : List News) (cells : List Shade) (c : ℕ) → c < length cells
       → shade_at (fold (taken grid (labels.Flow vl device)) cells all) c ≡ frame_behind vl device c (shade_at cells c) all
   filled_at grid [] cells c within = refl
   filled_at grid (news ∷ all) cells c within =
@@ -463,10 +463,10 @@ last_most (x ∷ all) most news (inl is) =
 last_most (x ∷ all) most news (inr i) = last_most all (max (max most x.cycle) (named_cycle x.change)) news i
 
 module _ (all : List News) (vl : VlId) (device : DeviceId) where
-  abbrev grid : Grid
+  abbrev pub grid : Grid
   grid = grid_of (last_cycle all)
 
-  abbrev cells : List Shade
+  abbrev pub cells : List Shade
   cells = flow_cells grid all (last_cycle all) [] vl device
 
   abbrev each : List Shade
@@ -672,7 +672,7 @@ module _ (network : Network) (s : Scenario) (hs : List Happening) where
   -- ---- deliveries
 
   module _ (ns : List Note) (flow : Flow) (cycle : ℕ) where
-    abbrev all : List News
+    abbrev pub all : List News
     all = news_in network s hs ns
 
     -- a record that tells of a delivery is one of it

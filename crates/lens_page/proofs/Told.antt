@@ -63,7 +63,7 @@ split_line lines text told =
     ∙ append_assoc words (lf ∷ []) (concat lines ++ text)
 
 -- where the whole text is the same, so are the lines and what stands behind them
-same_told : (lines others : List (List ℕ)) (text other : List ℕ) → All IsTold lines → All IsTold others → IsNoWord text → IsNoWord other
+pub same_told : (lines others : List (List ℕ)) (text other : List ℕ) → All IsTold lines → All IsTold others → IsNoWord text → IsNoWord other
     → concat lines ++ text ≡ concat others ++ other → AreSame lines others text other
 same_told [] [] text other told told' low low' same = record { fronts = refl; backs = same }
 same_told [] (o ∷ others) text other told told' low low' same =
@@ -81,7 +81,7 @@ same_told (l ∷ lines) (o ∷ others) text other told told' low low' same =
     record { fronts = ap (λ (x : List ℕ). x ∷ lines) line ∙ ap (λ (ls : List (List ℕ)). o ∷ ls) rest.fronts; backs = rest.backs }
 
 -- words of which the first begins with a letter, with spaces between them
-told_by : (c : ℕ) (cs : List ℕ) (ws : Words) (line : List ℕ) → 97 ≤ c → AreOfLine ((c ∷ cs) ∷ ws)
+pub told_by : (c : ℕ) (cs : List ℕ) (ws : Words) (line : List ℕ) → 97 ≤ c → AreOfLine ((c ∷ cs) ∷ ws)
     → line ≡ join_with_byte space ((c ∷ cs) ∷ ws) ++ lf ∷ [] → IsTold line
 told_by c cs [] line letter visible is =
     record { first = c; rest = cs; is = is; letter = letter; unbroken = line_unbroken ((c ∷ cs) ∷ []) visible }
@@ -183,7 +183,7 @@ all_told line P told [] all = All-nil IsTold
 all_told line P told (x ∷ xs) all =
     All-cons IsTold (line x) (map line xs) (told x (All-head P x xs all)) (all_told line P told xs (All-tail P x xs all))
 
-network_told : {network : Network} → IsInRange network → All IsTold (network_lines network)
+pub network_told : {network : Network} → IsInRange network → All IsTold (network_lines network)
 network_told {network} range =
     let devices = all_told device_line IsDeviceInRange device_told network.device range.devices in
     let links = all_told (link_line network) (IsLinkInRange network) (λ link own. link_told network link range own) network.link range.links in

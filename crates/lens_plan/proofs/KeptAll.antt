@@ -99,7 +99,7 @@ module _ (network : Network) (tree : IsTree network) where
   own_hops vl a = map_map (row_of vl) hop_of (rows_in_order network a.placed.items) ∙ hops_in_order network a.placed.items
 
   -- the rows of all messages go by the hops of their ways
-  all_hops : (ms : List Message) (attempts : List Attempt) (vl : ℕ) (hops : List Hop) → length attempts ≡ length ms
+  pub all_hops : (ms : List Message) (attempts : List Attempt) (vl : ℕ) (hops : List Hop) → length attempts ≡ length ms
       → ((j : ℕ) (m : Message) (a : Attempt) → slice_get ms j ≡ Some m → slice_get attempts j ≡ Some a → (rows : List Taken) × IsSeated network rows m a)
       → AreHops network ms hops → map hop_of (rows_from network vl attempts) ≡ hops
   all_hops [] [] vl hops long seat none = sym none
@@ -114,10 +114,10 @@ module _ (network : Network) (tree : IsTree network) where
       (all_hops ms attempts (vl + 1) others (omega (arith, long)) (λ j n b at_n at_b. seat (suc j) n b at_n at_b) rest)
       ∙ sym same
 
-  rows_counted : (rows : List Row) (hops : List Hop) → map hop_of rows ≡ hops → length rows ≡ length hops
+  pub rows_counted : (rows : List Row) (hops : List Hop) → map hop_of rows ≡ hops → length rows ≡ length hops
   rows_counted rows hops same = sym (length-map rows hop_of) ∙ ap length same
 
-  leaving_counted : (rows : List Row) (hops : List Hop) (d : DeviceId) → map hop_of rows ≡ hops
+  pub leaving_counted : (rows : List Row) (hops : List Hop) (d : DeviceId) → map hop_of rows ≡ hops
       → count_by (leaves network d) rows ≡ count_by (hop_leaves network d) hops
   leaving_counted rows hops d same = sym (count_map hop_of (hop_leaves network d) rows) ∙ ap (count_by (hop_leaves network d)) same
 
@@ -129,7 +129,7 @@ module _ (network : Network) (vls : List VirtualLink) (rows : List Row) where
   other = record network { vl = vls; row = rows }
 
   -- its paths are the same
-  path_there : (channel : Channel) (d : DeviceId) (links : List LinkId) → IsPath network channel d links → IsPath other channel d links
+  pub path_there : (channel : Channel) (d : DeviceId) (links : List LinkId) → IsPath network channel d links → IsPath other channel d links
   path_there channel d [] cm = cm
   path_there channel d (link ∷ links) h =
       let o = opened (λ (l : Link). (l.child ≡ d) × IsSwitchOf network channel l.parent × IsPath network channel l.parent links) (link_at network link) h in
@@ -176,17 +176,17 @@ module _ (network : Network) (vls : List VirtualLink) (rows : List Row) where
   }
 
   module _ (keeps : KeepsRules network) where
-    one_cm : (part : ℕ) → HasOneCm other part
+    pub one_cm : (part : ℕ) → HasOneCm other part
     one_cm part = let own = keeps CompressionMasters part in record { on_a = own.on_a; on_b = own.on_b }
 
-    connected : (i : ℕ) → IsConnected other i
+    pub connected : (i : ℕ) → IsConnected other i
     connected i = let own = keeps Connections i in record {
       ends = own.ends;
       relays = own.relays;
       paths = λ channel of. leads_there channel (record { 0 = i }) (own.paths channel of);
     }
 
-    masters_suffice : (part : ℕ) → MastersSuffice other part
+    pub masters_suffice : (part : ℕ) → MastersSuffice other part
     masters_suffice part = let own = keeps Masters part in record {
       least = own.least;
       most = own.most;
@@ -198,17 +198,17 @@ module _ (network : Network) (vls : List VirtualLink) (rows : List Row) where
       one_faulty = own.one_faulty;
     }
 
-    delays_fit : (place : ℕ) → DelaysFit other place
+    pub delays_fit : (place : ℕ) → DelaysFit other place
     delays_fit place beta channel links is of path =
         keeps Delays place beta channel links (beta_back beta is) of (path_back channel (record { 0 = place }) links path)
 
-    errors_settle : ErrorsSettle other
+    pub errors_settle : ErrorsSettle other
     errors_settle beta is = keeps Settling 0 beta (beta_back beta is)
 
-    precision_fits : PrecisionFits other
+    pub precision_fits : PrecisionFits other
     precision_fits = let own = keeps Precision 0 in record { errors = λ beta is. own.errors beta (beta_back beta is); calc = own.calc }
 
-    schedule_fits : ScheduleFits other
+    pub schedule_fits : ScheduleFits other
     schedule_fits = let own = keeps ScheduleStart 0 in record { begins = own.begins; ends = own.ends }
 
 -- ---- a planned network keeps all rules
@@ -244,7 +244,7 @@ none_leaves {network} d range past row =
 
 module _ (network : Network) (ms : List Message) (ids : List ℕ) (attempts : List Attempt) (s : IsSound network ms ids attempts)
     (limits : IsWithinLimits network ms) (long : length attempts ≡ length ms) where
-  abbrev planned : Network
+  abbrev pub planned : Network
   planned = planned_network network ms ids attempts
 
   abbrev new_rows : List Row

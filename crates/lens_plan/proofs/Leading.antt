@@ -31,7 +31,7 @@ if_append : (b : Bool) (h : Hop) (xs ys : List Hop) → cond b (xs ++ ys) (h ∷
 if_append true h xs ys = refl
 if_append false h xs ys = refl
 
-up_append : (other path more : List LinkId) → up_hops other (path ++ more) ≡ up_hops other path ++ up_hops other more
+pub up_append : (other path more : List LinkId) → up_hops other (path ++ more) ≡ up_hops other path ++ up_hops other more
 up_append other [] more = refl
 up_append other (link ∷ path) more =
     ap (λ (hs : List Hop). cond (is_on other link) hs (hop_by Up link ∷ hs)) (up_append other path more)
@@ -141,7 +141,7 @@ module _ (network : Network) (channel : Channel) (tree : IsTree network) where
       absurd (omega (arith, long, parts, whole))
 
   -- the way to the parent of the sender's link
-  first_way : (sender : DeviceId) (link : LinkId) (rest : List LinkId) → IsPath network channel sender (link ∷ rest)
+  pub first_way : (sender : DeviceId) (link : LinkId) (rest : List LinkId) → IsPath network channel sender (link ∷ rest)
       → up_hops rest (link ∷ rest) ++ down_hops (link ∷ rest) rest ≡ hop_by Up link ∷ []
   first_way sender link rest path =
       let off = once sender link rest (is_on rest link) path refl in
@@ -331,7 +331,7 @@ module _ (network : Network) (vl : VlId) (of_vl : VirtualLink) (start : ℕ) (go
         | inr (inr more) ↦ once_by other place f e more there is also own (sym link)
       ]
 
-  vl_is : (place : ℕ) (e : Entry) → IsEntry network place e → e.row.vl ≡ vl → e.vl ≡ of_vl
+  pub vl_is : (place : ℕ) (e : Entry) → IsEntry network place e → e.row.vl ≡ vl → e.vl ≡ of_vl
   vl_is place e is own =
       some_same e.vl of_vl (slice_get network.vl vl.0) (subst (λ (v : VlId). slice_get network.vl v.0 ≡ Some e.vl) own is.vl) goes.there
 
@@ -393,7 +393,7 @@ module _ (network : Network) (vl : VlId) (of_vl : VirtualLink) (start : ℕ) (go
 
   module _ (channel : Channel) (from : List LinkId) (path : IsPath network channel of_vl.sender from) where
     -- the way from the sender to a device with this path
-    abbrev way_to : List LinkId → List Hop
+    abbrev pub way_to : List LinkId → List Hop
     way_to to = up_hops to from ++ down_hops from to
 
     -- a link with its switch is the uplink of its child

@@ -149,7 +149,7 @@ abbrev found_or : {X : Type 0} → X → Option X → X
 found_or d None = d
 found_or d (Some x) = x
 
-some_one : {X : Type 0} (o : Option X) (x y : X) → o ≡ Some x → o ≡ Some y → x ≡ y
+pub some_one : {X : Type 0} (o : Option X) (x y : X) → o ≡ Some x → o ≡ Some y → x ≡ y
 some_one o x y one other = ap (found_or x) (sym one ∙ other)
 
 same_lists : {X : Type 0} (xs ys : List X) → length xs ≡ length ys → ((k : ℕ) (x : X) → slice_get xs k ≡ Some x → slice_get ys k ≡ Some x) → xs ≡ ys
@@ -165,7 +165,7 @@ there_of xs k d within = slice_get-get_or xs k d within
 
 -- ---- the rows that are there
 
-there_one : {network : Network} {one other : List Taken} → AreThere network one → AreThere network other
+pub there_one : {network : Network} {one other : List Taken} → AreThere network one → AreThere network other
     → one ≡ other
 there_one {network} {one} {other} are too =
     same_lists one other (are.counted ∙ sym too.counted)
@@ -300,7 +300,7 @@ pub record PlacedAlike (ones others : List Attempt) (order : List ℕ) (taken ot
   pub each : All (AreSameAt ones others) order
 
 module _ (network : Network) (ms : List Message) (tree : IsTree network) where
-  placed_one : (ones others : List Attempt) (rows : List Taken) (order : List ℕ) (taken other : List Taken)
+  pub placed_one : (ones others : List Attempt) (rows : List Taken) (order : List ℕ) (taken other : List Taken)
       → ArePlaced network ms ones rows order taken → ArePlaced network ms others rows order other → PlacedAlike ones others order taken other
   placed_one ones others rows [] taken other one two = record { taken_is = one ∙ sym two; each = All-nil (AreSameAt ones others) }
   placed_one ones others rows (place ∷ order) taken other (m, a, there, at, has, rest) (n, b, also, too, have, more) =
@@ -376,7 +376,7 @@ module _ (network : Network) (ms : List Message) (tree : IsTree network) where
       clash other.attempts rows order x
       (turn_of other.attempts rows order y.turn x.turn other.taken other.before less (got_within order x.turn one.place one.here)) one
 
-  turns_one : (rows : List Taken) (order : List ℕ) (x y : Misfit) → IsMisfit network ms rows order x → IsMisfit network ms rows order y → x.turn ≡ y.turn
+  pub turns_one : (rows : List Taken) (order : List ℕ) (x y : Misfit) → IsMisfit network ms rows order x → IsMisfit network ms rows order y → x.turn ≡ y.turn
   turns_one rows order x y one other =
       elim (cases_lt x.turn y.turn) [
         | inl less ↦ absurd (no_earlier rows order x y one other less)
@@ -387,7 +387,7 @@ module _ (network : Network) (ms : List Message) (tree : IsTree network) where
       ]
 
   -- nor is there one where all have places
-  all_placed : (attempts : List Attempt) (rows : List Taken) (order : List ℕ) (taken : List Taken) (x : Misfit)
+  pub all_placed : (attempts : List Attempt) (rows : List Taken) (order : List ℕ) (taken : List Taken) (x : Misfit)
       → ArePlaced network ms attempts rows order taken → IsMisfit network ms rows order x → ⊥
   all_placed attempts rows order taken x placed misfit =
       let within = got_within order x.turn misfit.place misfit.here in
@@ -411,14 +411,14 @@ module _ (network : Network) (ms : List Message) (tree : IsTree network) where
       subst (λ os. (mine : IsMisfit network ms rows one x) → (yours : IsMisfit network ms rows os y) → with_first x.turn mine.place one ≡ with_first y.turn yours.place os) same
       (firsts_same rows one x y)
 
-  moved_one : (rows : List Taken) (first : List ℕ) (moves : ℕ) (one other : List ℕ) → IsMoved network ms rows first moves one
+  pub moved_one : (rows : List Taken) (first : List ℕ) (moves : ℕ) (one other : List ℕ) → IsMoved network ms rows first moves one
       → IsMoved network ms rows first moves other → one ≡ other
   moved_one rows first zero one other is too = is ∙ sym too
   moved_one rows first (suc moves) one other (e, x, before, (unfit, is)) (f, y, earlier, (misfit, too)) =
       is ∙ firsts_moved rows e f x y (moved_one rows first moves e f before earlier) unfit misfit ∙ sym too
 
   -- where there are more moves there is a misfit
-  misfit_of : (rows : List Taken) (first : List ℕ) (few many : ℕ) (one other : List ℕ) → few < many → IsMoved network ms rows first few one
+  pub misfit_of : (rows : List Taken) (first : List ℕ) (few many : ℕ) (one other : List ℕ) → few < many → IsMoved network ms rows first few one
       → IsMoved network ms rows first many other → (x : Misfit) × IsMisfit network ms rows one x
   misfit_of rows first few zero one other less is too = absurd (omega (arith, less))
   misfit_of rows first few (suc many) one other less is (e, x, before, (unfit, made)) =
@@ -448,7 +448,7 @@ module _ (network : Network) (ms : List Message) (tree : IsTree network) where
       order_one (length ms) one.have.counted other.have.counted
       (firsts_one tree one.have other.have) one.by_room other.by_room
 
-  moved_from : (there : List Taken) (n k : ℕ) (xs ys : List ℕ) (one : IsReached network ms there n xs) (other : IsReached network ms there k ys)
+  pub moved_from : (there : List Taken) (n k : ℕ) (xs ys : List ℕ) (one : IsReached network ms there n xs) (other : IsReached network ms there k ys)
       → IsMoved network ms there one.first k ys
   moved_from there n k xs ys one other =
       subst (λ os. IsMoved network ms there os k ys) (sym (firsts_of_reached there n k xs ys one other)) other.moved

@@ -58,7 +58,7 @@ parts_at (z ∷ xs) ys (suc k) x at =
       | inr (i, is, there) ↦ inr (i, (let size : length (z ∷ xs) ≡ suc (length xs) = refl in omega (arith, is, size)), there)
     ]
 
-behind_at : {X : Type 0} (xs ys : List X) (i : ℕ) → slice_get (xs ++ ys) (length xs + i) ≡ slice_get ys i
+pub behind_at : {X : Type 0} (xs ys : List X) (i : ℕ) → slice_get (xs ++ ys) (length xs + i) ≡ slice_get ys i
 behind_at {X} [] ys i = ap (slice_get ys) (let e : 0 + i ≡ i = omega arith in e)
 behind_at {X} (x ∷ xs) ys i =
     ap (slice_get (x ∷ (xs ++ ys))) (let e : length (x ∷ xs) + i ≡ suc (length xs + i) = omega arith in e) ∙ behind_at xs ys i
@@ -195,7 +195,7 @@ vl_at (m ∷ ms) (id ∷ ids) (a ∷ attempts) (suc j) vl at =
     let it = vl_at ms ids attempts j vl at in
     record { m = it.m; id = it.id; a = it.a; at_m = it.at_m; at_id = it.at_id; at_a = it.at_a; is = it.is }
 
-vl_there : (ms : List Message) (ids : List ℕ) (attempts : List Attempt) (j : ℕ) (m : Message) (id : ℕ) (a : Attempt) → slice_get ms j ≡ Some m
+pub vl_there : (ms : List Message) (ids : List ℕ) (attempts : List Attempt) (j : ℕ) (m : Message) (id : ℕ) (a : Attempt) → slice_get ms j ≡ Some m
     → slice_get ids j ≡ Some id → slice_get attempts j ≡ Some a → slice_get (vls_of ms ids attempts) j ≡ Some (vl_of m id a)
 vl_there [] ids attempts j m id a at_m at_id at_a = absurd (grind (arith, at_m))
 vl_there (n ∷ ms) [] attempts j m id a at_m at_id at_a = absurd (grind (arith, at_id))
@@ -254,7 +254,7 @@ module _ (network : Network) where
             }
       ]
 
-  row_there : (vl : ℕ) (attempts : List Attempt) (j : ℕ) (a : Attempt) (i : ℕ) (p : Placed) → slice_get attempts j ≡ Some a
+  pub row_there : (vl : ℕ) (attempts : List Attempt) (j : ℕ) (a : Attempt) (i : ℕ) (p : Placed) → slice_get attempts j ≡ Some a
       → slice_get (in_order network a) i ≡ Some p → slice_get (rows_from network vl attempts) (base attempts j + i) ≡ Some (row_of (vl + j) p)
   row_there vl [] j a i p at_a at_p = absurd (grind (arith, at_a))
   row_there vl (b ∷ attempts) zero a i p at_a at_p =

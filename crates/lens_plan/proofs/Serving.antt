@@ -65,11 +65,11 @@ module _ (network planned : Network) (extends : Extends network planned) where
   link_there : (link : LinkId) (l : Link) → link_at network link ≡ Some l → link_at planned link ≡ Some l
   link_there link l at = subst (λ (ls : List Link). slice_get ls link.0 ≡ Some l) extends.links at
 
-  link_back : (link : LinkId) (l : Link) → link_at planned link ≡ Some l → link_at network link ≡ Some l
+  pub link_back : (link : LinkId) (l : Link) → link_at planned link ≡ Some l → link_at network link ≡ Some l
   link_back link l at = subst (λ (ls : List Link). slice_get ls link.0 ≡ Some l) (sym extends.links) at
 
   -- what holds of a device
-  device_there : (P : Device → Type 0) (device : DeviceId) → IsSomeAnd (device_at network device) P → IsSomeAnd (device_at planned device) P
+  pub device_there : (P : Device → Type 0) (device : DeviceId) → IsSomeAnd (device_at network device) P → IsSomeAnd (device_at planned device) P
   device_there P device h = subst (λ (ds : List Device). IsSomeAnd (slice_get ds device.0) P) extends.devices h
 
   pub device_back : (P : Device → Type 0) (device : DeviceId) → IsSomeAnd (device_at planned device) P → IsSomeAnd (device_at network device) P
@@ -84,7 +84,7 @@ module _ (network planned : Network) (extends : Extends network planned) where
       (link_there link o.0 o.1) (o.2.0, device_there (λ d. d.channel ≡ Some channel) o.0.parent o.2.1, path_there channel o.0.parent links o.2.2)
 
   -- its rows
-  entry_there : (place : ℕ) (entry : Entry) → IsEntry network place entry → IsEntry planned place entry
+  pub entry_there : (place : ℕ) (entry : Entry) → IsEntry network place entry → IsEntry planned place entry
   entry_there place entry is = record {
     row = kept network.row planned.row place entry.row extends.rows is.row;
     vl = kept network.vl planned.vl entry.row.vl.0 entry.vl extends.vls is.vl;
@@ -92,13 +92,13 @@ module _ (network planned : Network) (extends : Extends network planned) where
   }
 
   -- and its times
-  gamma_same : gamma_of network ≡ gamma_of planned
+  pub gamma_same : gamma_of network ≡ gamma_of planned
   gamma_same =
       ap (λ r. slip_of r (2 * amount network.cycle) + 4 * (amount network.grain - 1)) extends.clocks.rho
       ∙ ap (λ (c : _). slip_of planned.rho (2 * amount c) + 4 * (amount network.grain - 1)) extends.clocks.cycle
       ∙ ap (λ g. slip_of planned.rho (2 * amount planned.cycle) + 4 * (amount g - 1)) extends.clocks.grain
 
-  tolerance_same : tolerance network ≡ tolerance planned
+  pub tolerance_same : tolerance network ≡ tolerance planned
   tolerance_same = ap (λ p. amount p + gamma_of network) extends.clocks.precision ∙ ap (λ g. amount planned.precision + g) gamma_same
 
 after_kept : (after : Option ℕ) (e : ℕ) → IfSome after (λ t. t ≤ e) → unwrap_or after 0 ≤ e
@@ -123,7 +123,7 @@ abbrev pub start_by : Network → Message → ℕ
 start_by network m = max (amount network.tt_start) (unwrap_or m.after 0)
 
 module _ (network : Network) (m : Message) (planned : Network) (vl : VlId) (of_vl : VirtualLink) (s : Serves network m planned vl of_vl) where
-  vl_is : (place : ℕ) (e : Entry) → IsEntry planned place e → e.row.vl ≡ vl → e.vl ≡ of_vl
+  pub vl_is : (place : ℕ) (e : Entry) → IsEntry planned place e → e.row.vl ≡ vl → e.vl ≡ of_vl
   vl_is place e is own =
       some_same e.vl of_vl (slice_get planned.vl vl.0) (subst (λ (v : VlId). slice_get planned.vl v.0 ≡ Some e.vl) own is.vl) s.there
 
@@ -189,7 +189,7 @@ module _ (network : Network) (m : Message) (planned : Network) (vl : VlId) (of_v
     pub next : ℕ
     pub lead : Lead planned vl (start_by network m) hops next
 
-  lead_to : (channel : Channel) (receiver : DeviceId) → IsReached planned vl receiver → LeadTo channel receiver
+  pub lead_to : (channel : Channel) (receiver : DeviceId) → IsReached planned vl receiver → LeadTo channel receiver
   lead_to channel receiver reached =
       let enters = reached channel in
       let from = end_path channel of_vl.sender (s.keeps Senders vl.0 of_vl s.there) in
@@ -449,7 +449,7 @@ module _ (trial : Trial) (are : AreThere trial.network.now trial.rows.now) (plan
     delay_is : delay_on network hop.link ≡ amount row.entry.link.wire + amount row.entry.link.jitter
     delay_is = ap (λ (o : Option Link). option_map_or (λ l. amount l.wire + amount l.jitter) o 0) link_is
 
-    end_is : p.end ≡ end_of so hop p.offset
+    pub end_is : p.end ≡ end_of so hop p.offset
     end_is =
         let port = port_is in
         let delay = delay_is in

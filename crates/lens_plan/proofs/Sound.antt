@@ -83,7 +83,7 @@ module _ (network : Network) (ms : List Message) (ids : List ℕ) (are : AreIds 
     → slice_get network.vl k ≡ Some vl → id ≢ vl.id)
     (given_apart : (i j : ℕ) (m n : Message) (x y : ℕ) → i < j → slice_get ms i ≡ Some m → slice_get ms j ≡ Some n → m.id ≡ Some x → n.id ≡ Some y
     → y ≢ x) where
-  id_there : (j : ℕ) (m : Message) → slice_get ms j ≡ Some m → (id : ℕ) × (slice_get ids j ≡ Some id)
+  pub id_there : (j : ℕ) (m : Message) → slice_get ms j ≡ Some m → (id : ℕ) × (slice_get ids j ≡ Some id)
   id_there j m at = let it = id_at (taken_ids network ms) ms ids j m are at in (it.id, it.at)
 
   of_network : (k : ℕ) (vl : VirtualLink) → slice_get network.vl k ≡ Some vl → Contains (taken_ids network ms) vl.id
@@ -101,7 +101,7 @@ module _ (network : Network) (ms : List Message) (ids : List ℕ) (are : AreIds 
       is.new (subst (Contains before) (sym same) (first vl.id (of_network k vl there)))
   new_by j m (Some x) id before at given is first k vl there same = given_new j m x at given k vl there (sym is ∙ same)
 
-  ids_new : (j id : ℕ) → slice_get ids j ≡ Some id → (k : ℕ) (vl : VirtualLink) → slice_get network.vl k ≡ Some vl → id ≢ vl.id
+  pub ids_new : (j id : ℕ) → slice_get ids j ≡ Some id → (k : ℕ) (vl : VirtualLink) → slice_get network.vl k ≡ Some vl → id ≢ vl.id
   ids_new j id at k vl there =
       let m = message_of (taken_ids network ms) ms ids j id are at in
       let it = id_at (taken_ids network ms) ms ids j m.0 are m.1 in
@@ -116,7 +116,7 @@ module _ (network : Network) (ms : List Message) (ids : List ℕ) (are : AreIds 
   apart_by i j m n (Some g) (Some h) x y one other less at_m at_n given also is are first earlier same =
       given_apart i j m n g h less at_m at_n given also (sym are ∙ same ∙ is)
 
-  ids_apart : (i j x y : ℕ) → i < j → slice_get ids i ≡ Some x → slice_get ids j ≡ Some y → y ≢ x
+  pub ids_apart : (i j x y : ℕ) → i < j → slice_get ids i ≡ Some x → slice_get ids j ≡ Some y → y ≢ x
   ids_apart i j x y less at_x at_y =
       let m = message_of (taken_ids network ms) ms ids i x are at_x in
       let n = message_of (taken_ids network ms) ms ids j y are at_y in
@@ -134,12 +134,12 @@ first_in [] some = absurd (omega (arith, some))
 first_in (x ∷ xs) some = (x, (0, omega arith, refl))
 
 -- the trees of an accepted network, and the paths of an end system
-one_cm : (network : Network) → KeepsRules network → (channel : Channel) (cm other : DeviceId) → IsCmOf network channel cm → IsCmOf network channel other
+pub one_cm : (network : Network) → KeepsRules network → (channel : Channel) (cm other : DeviceId) → IsCmOf network channel cm → IsCmOf network channel other
     → cm ≡ other
 one_cm network keeps A cm other one two = let own = (keeps CompressionMasters 0).on_a refl in own.2 cm one ∙ sym (own.2 other two)
 one_cm network keeps B cm other one two = let own = (keeps CompressionMasters 1).on_b refl in own.2 cm one ∙ sym (own.2 other two)
 
-ground_of : {network : Network} (sender : DeviceId) → IsInRange network → KeepsRules network
+pub ground_of : {network : Network} (sender : DeviceId) → IsInRange network → KeepsRules network
     → IsEndSystem network sender → HasGround network sender
 ground_of {network} sender range keeps end =
     let tree = tree_kept network keeps in

@@ -67,7 +67,7 @@ module _ (hs : List Happening) where
   along_both n (x ∷ xs) m ys k a b = (a.0, along_both (cause_of x.note.body) xs m ys k a.1 b)
 
   -- there is one way to a record without a cause
-  one_along : (n : ℕ) (xs ys : List Happening) → Along hs n xs 0 → Along hs n ys 0 → xs ≡ ys
+  pub one_along : (n : ℕ) (xs ys : List Happening) → Along hs n xs 0 → Along hs n ys 0 → xs ≡ ys
   one_along n [] [] a b = refl
   one_along n [] (y ∷ ys) a b = absurd (none_at_zero n y a b.0)
   one_along n (x ∷ xs) [] a b = absurd (none_at_zero n x b a.0)
@@ -98,7 +98,7 @@ module _ (hs : List Happening) where
   pub whole_of : (n : ℕ) (h : Happening) (gs : List Happening) → Along hs n (h ∷ gs) 0 → IsWholeChain hs n h gs
   whole_of n h gs a = let r = chain_of h gs a.1 in record { there = a.0; chain = r.0; ends = r.1 }
 
-  along_whole : {n : ℕ} {h : Happening} {gs : List Happening} → IsWholeChain hs n h gs → Along hs n (h ∷ gs) 0
+  pub along_whole : {n : ℕ} {h : Happening} {gs : List Happening} → IsWholeChain hs n h gs → Along hs n (h ∷ gs) 0
   along_whole {h} {gs} w = (w.there, along_of h gs w.chain w.ends)
 
 -- ---- in a run
@@ -118,7 +118,7 @@ module _ (s : Scenario) (hs : List Happening) (founded : IsFounded place_of (IsD
   along_there n c = along_below (suc n) n (omega arith) c
 
   -- it goes back
-  goes_back : (n : ℕ) (front rest : List Happening) (h g : Happening) → Along hs n (front ++ h ∷ (g ∷ rest)) 0 → g.note.number < h.note.number
+  pub goes_back : (n : ℕ) (front rest : List Happening) (h g : Happening) → Along hs n (front ++ h ∷ (g ∷ rest)) 0 → g.note.number < h.note.number
   goes_back n front rest h g a =
       let b = along_behind hs n front h (g ∷ rest) a in
       let there = b.2.0 in
@@ -299,7 +299,7 @@ module _ (network : Network) (octets : List ℕ) (ns : List Note) (end : Units) 
       (of.run.founded p.before p.later h p.parts).1.cause in
       cut_before network octets ns end of number h there link (way_from network device link) (omega (arith, nine)) (way_is_cut device link cause lost)
 
-  by_body : (body : NoteBody) → h.note.body ≡ body → IsDecidedBy own all_decided h body (ground_by own all_decided h body)
+  pub by_body : (body : NoteBody) → h.note.body ≡ body → IsDecidedBy own all_decided h body (ground_by own all_decided h body)
   by_body (notes.Left device link cause clock) is = left_by of number h there device link cause clock is
   by_body (notes.Corrected device cycle by adjustment) is = corrected_by network octets ns end rules of number h there device cycle by adjustment is
   by_body (notes.State device state cause whys.SyncClique) is = clique_by network octets ns end rules of number h there device state cause is

@@ -134,7 +134,7 @@ module _ (link : LinkId) (way : Way) where
   cut_or_whole before some = leaves [] before 0 some (inl (refl, refl))
 
   -- where the way is cut behind them, by one of them
-  cut_found : (before : List Happening) → ((g : Happening) → IsIn g before → 1 ≤ g.note.number) → is_cut_after link way before ≡ true
+  pub cut_found : (before : List Happening) → ((g : Happening) → IsIn g before → 1 ≤ g.note.number) → is_cut_after link way before ≡ true
       → IsCutBy before (cut_by link way before)
   cut_found before some cut =
       elim (cut_or_whole before some) [ inl whole ↦ absurd (not_both (is_cut_after link way before) cut whole.1) | inr found ↦ found.0 ]
@@ -250,7 +250,7 @@ module _ (network : Network) (octets : List ℕ) (ns : List Note) (end : Units) 
   parts : all ≡ before ++ h ∷ later
   parts = (parted_there of number h there).parts
 
-  none_later : (g : Happening) → IsIn g before → nat_le (time_of g) (time_of h) ≡ true
+  pub none_later : (g : Happening) → IsIn g before → nat_le (time_of g) (time_of h) ≡ true
   none_later g i =
       le-leb (time_of g) (time_of h)
       (time_before (time_of g) (time_of h) (rank g.note.body ∷ key (members_in g) g.note.body) (rank h.note.body ∷ key (members_in h) h.note.body)

@@ -45,9 +45,8 @@ use Rattle.run_law.specs.records.{Ranks.{key, members_in, place_of, rank}}
 use Rattle.run_law.specs.scenario.{Devices.{is_cm, is_cm_role, is_end, is_parent_of, is_relay, is_relay_role, plan_of}}
 use Rattle.run_law.specs.scenario.{Scenarios.Scenario, Ways.{hold_at, is_cut, way_from}}
 use Rattle.run_law.specs.timed.{Receptions.{ArrivesAs, arrival_of, last_taken}}
-use Rattle.run_law.specs.timed.Arrivals
-use Arrivals.{entry_arrival, entry_entering, is_taken_in, occurs_in, octets_fault, octets_or_fault, row_fault}
-use Arrivals.{taken_or_fault, timed_arrival}
+use Rattle.run_law.specs.timed.Arrivals.{entry_arrival, entry_entering, is_taken_in, occurs_in, octets_fault, octets_or_fault, row_fault}
+use Rattle.run_law.specs.timed.Arrivals.{taken_or_fault, timed_arrival}
 use Rattle.schedule_tables.specs.{Rules.KeepsRules, Windows.window_of, declared.entry.Entry.Entry}
 use Rattle.sync_state.specs.{Plan.expected_at, Standing.Standing, Verdicts.{HasVerdict, deviation_on}}
 use Rattle.sync_state.specs.{correction.{Correction.correction_of, Deviation.deviation_of}}
@@ -130,7 +129,7 @@ module _ (network : Network) (octets : List ℕ) (ns : List Note) (end : Units) 
       let p = parted_there of number h there in caused network octets ns end of named p.before p.later h p.parts device body is
 
   -- what it had heard is what is told
-  heard_is : 6 ≤ rank h.note.body → (cycle : ℕ) (v : Verdict) (comes : ComesToPoint own before device (time_of h) cycle v)
+  pub heard_is : 6 ≤ rank h.note.body → (cycle : ℕ) (v : Verdict) (comes : ComesToPoint own before device (time_of h) cycle v)
       → comes.summary ≡ heard_at_point own all device (time_of h)
   heard_is high cycle v comes =
       let p = parted_there of number h there in

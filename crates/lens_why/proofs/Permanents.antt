@@ -31,8 +31,7 @@ use Rattle.run_law.specs.{declared.{judgement.{Judgement.Judgement, Reason.Reaso
 use Rattle.run_law.specs.{device.States.{adjustment_at_hearing, cycle_in, state_at_hearing}}
 use Rattle.run_law.specs.{runs.DueRecords.{IsCaused, IsDue}, scenario.{Devices.{is_cm, plan_of}, Scenarios.Scenario}}
 use Rattle.run_law.specs.control.{Hearing.{heard_as, heard_by_schedule, heard_enough, is_in_schedule, last_cycle}}
-use Rattle.run_law.specs.control.Collections
-use Collections.{ends_stretch, master_of, observation_window, point_by, point_fault, points_of, ripe_by_role}
+use Rattle.run_law.specs.control.Collections.{ends_stretch, master_of, observation_window, point_by, point_fault, points_of, ripe_by_role}
 use Rattle.run_law.specs.control.Permanence
 use Permanence.{BecomesPermanent, IsCollectedOrDropped, IsPermanenceOutcome, before_permanence, ripe_as}
 use Rattle.run_law.specs.records.{Happenings.{Happening, frame_by, happenings, numbered, time_of}, Order.is_before}
@@ -185,7 +184,7 @@ module _ (network : Network) (d : DeviceId) where
       ] in
       all_stand all (ps ++ x ∷ []) qs rises (parts ∙ sym (append_assoc ps (x ∷ []) qs)) next
 
-  last_stands : (hs : List Happening) (clusters : List Cluster) → ComeInOrder d hs
+  pub last_stands : (hs : List Happening) (clusters : List Cluster) → ComeInOrder d hs
       → AreClusters (observation_window network) (points_of hs d) clusters
       → last_collection network d hs ≡ last_or None clusters
   last_stands hs clusters rises are =

@@ -206,7 +206,7 @@ report_on network [] note = append-nil (note_line network note)
 report_on network (n ∷ ns) note = ap (λ (t : List ℕ). note_line network n ++ t) (report_on network ns note)
     ∙ sym (append_assoc (note_line network n) (concat (report_of network ns)) (note_line network note))
 
-begins_on : {network : Network} {octets rest left : List ℕ} {notes : List Note}
+pub begins_on : {network : Network} {octets rest left : List ℕ} {notes : List Note}
     → BeginsWith network octets notes rest → (h : LineThen network (length notes + 1) rest left)
     → BeginsWith network octets (notes ++ h.note ∷ []) left
 begins_on {network} {left} {notes} begins h = record {

@@ -20,7 +20,7 @@ use Rattle.tte_audit.specs.declared.refusal.AuditRefusal.TheVariants as refusals
 -- ---- the events of a report are found before its records are read
 
 -- two ends of some octets that are as long are one
-one_end : (front other rest more : List ℕ) → front ++ rest ≡ other ++ more → length rest ≡ length more → rest ≡ more
+pub one_end : (front other rest more : List ℕ) → front ++ rest ≡ other ++ more → length rest ≡ length more → rest ≡ more
 one_end [] [] rest more e long = e
 one_end [] (o ∷ os) rest more e long = absurd (omega (arith, long, ap length e, length-append (o ∷ os) more))
 one_end (f ∷ fs) [] rest more e long = absurd (omega (arith, long, ap length e, length-append (f ∷ fs) rest))

@@ -207,7 +207,7 @@ in_range (e ∷ es) begun all =
     (in_range es (λ d i. begun d (inr i)) (All-tail HoldsNoLess e es all))
 
 -- the events of a report of a network that keeps the rules are such as the laws ask for
-report_under : {network : Network} {octets : List ℕ} {ns : List Note} {time : Units} → IsNamed network
+pub report_under : {network : Network} {octets : List ℕ} {ns : List Note} {time : Units} → IsNamed network
     → KeepsRules network → IsOfEvents network octets ns time → IsUnder network (events_of ns)
 report_under {network} {ns} named rules of =
     let text = of.text.records in
@@ -222,7 +222,7 @@ report_under {network} {ns} named rules of =
     }
 
 -- they end at the time of the last
-report_ends : (events : List Event) (time : Units) → EndWith events time → EndsAt events time
+pub report_ends : (events : List Event) (time : Units) → EndWith events time → EndsAt events time
 report_ends events time ends =
     let end : Event = record { time = time; what = End } in
     subst (λ (es : List Event). Contains es end) (sym ends.1) (Contains-push ends.0 end)

@@ -28,13 +28,12 @@ use Rattle.tte_units.proofs.general_lemmas.Lists.{any_none, any_parts, fronts, n
 use Rattle.world_drive.proofs.{Earlier.{not_less, sizes}, exact_lemmas.Events.{last_is, parted}}
 use denote.Bor.{Bor}
 use Rattle.tte_io.specs.declared.lines.LineTaken.TheVariants as found
-use Rattle.tte_io.specs.declared.lines.LineTaken.TheVariants as taken
 use Rattle.tte_traces.specs.declared.fault.TraceStop.TheVariants as stops
 
 -- ---- the fault of a trace behind the events admitted is one
 
 -- one reading
-one_event : (r : Read Event) (d e : Event) → r ≡ Ok d → r ≡ Ok e → d ≡ e
+pub one_event : (r : Read Event) (d e : Event) → r ≡ Ok d → r ≡ Ok e → d ≡ e
 one_event r d e p q = cc
 
 one_refusal : (r : Read Event) (d e : LineRefusal) → r ≡ Err d → r ≡ Err e → d ≡ e
@@ -260,9 +259,9 @@ module _ {E F : Type 0} (before : List ℕ) (had : Bool) (left : Option (List �
   -- what was found is found whatever errors there are
   pub found_over : (found : LineTaken) → NextLine {E = E} before had left after left_after (Ok found)
       → NextLine {E = F} before had left after left_after (Ok found)
-  found_over taken.Whole n = anew n left left_after (Ok taken.Whole) n.consumed n.ends n.answer
-  found_over taken.Long n = anew n left left_after (Ok taken.Long) n.consumed n.ends n.answer
-  found_over taken.End n = anew n left left_after (Ok taken.End) n.consumed n.ends n.answer
+  found_over found.Whole n = anew n left left_after (Ok found.Whole) n.consumed n.ends n.answer
+  found_over found.Long n = anew n left left_after (Ok found.Long) n.consumed n.ends n.answer
+  found_over found.End n = anew n left left_after (Ok found.End) n.consumed n.ends n.answer
 
   -- so is what stays where a read failed
   pub failed_over : (e : E) (f : F) → NextLine before had left after left_after (Err e)
@@ -296,16 +295,16 @@ unmoved {E} before had {between} {left} {after} {left_after} {result} none n =
     subst (λ b. NextLine {E = E} b had left after left_after result) none.1 next
 
 -- where a source that tells its octets was found at its end, none is left in it
-none_left_after : {E : Type 0} {before : List ℕ} {had : Bool} (left : List ℕ) {after : LineReaderState}
+pub none_left_after : {E : Type 0} {before : List ℕ} {had : Bool} (left : List ℕ) {after : LineReaderState}
     (rest : List ℕ) (result : Result LineTaken E) → (had ≡ true → left ≡ [])
     → NextLine before had (Some left) after (Some rest) result → after.ended ≡ true → rest ≡ []
-none_left_after left rest (Ok taken.Whole) none n is =
+none_left_after left rest (Ok found.Whole) none n is =
     elim n.answer.ended [ inl e ↦ let on = e.1 in absurd cc | inr e ↦ e.4 ]
-none_left_after left {after} rest (Ok taken.Long) none n is =
+none_left_after left {after} rest (Ok found.Long) none n is =
     let on : after.ended ≡ false = ap (λ (r : LineReaderState). r.ended) n.answer.reader in absurd cc
 none_left_after left {after} rest (Err e) none n is =
     let on : after.ended ≡ false = ap (λ (r : LineReaderState). r.ended) n.answer.reader in absurd cc
-none_left_after left rest (Ok taken.End) none n is =
+none_left_after left rest (Ok found.End) none n is =
     elim n.answer.end [
       | inl e ↦ behind_none (n.earlier ++ n.last) rest (sym n.consumed ∙ none e)
       | inr e ↦ e
@@ -318,12 +317,12 @@ none_left_after left rest (Ok taken.End) none n is =
 module _ {E : Type 0} (before : List ℕ) (had : Bool) (left : Option (List ℕ)) (after : LineReaderState)
     (left_after : Option (List ℕ)) where
   -- where nothing came behind the end, and where it is found none is left
-  ends_so : (result : Result LineTaken E) (n : NextLine before had left after left_after result) → had ≡ true
+  pub ends_so : (result : Result LineTaken E) (n : NextLine before had left after left_after result) → had ≡ true
       → (n.earlier ++ n.last ≡ []) × (after.ended ≡ true)
-  ends_so (Ok taken.Whole) n is = absurd (n.ends is)
-  ends_so (Ok taken.Long) n is = absurd (n.ends is)
+  ends_so (Ok found.Whole) n is = absurd (n.ends is)
+  ends_so (Ok found.Long) n is = absurd (n.ends is)
   ends_so (Err e) n is = absurd (n.ends is)
-  ends_so (Ok taken.End) n is =
+  ends_so (Ok found.End) n is =
       (none_of (n.earlier ++ n.last) (λ some. let on = (n.needed some).0 in cc), ap (λ (r : LineReaderState). r.ended) n.answer.reader)
     where
       none_of : (xs : List ℕ) → (xs ≢ [] → ⊥) → xs ≡ []
@@ -331,19 +330,19 @@ module _ {E : Type 0} (before : List ℕ) (had : Bool) (left : Option (List ℕ)
       none_of (x ∷ xs) h = absurd (h (λ e. cc))
 
   -- a source that had told what came, and then these
-  as_told : (result : Result LineTaken E) (n : NextLine before had left after left_after result) (rest : List ℕ)
+  pub as_told : (result : Result LineTaken E) (n : NextLine before had left after left_after result) (rest : List ℕ)
       → (after.ended ≡ true → rest ≡ []) → NextLine before had (Some ((n.earlier ++ n.last) ++ rest)) after
       (Some rest) result
-  as_told (Ok taken.Whole) n rest none =
-      anew n _ (Some rest) (Ok taken.Whole) refl n.ends (record {
+  as_told (Ok found.Whole) n rest none =
+      anew n _ (Some rest) (Ok found.Whole) refl n.ends (record {
         text = n.answer.text;
         line = n.answer.line;
         ended = elim n.answer.ended [ inl e ↦ inl e | inr e ↦ inr (e.0, e.1, e.2, e.3, none e.3) ];
         reader = n.answer.reader;
       })
-  as_told (Ok taken.Long) n rest none = anew n _ (Some rest) (Ok taken.Long) refl n.ends n.answer
-  as_told (Ok taken.End) n rest none =
-      anew n _ (Some rest) (Ok taken.End) refl n.ends (record {
+  as_told (Ok found.Long) n rest none = anew n _ (Some rest) (Ok found.Long) refl n.ends n.answer
+  as_told (Ok found.End) n rest none =
+      anew n _ (Some rest) (Ok found.End) refl n.ends (record {
         none = n.answer.none;
         reader = n.answer.reader;
         end = inr (none (ap (λ (r : LineReaderState). r.ended) n.answer.reader));

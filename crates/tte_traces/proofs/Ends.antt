@@ -28,10 +28,10 @@ use Rattle.world_drive.specs.declared.observing.Cut.TheVariants as cuts
 
 -- ---- what a run has written, and what it has taken of its trace by then: what was written grew
 
-writes_nothing : (s : Shown) → WritesSome s s
+pub writes_nothing : (s : Shown) → WritesSome s s
 writes_nothing s = ([], Appends-nil s.written)
 
-writes_none : (old new : Shown) → PutsNone old new → WritesSome old new
+pub writes_none : (old new : Shown) → PutsNone old new → WritesSome old new
 writes_none old new none = ([], subst (λ w. Appends old.written w []) (sym none.0) (Appends-nil old.written))
 
 pub writes_lines : {lines : List (List ℕ)} {old new : Shown} → PutsLines lines old new → WritesSome old new
@@ -53,7 +53,7 @@ writes_answer a status (inr (inr g)) = writes_lines g.1.puts
 -- ---- what was taken
 
 -- what holds where a trace is told
-for_trace : (first after : Option (List ℕ)) (P : List ℕ → List ℕ → Type 0)
+pub for_trace : (first after : Option (List ℕ)) (P : List ℕ → List ℕ → Type 0)
     → ((octets : List ℕ) → first ≡ Some octets → (rest : List ℕ) × (after ≡ Some rest) × P octets rest) → ForTrace first after P
 for_trace None after P h = tt {0}
 for_trace (Some octets) after P h = let at = h octets refl in subst (λ a. ForTrace (Some octets) a P) (sym at.1) at.2
@@ -67,7 +67,7 @@ length-behind_line (octet ∷ octets) = shorter (octet == lf) (length-behind_lin
     shorter true less = omega arith
     shorter false less = omega (arith, less)
 
-untouched : (lines : LinesOf) (network : Network) (left : Option (List ℕ)) (old new : Shown) → lines network [] [] ≡ [] → WritesSome old new
+pub untouched : (lines : LinesOf) (network : Network) (left : Option (List ℕ)) (old new : Shown) → lines network [] [] ≡ [] → WritesSome old new
     → ForTrace left left (λ octets rest. TakesLittle lines network octets rest old new)
 untouched lines network left old new none more =
     for_trace left left (λ octets rest. TakesLittle lines network octets rest old new) (λ octets told. (

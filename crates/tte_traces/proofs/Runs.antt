@@ -63,7 +63,7 @@ use Rattle.tte_forms.specs.declared.accepting.NoNetwork.TheVariants as causes
 
 -- ---- there is an answer for each trace: records
 
-records_before : {network : Network} (events : List Event) (mark : List ℕ) → IsInRange network
+pub records_before : {network : Network} (events : List Event) (mark : List ℕ) → IsInRange network
     → (notes : List Note) × AreRecordsBefore network events mark notes
 records_before {network} events mark range =
     runs_exist_to_each_mark (record { network = network; reading = clock_reading network events; events = events }) mark range
@@ -237,7 +237,7 @@ module _ (network : Network) (octets : List ℕ) (events : List Event) where
       low t line (x ∷ r ∷ more) (inr (e, inr (f, b))) = inr (e, inl (omega (arith, f)))
 
   -- the answer begins with the records up to the place of a next event that is admitted
-  next_begins : (event : Event) {mark : List ℕ} (notes : List Note) {a : Answer}
+  pub next_begins : (event : Event) {mark : List ℕ} (notes : List Note) {a : Answer}
       → AreAdmitted network octets (events ++ event ∷ [])
       → ((p : List ℕ) → IsBefore p mark → IsBefore p (place_of_event events event))
       → AreRecordsBefore network events mark notes → IsRunAnswer octets network a
@@ -253,7 +253,7 @@ module _ (network : Network) (octets : List ℕ) (events : List Event) where
       (subst (λ es. AnswersEither report_lines network octets es a) whole i.is)
 
   -- it begins with the records so far, of whichever first events
-  answer_begins : (notes : List Note) {a : Answer} → AreAdmitted network octets events
+  pub answer_begins : (notes : List Note) {a : Answer} → AreAdmitted network octets events
       → AreRecordsSoFar network events notes → IsRunAnswer octets network a
       → BeginWith a.lines (report_of network notes)
   answer_begins notes {a} all run i =
@@ -278,7 +278,7 @@ module _ (network : Network) (octets : List ℕ) (events : List Event) where
   -- ---- where a trace ends with its end
 
   -- it begins with the records up to any mark that is not behind the end
-  ended_begins : {mark : List ℕ} (notes : List Note) {a : Answer} → IsAllAdmitted network octets events
+  pub ended_begins : {mark : List ℕ} (notes : List Note) {a : Answer} → IsAllAdmitted network octets events
       → ((p : List ℕ) → IsBefore p mark → IsBefore p ((amount (last_time events) + 1) ∷ []))
       → AreRecordsBefore network events mark notes → IsRunAnswer octets network a
       → BeginWith a.lines (report_of network notes)
@@ -583,7 +583,7 @@ module _ (s : Scenario) (hs : List Happening) where
       founded ps (qs ++ more) x (ap (λ (l : List Happening). l ++ more) e ∙ append_assoc ps (x ∷ qs) more)
 
 -- the last record of a run, of which no record moves a device that the network does not have
-note_of : {s : Scenario} {mark : List ℕ} (notes : List Note) (note : Note) (coming : List Happening)
+pub note_of : {s : Scenario} {mark : List ℕ} (notes : List Note) (note : Note) (coming : List Happening)
     → IsInRange s.network → AreEventsOf s.network s.events → IsScenarioRun s mark (notes ++ note ∷ [])
     → AreOfNetwork s (happenings s.network (notes ++ note ∷ []) ++ coming) → IsNoteOf s.network note
 note_of {s} notes note coming range all run known =

@@ -35,7 +35,7 @@ pub puts_more : {K T : Type 0} {sink : Ghosts K} (x : T) {old now new : K} → P
 puts_more {sink} x {old} {now} {new} a b =
     record { grew = grows_on (told_by sink old) (told_by sink now) (told_by sink new) a.grew b.grew; quiet = b.quiet ∙ a.quiet }
 
-fails_on : {K : Type 0} (sink : Ghosts K) (e : Cut) (old now new : K) → sink.faults now ≡ sink.faults old → FailsBy sink now new e → FailsBy sink old new e
+pub fails_on : {K : Type 0} (sink : Ghosts K) (e : Cut) (old now new : K) → sink.faults now ≡ sink.faults old → FailsBy sink now new e → FailsBy sink old new e
 fails_on sink WriteFault old now new still f = subst (λ n. Rose n (sink.faults new)) still f
 fails_on sink OutOfMemory old now new still f = f ∙ still
 

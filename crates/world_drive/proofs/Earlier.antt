@@ -66,7 +66,7 @@ order_of events event not begun = elim (no_earlier events event not) [
 ]
 
 -- the event that is given is no earlier than the last
-in_order : {network : Network} {events : List Event} {event : Event} → MayGive network events event
+pub in_order : {network : Network} {events : List Event} {event : Event} → MayGive network events event
     → (last_time events).0 ≤ℤ event.time.0
 in_order {events} {event} may = order_of events event (may.within conditions.Order) may.begun
 
@@ -178,7 +178,7 @@ no_further t u line le (x ∷ more) (inr b) = elim (cases_lt x u) [
 
 module _ (network : Network) (events : List Event) (notes more : List Note) where
   -- the records that are earlier than the time of the next event are on the way to it
-  on_the_way : {event : Event} → MayGive network events event → pos 0 ≤ℤ (last_time events).0
+  pub on_the_way : {event : Event} → MayGive network events event → pos 0 ≤ℤ (last_time events).0
       → AreRecordsSoFar network events notes → AreEarlier network events notes more (amount event.time)
       → IsOnTheWay network events event (notes ++ more)
   on_the_way {event} may begun so_far (inl none) =
@@ -250,7 +250,7 @@ module _ (network : Network) (events : List Event) (notes : List Note) (note : N
   ]
 
   -- a record that is given before the time behind the world's is of the world's time
-  stays_now : {world next : ExactWorld} (until : Units) → StandsExact network world events notes
+  pub stays_now : {world next : ExactWorld} (until : Units) → StandsExact network world events notes
       → StandsExact network next events (notes ++ note ∷ []) → note.time ≡ units_of next.now
       → pos next.now <ℤ until.0 → until.0 ≡ pos world.now +ℤ pos 1 → next.now ≡ world.now
   stays_now {next} until a b at lt after =
@@ -267,7 +267,7 @@ pub end_stays : {network : Network} {world next : ExactWorld} {events : List Eve
 end_stays {world} a b ended =
     let at = (b.is.ended (units_of world.now)).0 ((a.is.ended (units_of world.now)).1 (ended, refl)) in (at.0, omega (arith, ints, at.1))
 
-unended_before : {network : Network} {events : List Event} {notes others : List Note} {world next : ExactWorld}
+pub unended_before : {network : Network} {events : List Event} {notes others : List Note} {world next : ExactWorld}
     → StandsExact network world events notes → StandsExact network next events others → next.ended ≡ false
     → world.ended ≡ false
 unended_before {world} a b open_ = elim (cases_Bool world.ended) [
@@ -463,7 +463,7 @@ way_reached until next a b way reached open_ order limit =
 
 module _ (network : Network) (until : Units) (world : ExactWorld) where
   -- at the end of an instant the world is past it
-  past_is : {next : ExactWorld} {events : List Event} {notes others : List Note}
+  pub past_is : {next : ExactWorld} {events : List Event} {notes others : List Note}
       → StandsExact network world events notes → StandsExact network next events others
       → until.0 ≡ pos world.now +ℤ pos 1 → (world.ended ≡ false → world.now < 2 ^ 60) → Reaches world next until
       → IsPast world next

@@ -286,7 +286,7 @@ sized network vl cycle least =
     padded_size vl.length (head_of network vl cycle) (omega arith)
 
 -- what a sender makes has 60 octets to 1,514
-made_size : {network : Network} (vl : VlId) (cycle : ℕ) → IsInRange network
+pub made_size : {network : Network} (vl : VlId) (cycle : ℕ) → IsInRange network
     → (60 ≤ length (octets_of network (Made vl cycle))) × (length (octets_of network (Made vl cycle)) ≤ 1514)
 made_size {network} vl cycle range = by (slice_get network.vl vl.0) refl
   where
@@ -376,7 +376,7 @@ least_time keys key least slot d lt =
     omega arith
 
 -- no slot is before that of the least key
-not_before : (key other : ℕ) {slot : ℕ} (below : ℕ) → key ≤ other → key % 2 ^ 56 ≡ slot → (key / 2 ^ 64 ≡ never → ⊥)
+pub not_before : (key other : ℕ) {slot : ℕ} (below : ℕ) → key ≤ other → key % 2 ^ 56 ≡ slot → (key / 2 ^ 64 ≡ never → ⊥)
     → (other ≡ no_key) ⊎ (other % 2 ^ 56 ≡ below)
     → IsBefore (other / 2 ^ 64 ∷ other % 2 ^ 64 / 2 ^ 56 ∷ below ∷ []) (key / 2 ^ 64 ∷ key % 2 ^ 64 / 2 ^ 56 ∷ slot ∷ []) → ⊥
 not_before key other below le here some either (inl lt) = omega arith

@@ -148,14 +148,14 @@ append_none [] = refl
 append_none (p ∷ ps) = ap (λ (t : List Point). p ∷ t) (append_none ps)
 
 module _ (hs : List Happening) (h : Happening) (d : DeviceId) where
-  points_quiet : IsQuiet d h.note.body → points_of (hs ++ h ∷ []) d ≡ points_of hs d
+  pub points_quiet : IsQuiet d h.note.body → points_of (hs ++ h ∷ []) d ≡ points_of hs d
   points_quiet quiet = grind (arith, went_on, quiet_goes_on, quiet_point, append_none)
 
-  points_ended : change_by h.note.body ≡ Some Ends → collector_in h.note.body ≡ Some d
+  pub points_ended : change_by h.note.body ≡ Some Ends → collector_in h.note.body ≡ Some d
       → points_of (hs ++ h ∷ []) d ≡ []
   points_ended change of = grind (arith, after_one, ended)
 
-  points_given : (p : Units) → change_by h.note.body ≡ Some (Gives p) → collector_in h.note.body ≡ Some d
+  pub points_given : (p : Units) → change_by h.note.body ≡ Some (Gives p) → collector_in h.note.body ≡ Some d
       → points_of (hs ++ h ∷ []) d ≡ points_of hs d ++ point_at p.0 (master_of (members_in h)) (cycle_in h) ∷ []
   points_given p change of =
       went_on hs h d (given_goes_on d h.note.body p change)

@@ -56,7 +56,7 @@ module _ (s : Scenario) (all : List Happening) (founded : IsFounded place_of (Is
         (inr (x, in_right x front (x ∷ []) (inl refl), refl)),
   )
 
-never_fall : {network : Network} {octets : List ℕ} {notes : List Note} {end : Units}
+pub never_fall : {network : Network} {octets : List ℕ} {notes : List Note} {end : Units}
     → IsReportOf network octets notes end → NeverFall 0 notes
 never_fall {network} {notes} of =
     subst (NeverFall 0) (same_notes network notes)

@@ -16,9 +16,8 @@ use Rattle.lens.specs.{declared.draw.{drawing.Draft.Draft, putting.Layer.Layer}}
 use Rattle.lens.specs.draw.{Answer.{back_answer, draw_answer, fitting_answer}, Asking.IsAskable, Drafts.IsDraftOf}
 use Rattle.lens.specs.draw.{LineLaws.{AreMarkLines, HasLineOf, MarksStandWhereTheirsDo, PicturesDrawPlans}}
 use Rattle.lens.specs.draw.{Signs.close_line, WindowLaws.{PicturesShowWindows, ShowsWindow}}
-use Rattle.lens.specs.draw.Picture
-use Picture.{back_lines, clocks_of, found_line, found_lines, front_lines, layer_lines, lines_from, mark_lines}
-use Picture.{picture_lines, some_line, windows_of}
+use pictures.{back_lines, clocks_of, found_line, found_lines, front_lines, layer_lines, lines_from, mark_lines}
+use pictures.{picture_lines, some_line, windows_of}
 use Rattle.lens_svg.{proofs.{Painting.{taken_all, view_behind}, Windows.window_is}}
 use Rattle.lens_svg.specs.{Bodies.{look_of, scene_of, struck_look}}
 use Rattle.lens_svg.specs.{Clocks.{Clocks, clocks_in, clocks_with, gauge_of, no_clocks, share, spread_of}}
@@ -81,7 +80,7 @@ module _ {X Y : Type 0} (h : X → Option Y) (all listed : List X) (same : liste
 
 -- ---- the marks of a report
 
-struck_other : (what : What) (link : LinkId) (vl : VlId) → struck_look what ≡ Taken link vl → ⊥
+pub struck_other : (what : What) (link : LinkId) (vl : VlId) → struck_look what ≡ Taken link vl → ⊥
 struck_other (events.Break d) link vl e = cc
 struck_other what link vl e = cc
 
@@ -110,7 +109,7 @@ module _ (network : Network) where
       All-cons (IsAskable network) m ms (askable are.0 (timely n (inl refl)))
       (all_askable ms ns are.1 (λ k i. timely k (inr i)))
 
-in_shown : (view : View) (ns : List Note) (n : Note) → IsIn n (shown view ns) → IsIn n ns
+pub in_shown : (view : View) (ns : List Note) (n : Note) → IsIn n (shown view ns) → IsIn n ns
 in_shown view [] n i = absurd i
 in_shown view (m ∷ ns) n i = by (in_shown view ns n) (is_drawn view m) i
   where

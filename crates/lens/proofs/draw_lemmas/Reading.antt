@@ -14,8 +14,7 @@ use Rattle.lens.specs.declared.draw.{signs.Sign.{Sign, TheVariants.{Arrows, Back
 use Rattle.lens.specs.draw.{ClockLaws.{IsShown, IsTrueBar, PicturesShowClocks, ShowsClock, ShowsClocks}}
 use Rattle.lens.specs.draw.{Laws.HaveTitles, ReadingLaws.{PicturesAreOne, TitlesArePlain}}
 use Rattle.lens.specs.draw.{Signs.{close_line, sign_line}}
-use Rattle.lens.specs.draw.Picture
-use Picture.{back_lines, front_lines, layer_lines, lines_from, mark_lines, picture_lines, some_line, windows_of}
+use pictures.{back_lines, front_lines, layer_lines, lines_from, mark_lines, picture_lines, some_line, windows_of}
 use Rattle.lens_svg.proofs.{NoteTexts.note_plain, Painting.taken_all}
 use Rattle.tte_reports.{proofs.Reports.report_well, specs.Reports.IsReportOf}
 use Rattle.lens_svg.specs.{Laws.{AreMarksOf, shown}, Layers.{lack_of, on_lane, on_mark, opening_of}, Layout.holds}

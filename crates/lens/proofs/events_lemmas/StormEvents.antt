@@ -46,7 +46,7 @@ no_lf : (octet : ℕ) → is_lf octet ≡ false → octet ≢ lf
 no_lf octet other same = grind (arith, nat_tests)
 
 -- its words are visible, so none of its octets is an LF
-event_unbroken : {network : Network} {event : Event} → IsInRange network → IsOfNetwork network event.what
+pub event_unbroken : {network : Network} {event : Event} → IsInRange network → IsOfNetwork network event.what
     → IsEventInRange event → IsUnbroken (event_text network event)
 event_unbroken {network} {event} range of_network in_range =
     let words = signed_decimal event.time.0 ∷ what_words network event.what in
@@ -55,7 +55,7 @@ event_unbroken {network} {event} range of_network in_range =
 
 -- ---- the text of an event fits a line
 
-event_short : (network : Network) (event : Event) → IsInRange network → IsOfNetwork network event.what → IsEventInRange event
+pub event_short : (network : Network) (event : Event) → IsInRange network → IsOfNetwork network event.what → IsEventInRange event
     → length (event_text network event) ≤ line_limit
 unfolding size
 event_short network event range of_network in_range =
@@ -227,7 +227,7 @@ module _ (network : Network) (range : IsInRange network) (rules : KeepsRules net
       let cycle = range.cycle in
       record { least = omega (arith, ints); most = omega (arith, ints, late, cycle.most, cycle.least) }
 
-  storm_ranged : (seed cycles : ℕ) (before : List Event) (n : ℕ) (event : Event) → cycles ≤ 100000
+  pub storm_ranged : (seed cycles : ℕ) (before : List Event) (n : ℕ) (event : Event) → cycles ≤ 100000
       → IsStormEvent network seed cycles before n event → IsOfNetwork network event.what × IsEventInRange event
   storm_ranged seed cycles before n event few is =
       let number = storm_number network seed cycles before n event is in

@@ -39,11 +39,11 @@ IsSoUpTo IsSo after t = IsSo t × (t ≤ after)
 abbrev pub CountsUpTo : (ℕ → Type 0) → ℕ → ℕ → Type 0
 CountsUpTo IsSo after n = (ts : List ℕ) × AreTimes (IsSoUpTo IsSo after) ts × (n ≡ length ts)
 
-counts_none : (IsSo : ℕ → Type 0) → ((t : ℕ) → IsSo t → 0 < t) → CountsUpTo IsSo 0 0
+pub counts_none : (IsSo : ℕ → Type 0) → ((t : ℕ) → IsSo t → 0 < t) → CountsUpTo IsSo 0 0
 counts_none IsSo later =
     ([], all_none (IsSoUpTo IsSo 0) (λ t u. t < u) (λ t is. let lt = later t is.0 in let le = is.1 in absurd (omega (arith, lt, le))), refl)
 
-counts_more : (IsSo : ℕ → Type 0) (after u n : ℕ) → CountsUpTo IsSo after n → after < u → IsSo u → NoneWithin IsSo after u → CountsUpTo IsSo u (n + 1)
+pub counts_more : (IsSo : ℕ → Type 0) (after u n : ℕ) → CountsUpTo IsSo after n → after < u → IsSo u → NoneWithin IsSo after u → CountsUpTo IsSo u (n + 1)
 counts_more IsSo after u n (ts, are, is) lt here none = (
   ts ++ u ∷ [],
   all_more (IsSoUpTo IsSo after) (IsSoUpTo IsSo u) (λ x y. x < y) u are
@@ -60,7 +60,7 @@ counts_more IsSo after u n (ts, are, is) lt here none = (
   let grown = length-append ts (u ∷ []) in omega (arith, grown, is),
 )
 
-counts_same : (IsSo : ℕ → Type 0) (after u n : ℕ) → CountsUpTo IsSo after n → after ≤ u → NoneWithin IsSo after (u + 1) → CountsUpTo IsSo u n
+pub counts_same : (IsSo : ℕ → Type 0) (after u n : ℕ) → CountsUpTo IsSo after n → after ≤ u → NoneWithin IsSo after (u + 1) → CountsUpTo IsSo u n
 counts_same IsSo after u n (ts, are, is) le none = (
   ts,
   all_same (IsSoUpTo IsSo after) (IsSoUpTo IsSo u) (λ x y. x < y) are
@@ -73,7 +73,7 @@ counts_same IsSo after u n (ts, are, is) le none = (
 )
 
 -- where there is none behind the time
-counts_whole : (IsSo : ℕ → Type 0) (after until n : ℕ) → CountsUpTo IsSo after n → NoneWithin IsSo after (until + 1) → ((t : ℕ) → IsSo t → t ≤ until)
+pub counts_whole : (IsSo : ℕ → Type 0) (after until n : ℕ) → CountsUpTo IsSo after n → NoneWithin IsSo after (until + 1) → ((t : ℕ) → IsSo t → t ≤ until)
     → IsCountOf IsSo n
 counts_whole IsSo after until n (ts, are, is) none timely = (
   ts,
@@ -128,7 +128,7 @@ never_less {s} {hs} {device} (suc t) c d on wide first second lt =
     let reached = second.reach.reached in
     omega (arith, ints, more, now, before, reached, wide)
 
-same_cycle : {s : Scenario} {hs : List Happening} {device : DeviceId} {t : ℕ} (c d : ℕ)
+pub same_cycle : {s : Scenario} {hs : List Happening} {device : DeviceId} {t : ℕ} (c d : ℕ)
     → ReadsOn (s.reading device) → 2 ^ 32 ≤ amount s.network.cycle → ReachesPlace s hs device c 0 t
     → ReachesPlace s hs device d 0 t → c ≡ d
 same_cycle {t} c d on wide first second =
@@ -171,7 +171,7 @@ module _ (s : Scenario) (hs : List Happening) (until : ℕ) (flow : Flow) where
       none t lt early (cycle, record { begun = begun.occurs.begun; reaches = begun.begins })
 
   -- the cycle that begins next has this fate
-  counted_on : {after : ℕ} (counts : FateCounts) {begun : Begun} (fate : Fate) → IsFlow s.network flow
+  pub counted_on : {after : ℕ} (counts : FateCounts) {begun : Begun} (fate : Fate) → IsFlow s.network flow
       → ReadsOn (s.reading flow.device) → 2 ^ 32 ≤ amount s.network.cycle
       → AreCountsUpTo s hs until flow after counts → IsFirstBegun s hs flow.device after until begun
       → OccursIn flow.of_vl begun.cycle → HasFate s hs until flow begun.cycle begun.time fate
@@ -198,7 +198,7 @@ module _ (s : Scenario) (hs : List Happening) (until : ℕ) (flow : Flow) where
       ]))
 
   -- the virtual link does not occur in it
-  passed_on : {after : ℕ} (counts : FateCounts) {begun : Begun} → ReadsOn (s.reading flow.device)
+  pub passed_on : {after : ℕ} (counts : FateCounts) {begun : Begun} → ReadsOn (s.reading flow.device)
       → 2 ^ 32 ≤ amount s.network.cycle → AreCountsUpTo s hs until flow after counts
       → IsFirstBegun s hs flow.device after until begun → (OccursIn flow.of_vl begun.cycle → ⊥)
       → AreCountsUpTo s hs until flow begun.time counts
@@ -229,12 +229,12 @@ module _ (s : Scenario) (hs : List Happening) (until : ℕ) (flow : Flow) where
 abbrev pub AreUpTo : ℕ → FateCounts → Type 0
 AreUpTo after counts = (fate : Fate) → count_of counts fate ≤ after
 
-few_more : (counts : FateCounts) (after time : ℕ) (fate : Fate) → AreUpTo after counts → after < time → AreUpTo time (counted counts fate)
+pub few_more : (counts : FateCounts) (after time : ℕ) (fate : Fate) → AreUpTo after counts → after < time → AreUpTo time (counted counts fate)
 few_more counts after time fate few lt g =
     let le = few g in
     on_count (λ f n. n ≤ time) counts fate g (λ e. omega (arith, le, lt)) (λ other. omega (arith, le, lt))
 
-few_still : (counts : FateCounts) (after time : ℕ) → AreUpTo after counts → after < time → AreUpTo time counts
+pub few_still : (counts : FateCounts) (after time : ℕ) → AreUpTo after counts → after < time → AreUpTo time counts
 few_still counts after time few lt g = let le = few g in omega (arith, le, lt)
 
 -- ---- the cycles of a flow in which delivery is owed by events alone, one cycle after another

@@ -29,7 +29,7 @@ use Rattle.lens_flows.specs.declared.judge.fate.Fate.TheVariants as fates
 -- ---- the least distances of two kinds, and of all rows
 
 -- what comes after the first of the two
-least_both : (P Q R : ℕ → ℕ → Type 0) (a b : Option Nearest) → ((x y : ℕ) → P x y → R x y) → ((x y : ℕ) → Q x y → R x y)
+pub least_both : (P Q R : ℕ → ℕ → Type 0) (a b : Option Nearest) → ((x y : ℕ) → P x y → R x y) → ((x y : ℕ) → Q x y → R x y)
     → ((x y : ℕ) → R x y → P x y ⊎ Q x y) → TellsLeast P a → TellsLeast Q b → TellsLeast R (nearer a b)
 least_both P Q R None None from_p from_q split none never = λ x y is. elim (split x y is) [ inl p ↦ none x y p | inr q ↦ never x y q ]
 least_both P Q R None (Some n) from_p from_q split none least = record {
@@ -254,7 +254,7 @@ module _ (s : Scenario) (hs : List Happening) (until : ℕ) (ds : List Delivery)
 
 -- ---- what is counted of the deliveries of a flow, one delivery after another
 
-counted_on : {X : Type 0} (p : X → Bool) (xs : List X) (x : X) → length (filter p (xs ++ x ∷ [])) ≡ length (filter p xs) + one_if (p x)
+pub counted_on : {X : Type 0} (p : X → Bool) (xs : List X) (x : X) → length (filter p (xs ++ x ∷ [])) ≡ length (filter p xs) + one_if (p x)
 counted_on {X} p xs x = by (p x) refl
   where
     by : (b : Bool) → p x ≡ b → length (filter p (xs ++ x ∷ [])) ≡ length (filter p xs) + one_if (p x)

@@ -258,7 +258,7 @@ module _ (v : View) (n t : ℕ) (before : Stands v n) (is : IsView v) (device : 
         anchored = record { least = omega (arith, ints, z.anchored, z.near, x.near); most = omega (arith, ints, z.anchored, z.near, x.near) };
       }
 
-  corrects_by : (c d : Channel) (by : Units) (a b : Option Units) → ((dev : Units) → a ≡ Some dev → IsByFrame v n t before device c dev)
+  pub corrects_by : (c d : Channel) (by : Units) (a b : Option Units) → ((dev : Units) → a ≡ Some dev → IsByFrame v n t before device c dev)
       → ((dev : Units) → b ≡ Some dev → IsByFrame v n t before device d dev) → correction_of a b ≡ Some by → CorrectsSo v n t device by
   corrects_by c d by None None one other e = absurd cc
   corrects_by c d by None (Some b) one other e = corrects_first d c b by None (other b refl) one e

@@ -103,7 +103,7 @@ module _ (v : View) (device : DeviceId) (t : ℕ) (is : IsView v) (on : BeginsOn
       all_stay (earlier t v.records) (λ h i. (let back = in_earlier t v.records h i in stays_by h h.note.body back.0 back.1 refl))
       (state_at_start (start_of v.scenario.network device)) (starts_synchronised (device_at v.scenario.network device) on)
 
-stays_synchronised : {v : View} (device : DeviceId) (bound t : ℕ) → IsView v → t ≤ bound
+pub stays_synchronised : {v : View} (device : DeviceId) (bound t : ℕ) → IsView v → t ≤ bound
     → BeginsOn v.scenario.network device → NoCliqueBefore v device t → state_left v device t ≡ Synchronised
 stays_synchronised {v} device zero t is le on none =
     stays_now v device t is on none (λ w lt. absurd (omega arith))
@@ -141,7 +141,7 @@ module _ (goes : BlocksGoSo) (v : View) (n t : ℕ) (block : IsInBlock v n t) (d
       omega (arith, ints, early.0)
 
   -- so the clock of a good device that is synchronised by then was set before the block
-  set_before : (w : ℕ) → IsView v → IsEarly v n t block b → IsGood v device → w ≤ b + 1
+  pub set_before : (w : ℕ) → IsView v → IsEarly v n t block b → IsGood v device → w ≤ b + 1
       → is_synchronised (state_left v device w) ≡ true → (o : Option Happening) → last_setting (earlier w v.records) device ≡ o
       → option_map_or (λ h. pos (time_of h)) o (negsuc 0) <ℤ pos block.before.next
   set_before w is early good le synchronised None e = omega (arith, ints)
@@ -166,11 +166,11 @@ module _ (goes : BlocksGoSo) (v : View) (n t : ℕ) (block : IsInBlock v n t) (d
       set_before w is early good le synchronised (last_setting (earlier w v.records) device) refl
 
   -- a calm device has no correction point by then
-  no_point : (w cycle : ℕ) (verdict : Verdict) → IsView v → IsCalm v n t block device b → block.before.next ≤ w → w ≤ b
+  pub no_point : (w cycle : ℕ) (verdict : Verdict) → IsView v → IsCalm v n t block device b → block.before.next ≤ w → w ≤ b
       → HasPoint v w device cycle verdict → ⊥
   no_point w cycle verdict is at from le p = early_point w cycle verdict is (at.before, at.to) from le p
 
-  no_clique : (w : ℕ) → IsView v → IsCalm v n t block device b → w ≤ b + 1 → NoCliqueBefore v device w
+  pub no_clique : (w : ℕ) → IsView v → IsCalm v n t block device b → w ≤ b + 1 → NoCliqueBefore v device w
   no_clique w is at le h state cause why i lt body clique = elim (cases_lt (time_of h) block.before.next) [
     | inl early ↦ at.kept h state cause why i early body clique
     | inr from ↦

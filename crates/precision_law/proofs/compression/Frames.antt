@@ -56,14 +56,14 @@ pub not_both : (v : View) (device other : DeviceId) → IsGood v device → IsBa
 not_both v device other good bad same = both_ways (is_broken v.scenario other v.until) (subst (IsGood v) same good) bad
 
 -- a good point is of another master than a bad one
-point_not_both : {v : View} {cm : DeviceId} {by : ℕ} {p q : Point} → IsView v → IsGoodPoint v cm by p
+pub point_not_both : {v : View} {cm : DeviceId} {by : ℕ} {p q : Point} → IsView v → IsGoodPoint v cm by p
     → IsBadPoint v q → p.master ≡ q.master → ⊥
 point_not_both {v} is good bad same =
     not_both v _ _ good.dispatch.good bad.bad (one_member good.master bad.master _ is good.is_member
     (bad.is_member ∙ ap (λ m. Some m) (sym same)))
 
 -- bad points are of one master
-bad_is_one : {v : View} {p q : Point} → IsView v → IsBadPoint v p → IsBadPoint v q → p.master ≡ q.master
+pub bad_is_one : {v : View} {p q : Point} → IsView v → IsBadPoint v p → IsBadPoint v q → p.master ≡ q.master
 bad_is_one is a b = grind (arith, one_bad, member_of, same_some)
 
 -- a dispatch has no delay so far
@@ -207,14 +207,14 @@ module _ (v : View) (h : Happening) (cm : DeviceId) (cycle : ℕ) (members : Mem
   made = made_of is e
 
   -- each is good, or a broken master's
-  good_or_bad_point : (q : Point) → IsIn q (made.first ∷ made.more) → IsGoodPoint v cm (time_of h) q ⊎ IsBadPoint v q
+  pub good_or_bad_point : (q : Point) → IsIn q (made.first ∷ made.more) → IsGoodPoint v cm (time_of h) q ⊎ IsBadPoint v q
   good_or_bad_point q i = point_is cm q is (founded_at v.scenario v.records h is.run.founded e.there) made.is_cm_one (made.each q i).there
 
   -- and its master is a member
-  is_of_member : (q : Point) → IsIn q (made.first ∷ made.more) → IsMember q.master members
+  pub is_of_member : (q : Point) → IsIn q (made.first ∷ made.more) → IsMember q.master members
   is_of_member q i = rw made.members_are (member_of_point (made.first ∷ made.more) q i)
 
-  good_member_point : (i : ℕ) → IsMember i members → IsGoodMember v i → (q : Point) × IsIn q (made.first ∷ made.more) × IsGoodPoint v cm (time_of h) q
+  pub good_member_point : (i : ℕ) → IsMember i members → IsGoodMember v i → (q : Point) × IsIn q (made.first ∷ made.more) × IsGoodPoint v cm (time_of h) q
   good_member_point i set good =
       let p = point_of_member (made.first ∷ made.more) i (rw (sym made.members_are) set) in
       elim (good_or_bad_point p.0 p.1) [

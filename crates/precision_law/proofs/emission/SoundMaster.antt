@@ -89,7 +89,7 @@ within (x ∷ xs) zero kind e = omega arith
 within (x ∷ xs) (suc i) kind e = (let more = within xs i kind e in omega arith)
 
 -- the masters are enough, so there is one
-first_master : {v : View} → IsView v → (device : DeviceId) × IsFirstMaster v device
+pub first_master : {v : View} → IsView v → (device : DeviceId) × IsFirstMaster v device
 first_master {v} is =
     elim (some_below (λ i. IsFirstMaster v (record { 0 = i })) (λ i. first_or_not v (record { 0 = i })) (length v.scenario.network.device)) [
       | inl found ↦ (record { 0 = found.0 }, found.1)
@@ -111,7 +111,7 @@ pub record IsSender (v : View) (n : ℕ) (before : Hull) (cm master : DeviceId) 
   pub brought : IsBrought v Up first cm
 
 -- each first master has one
-sends_up : BlocksGoSo → {v : View} (channel : Channel) {n t : ℕ} (block : IsInBlock v n t) (cm : DeviceId)
+pub sends_up : BlocksGoSo → {v : View} (channel : Channel) {n t : ℕ} (block : IsInBlock v n t) (cm : DeviceId)
     {master : DeviceId} → IsView v → (first_correction v.sizes block.before.hull +ℤ pos v.sizes.reach) ≤ℤ pos t
     → IsCmOf v.scenario.network channel cm → ((u : ℕ) → IsInHull v (suc n) u → IsWholeFrom v channel u)
     → IsFirstMaster v master → IsSender v n block.before.hull cm master
@@ -200,7 +200,7 @@ pub record HasFrame (v : View) (n : ℕ) (before : Hull) (cm master : DeviceId) 
   pub not_negative : pos 0 ≤ℤ s.brought.point
 
 -- it brings one
-has_frame : {v : View} {n : ℕ} {before : Hull} {cm master : DeviceId} (s : IsSender v n before cm master)
+pub has_frame : {v : View} {n : ℕ} {before : Hull} {cm master : DeviceId} (s : IsSender v n before cm master)
     → IsView v → IsFirstMaster v master → HasFrame v n before cm master s
 has_frame {v} {cm} {master} s is first =
     let network = v.scenario.network in
@@ -322,7 +322,7 @@ module _ (v : View) (channel : Channel) (n t : ℕ) (block : IsInBlock v n t) (c
         to = omega (arith, r.time, aims.0);
       }
 
-  gathered : IsGathered v n block.before.hull block.before.next cm master by
+  pub gathered : IsGathered v n block.before.hull block.before.next cm master by
   gathered =
       let b = s.brought in
       let link = b.permanent.link in
@@ -552,7 +552,7 @@ module _ (goes : BlocksGoSo) (v : View) (channel : Channel) (n t : ℕ) (block :
   u = comes_to.0
 
   -- which is in the block
-  begun : block.before.next ≤ u
+  pub begun : block.before.next ≤ u
   begun =
       let near = emerges.0 in
       let e = emerges.1 in

@@ -32,7 +32,7 @@ pub record IsShown (v : View) (n t : ℕ) (shown : ℤ) : Type 0 where
   pub block : IsInBlock v n t
   pub how : ShowsIn v.sizes shown n block.before.hull t ⊎ IsNewShown v n t shown
 
-is_shown : BlocksGoSo → {v : View} {n t u : ℕ} {d : DeviceId} (block : IsInBlock v n t) → IsView v → t ≤ u
+pub is_shown : BlocksGoSo → {v : View} {n t u : ℕ} {d : DeviceId} (block : IsInBlock v n t) → IsView v → t ≤ u
     → u ≤ t + 1 → HasTimeAt v d u → IsShown v n t (pos (v.scenario.reading d t) +ℤ adjustment_left v d u)
 is_shown goes {v} {n} {t} {u} {d} block is le most has = record {
   block = block;
@@ -52,7 +52,7 @@ is_shown goes {v} {n} {t} {u} {d} block is le most has = record {
 }
 
 -- up to the end of its block it shows at most this
-most_shown : {v : View} {n t : ℕ} {shown : ℤ} → IsView v → IsShown v n t shown
+pub most_shown : {v : View} {n t : ℕ} {shown : ℤ} → IsView v → IsShown v n t shown
     → shown ≤ℤ pos (suc n * v.sizes.cycle + v.sizes.correction + v.sizes.precision)
 most_shown {v} {n} is s =
     let before = s.block.before in
@@ -69,7 +69,7 @@ most_shown {v} {n} is s =
     ]
 
 -- from the beginning of its block on, at least this
-least_shown : {v : View} (m : ℕ) {t : ℕ} {shown : ℤ} → IsView v → IsShown v (suc m) t shown
+pub least_shown : {v : View} (m : ℕ) {t : ℕ} {shown : ℤ} → IsView v → IsShown v (suc m) t shown
     → pos (suc m * v.sizes.cycle + v.sizes.correction) ≤ℤ shown
 least_shown {v} m is s =
     let before = s.block.before in
@@ -114,7 +114,7 @@ module _ {s : Scenario} {hs : List Happening} {path x y : ℕ} where
 
 module _ (cover : BlocksCover) (goes : BlocksGoSo) (s : Scenario) (hs : List Happening) (path x y until : ℕ) where
   -- the last dispatch of a cycle in the later view is near the first in the earlier one
-  near_hulls : AreNearIn s hs until → y ≤ until → (two : AreViews s hs path x y) (n : ℕ) (hull other : Hull) → hull_of (first_of two) n ≡ Some hull
+  pub near_hulls : AreNearIn s hs until → y ≤ until → (two : AreViews s hs path x y) (n : ℕ) (hull other : Hull) → hull_of (first_of two) n ≡ Some hull
       → hull_of (second_of two) n ≡ Some other → other.greatest ≤ℤ (hull.least +ℤ pos (first_of two).sizes.spread)
   near_hulls near most two zero hull other is are =
       let v = first_of two in
@@ -147,7 +147,7 @@ module _ (cover : BlocksCover) (goes : BlocksGoSo) (s : Scenario) (hs : List Hap
       omega (arith, ints, one.first_is, too.last_is)
 
   -- no later dispatch of a cycle whose block is over in the earlier view comes in the later one
-  no_later_hull : AreNearIn s hs until → y ≤ until → (two : AreViews s hs path x y) (n : ℕ) (hull other : Hull) → hull_of (first_of two) n ≡ Some hull
+  pub no_later_hull : AreNearIn s hs until → y ≤ until → (two : AreViews s hs path x y) (n : ℕ) (hull other : Hull) → hull_of (first_of two) n ≡ Some hull
       → hull_of (second_of two) n ≡ Some other → hull.least ≤ℤ hull.greatest → last_correction (first_of two).sizes hull ≤ℤ pos x
       → other.greatest ≤ℤ hull.greatest
   no_later_hull near most two zero hull other is are ordered behind =

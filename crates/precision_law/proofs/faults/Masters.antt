@@ -19,7 +19,7 @@ use Rattle.net_plan.specs.declared.event.What.TheVariants as events
 -- ---- what the fault hypothesis leaves: broken devices
 
 -- an event that breaks a device at a place
-breaks_it : (place : ℕ) (what : What) → breaks_at place what ≡ true → (d : DeviceId) × (what ≡ events.Break d) × (d.0 ≡ place)
+pub breaks_it : (place : ℕ) (what : What) → breaks_at place what ≡ true → (d : DeviceId) × (what ≡ events.Break d) × (d.0 ≡ place)
 breaks_it place (events.Break d) e = (d, refl, eqb-true d.0 place e)
 breaks_it place other e = absurd cc
 

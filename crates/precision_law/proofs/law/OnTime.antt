@@ -57,7 +57,7 @@ last_corrects {v} device t h is synchronised last =
     (ap is_synchronised synchronised)))
 
 -- one whose clock was set in the block was corrected there, not before the first correction
-corrected_late : {v : View} {n t : ℕ} (block : IsInBlock v n t) {device : DeviceId} (o : Option Happening)
+pub corrected_late : {v : View} {n t : ℕ} (block : IsInBlock v n t) {device : DeviceId} (o : Option Happening)
     → BlocksGoSo → IsView v → HasTimeAt v device t → state_left v device t ≡ Synchronised
     → last_setting (earlier t v.records) device ≡ o → pos block.before.next ≤ℤ option_map_or (λ h. pos (time_of h)) o
     (negsuc 0) → (first_correction v.sizes block.before.hull +ℤ pos v.sizes.reach) <ℤ pos t
@@ -121,7 +121,7 @@ module _ (v : View) (is : IsView v) (n value t : ℕ) (within : IsInCycle v valu
       )
 
   -- nor in a later one
-  same_cycle : (k : ℕ) (block : IsInBlock v k t) → ShowsIn v.sizes shown k block.before.hull t → k ≡ n
+  pub same_cycle : (k : ℕ) (block : IsInBlock v k t) → ShowsIn v.sizes shown k block.before.hull t → k ≡ n
   same_cycle k block shows = elim (cases_lt k n) [
     | inl lt ↦
         let space = room is in
@@ -400,7 +400,7 @@ module _ (goes : BlocksGoSo) {v : View} {n t : ℕ} (u : ℕ) (device : DeviceId
       ] refl
 
   -- each clock of a block shows the cycle for which it was last set
-  shows_cycle : t ≤ u → u ≤ t + 1 → HasTimeAt v device u
+  pub shows_cycle : t ≤ u → u ≤ t + 1 → HasTimeAt v device u
       → ShowsCycle v t (epoch_cycle (earlier u v.records) device)
       (pos (v.scenario.reading device t) +ℤ adjustment_left v device u)
   shows_cycle le most has =

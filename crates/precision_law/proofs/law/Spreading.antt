@@ -107,7 +107,7 @@ module _ (cover : BlocksCover) (goes : BlocksGoSo) (s : Scenario) (hs : List Hap
       let enough = enough_masters (second_view two) none two.longer (λ k i first member. absurd (set_early_by m two block later k first lt)) in
       omega (arith, (two.longer.lawful.rules Masters 2).threshold_least refl, ones_le_self 0))
 
-  set_before : (n : ℕ) (two : AreTwo s hs path n g h one other) (block : IsInBlock (first_view two) n (time_of g))
+  pub set_before : (n : ℕ) (two : AreTwo s hs path n g h one other) (block : IsInBlock (first_view two) n (time_of g))
       (later : IsInBlock (second_view two) n (time_of h)) → IsSetBefore (first_view two) n (time_of h) other block.before.next
   set_before n two block later =
       let v = first_view two in

@@ -44,7 +44,7 @@ abbrev pub coming : Sizes → ℕ
 coming s = 2 * s.cycle + s.correction + s.spread + 3 * s.reach
 
 -- a hull lies before the end of its block
-hull_before : {v : View} (n : ℕ) (stands : Stands v n) → IsView v → stands.hull.greatest ≤ℤ pos stands.next
+pub hull_before : {v : View} (n : ℕ) (stands : Stands v n) → IsView v → stands.hull.greatest ≤ℤ pos stands.next
 hull_before {v} zero stands is =
     let same = same_some (hull_of v zero)
     (start_hull v.sizes) stands.hull refl stands.is_hull in
@@ -62,7 +62,7 @@ pub less_at_most : (a b : ℤ) → a <ℤ b → a ≤ℤ b
 less_at_most a b lt = omega (arith, ints)
 
 -- where a cycle's dispatches begin before the time, the block of the next cycle is over in time
-later_soon : {s : Sizes} (t until : ℕ) {hull later : Hull} → IsNarrow s hull → Follows s hull later
+pub later_soon : {s : Sizes} (t until : ℕ) {hull later : Hull} → IsNarrow s hull → Follows s hull later
     → hull.least ≤ℤ pos t → t + coming s ≤ until → last_correction s later ≤ℤ pos until
 later_soon t until narrow follows early long = omega (arith, ints, follows.most)
 
@@ -102,7 +102,7 @@ module _ (known : AreBlocksKnown) (v : View) (device : DeviceId) (is : IsView v)
       (synchronised_by v device is 0 never known.come (suc n) next (omega arith) has)
 
   -- an end system that is on has come in so long behind it
-  arrives : (t : ℕ) → IsOn (state_left v device (t + 1)) → t + coming v.sizes ≤ v.until
+  pub arrives : (t : ℕ) → IsOn (state_left v device (t + 1)) → t + coming v.sizes ≤ v.until
       → IsSynchronised (state_left v device (v.until + 1))
   arrives t on long =
       let found = known.cover v t is (omega arith) in
@@ -180,7 +180,7 @@ behind_block {s} {before} {hull} next space narrow follows more ends =
 le_self : (n : ℕ) → n ≤ n
 le_self n = omega arith
 
-through : (x y : ℕ) (z : ℤ) → x ≤ y → pos y ≤ℤ z → pos x ≤ℤ z
+pub through : (x y : ℕ) (z : ℤ) → x ≤ y → pos y ≤ℤ z → pos x ≤ℤ z
 through x y z le at = omega (arith, ints)
 
 one_above : (a z : ℤ) → a ≤ℤ z → a ≤ℤ (z +ℤ pos 1)
@@ -299,7 +299,7 @@ module _ (laws : FramesGoSo) (known : AreBlocksKnown) (v : View) (channel : Chan
       (synchronised_by v device is z never known.come (suc k) next behind has)
 
   -- so a switch that is on comes in
-  comes : (t : ℕ) → t < x → x ≤ t + 1 → IsOn (state_left v device x) → t + coming v.sizes ≤ v.until
+  pub comes : (t : ℕ) → t < x → x ≤ t + 1 → IsOn (state_left v device x) → t + coming v.sizes ≤ v.until
       → IsSynchronised (state_left v device (v.until + 1))
   comes t lt le on long =
       let found = known.cover v t is (omega arith) in

@@ -51,7 +51,7 @@ AllCarry P v device x y =
     (h : Happening) → IsIn h v.records → x ≤ time_of h → time_of h < y → Carries P device h.note.body
 
 -- so what holds at x holds at y
-carried_between : (P : State → Type 0) {v : View} (device : DeviceId) (x y : ℕ) → IsView v → x ≤ y
+pub carried_between : (P : State → Type 0) {v : View} (device : DeviceId) (x y : ℕ) → IsView v → x ≤ y
     → AllCarry P v device x y → P (state_left v device x) → P (state_left v device y)
 carried_between P {v} device x y is le each p =
     let step = λ (state : State) (h : Happening). state_with device state h.note.body in
@@ -65,7 +65,7 @@ carried_between P {v} device x y is le each p =
     each h there.0 there.1 there.2) (state_left v device x) p)
 
 -- and what a record brings about, the later ones carry on
-carried_behind : (P : State → Type 0) {v : View} (device : DeviceId) (g : Happening) (y : ℕ) → IsView v
+pub carried_behind : (P : State → Type 0) {v : View} (device : DeviceId) (g : Happening) (y : ℕ) → IsView v
     → IsIn g v.records → time_of g < y → AllCarry P v device (time_of g) y
     → ((old : State) → P (state_with device old g.note.body)) → P (state_left v device y)
 carried_behind P {v} device g y is i lt each brings =
@@ -123,7 +123,7 @@ carries_by P device h body is i same told changed old p = p
 
 -- a record carries it on, if it holds of a joiner where the record makes one, and of each state to which the record
 -- changes the device's
-carries : (P : State → Type 0) {v : View} (device : DeviceId) (h : Happening) → IsView v → IsIn h v.records
+pub carries : (P : State → Type 0) {v : View} (device : DeviceId) (h : Happening) → IsView v → IsIn h v.records
     → (is_joined_by device h.note.body ≡ true → P Joining)
     → ((state : State) (cause : ℕ) (why : Why) → IsChange v device h state cause why → P state)
     → Carries P device h.note.body
@@ -187,7 +187,7 @@ module _ (v : View) (device : DeviceId) (is : IsView v) where
       caused
 
   -- no frame tells the time a device that has it
-  not_told : (h : Happening) → IsIn h v.records → IsTimed (state_left v device (time_of h))
+  pub not_told : (h : Happening) → IsIn h v.records → IsTimed (state_left v device (time_of h))
       → is_joined_by device h.note.body ≡ false
   not_told h i timed =
       let s = v.scenario in
@@ -225,13 +225,13 @@ module _ (v : View) (device : DeviceId) (is : IsView v) where
         (omega arith) c off)
 
     -- the common time stays
-    time_stays_on : (x y : ℕ) → z ≤ x → x ≤ y → IsTimed (state_left v device x) → IsTimed (state_left v device y)
+    pub time_stays_on : (x y : ℕ) → z ≤ x → x ≤ y → IsTimed (state_left v device x) → IsTimed (state_left v device y)
     time_stays_on x y late le timed =
         carried_between IsTimed device x y is le (timed_carry x y late (timed_not_off (state_left v device x) timed))
         timed
 
     -- a frame that tells a device the time leaves it with the time
-    told_has_time : (g : Happening) (x y : ℕ) → z ≤ x → IsIn g v.records → is_joined_by device g.note.body ≡ true
+    pub told_has_time : (g : Happening) (x y : ℕ) → z ≤ x → IsIn g v.records → is_joined_by device g.note.body ≡ true
         → IsOn (state_left v device x) → x ≤ time_of g → time_of g < y → IsTimed (state_left v device y)
     told_has_time g x y late i joined on from to =
         let on_then = stays_on x (time_of g) from on in
@@ -275,7 +275,7 @@ module _ (v : View) (device : DeviceId) (is : IsView v) where
         synchronised
 
     -- and is so behind a record that makes it so
-    becomes_synchronised : (g : Happening) (y : ℕ) → z ≤ time_of g → IsIn g v.records
+    pub becomes_synchronised : (g : Happening) (y : ℕ) → z ≤ time_of g → IsIn g v.records
         → IsTimed (state_left v device (time_of g))
         → time_of g < y
         → ((old : State) → IsSynchronised (state_with device old g.note.body)) → IsSynchronised (state_left v device y)
@@ -386,7 +386,7 @@ looks_by Integrating on untimed = refl
 looks_by state on untimed = absurd cc
 
 -- such a device integrates by a frame of enough members, and of a cycle that frames may name
-integrates_by : (plan : SyncPlan) (precision : ℤ) (state : State) (adjustment point : ℤ) (cycle : ℕ) (members : Members)
+pub integrates_by : (plan : SyncPlan) (precision : ℤ) (state : State) (adjustment point : ℤ) (cycle : ℕ) (members : Members)
     → state ≡ Integrating → plan.threshold ≤ count_of members → cycle ≤ last_cycle
     → heard_as plan precision state adjustment point cycle members ≡ Integrates
 integrates_by plan precision Integrating adjustment point cycle members looks enough few =

@@ -9,7 +9,7 @@ use Rattle.precision_law.proofs.words.Plans.{DeviceId, HasMargins, Network, all_
 -- the sizes of a network that keeps the rules leave room
 pub room_of : {n : Network} {path : ℕ} → KeepsRules n → HasMargins n path → HaveRoom (sizes_of n path)
 room_of {n} keeps margins =
-    let link = some_link n keeps in
+    let link = some_link n (λ rule below. keeps rule) in
     let last = all_at (λ l. amount n.correction + amount n.dmax + 8 * amount n.precision + pcf_port_time l ≤ amount n.cycle) n.link link.0 link.1
     margins.cycle.last_frame link.2 in
     record {

@@ -112,7 +112,7 @@ receiver_way {v} link device Down is e = (child_ways device link is (receiver_do
 -- ---- channels
 
 -- a link is of its parent's channel
-parent_channel : (v : View) (device : DeviceId) (link : LinkId) → IsParentOf v.scenario.network device link
+pub parent_channel : (v : View) (device : DeviceId) (link : LinkId) → IsParentOf v.scenario.network device link
     → channel_of_link v.scenario.network link ≡ channel_of v.scenario.network device
 parent_channel v device link parent =
     let l = opened (λ k. k.parent ≡ device) (link_at v.scenario.network link) parent in
@@ -194,7 +194,7 @@ pub record HasLeg (v : View) (way : Way) (h : Happening) (device : DeviceId) (li
   pub clock : ℕ
   pub shows : h.frame ≡ Some (with_clock clock of_frame)
 
-has_leg : {v : View} {way : Way} (h : Happening) {device : DeviceId} {link : LinkId} {cause : ℕ} (clock : ℕ)
+pub has_leg : {v : View} {way : Way} (h : Happening) {device : DeviceId} {link : LinkId} {cause : ℕ} (clock : ℕ)
     (is : IsView v) (i : IsIn h v.records) → h.note.body ≡ notes.Arrived device link cause clock
     → way_to v.scenario.network device link ≡ way → receiver_of v.scenario.network link way ≡ Some device
     → IsPutAs v (founded_at v.scenario v.records h is.run.founded i).front device link cause way
@@ -369,7 +369,7 @@ decoded_as v ps t device link cause octets taken takes =
     ] takes
 
 -- what is taken from a way left its sender, or an event sent it up
-put_on : {v : View} {ps : List Happening} {t : ℕ} {device : DeviceId} {link : LinkId} {cause : ℕ} {a : Arrival}
+pub put_on : {v : View} {ps : List Happening} {t : ℕ} {device : DeviceId} {link : LinkId} {cause : ℕ} {a : Arrival}
     (taken : Pcf) (way : Way) → IsView v → ArrivesAs v.scenario ps device t link cause a → TakesWith a taken
     → way_to v.scenario.network device link ≡ way → (IsPutAs v ps device link cause way
     ⊎ ((way ≡ Up) × IsSentUp v ps device link cause)) × (receiver_of v.scenario.network link way ≡ Some device)
@@ -491,7 +491,7 @@ pub record ComesSo (v : View) (way : Way) (h : Happening) (link : LinkId) : Type
   pub same_channel : way ≡ Down → channel_of_link v.scenario.network link ≡ channel_of v.scenario.network start.sender
 
 -- what arrives did so, or a broken master sent it by an event
-comes : (v : View) (n : ℕ) (way : Way) (h : Happening) (device : DeviceId) (link : LinkId) (cause clock : ℕ) → IsView v → IsIn h v.records
+pub comes : (v : View) (n : ℕ) (way : Way) (h : Happening) (device : DeviceId) (link : LinkId) (cause clock : ℕ) → IsView v → IsIn h v.records
     → h.note.number < n → h.note.body ≡ notes.Arrived device link cause clock → way_to v.scenario.network device link ≡ way
     → ComesSo v way h link ⊎ ((way ≡ Up) × IsOfBad v h)
 comes v zero way h device link cause clock is i small body on = absurd (omega arith)

@@ -81,7 +81,7 @@ set_delay {v} link l way is there e i d set =
     let c = w.sets in
     (omega (arith, ints), omega (arith, ints))))
 
-delay_is : {v : View} (link : LinkId) (l : Link) (way : Way) (t : ℕ) → IsView v
+pub delay_is : {v : View} (link : LinkId) (l : Link) (way : Way) (t : ℕ) → IsView v
     → link_at v.scenario.network link ≡ Some l → IsDelay l (delay_at v.scenario link way t)
 delay_is {v} link l way t is there =
     let nominal : wire_of v.scenario.network link ≡ amount l.wire = rw there in

@@ -20,7 +20,7 @@ state_is_on : (s : _) (ps : List Happening) (t : ℕ) (device : DeviceId) (state
 state_is_on s ps t device state cause whys.On c = ap is_off c.0
 state_is_on s ps t device state cause why c = ap is_off c.0
 
-stays_on : {v : View} (device : DeviceId) (h : Happening) (old : State) (body : NoteBody) → IsView v
+pub stays_on : {v : View} (device : DeviceId) (h : Happening) (old : State) (body : NoteBody) → IsView v
     → IsIn h v.records → h.note.body ≡ body → is_off old ≡ false → is_off (state_with device old body) ≡ false
 stays_on {v} device h old (notes.State other state cause why) is i same on =
     let at = founded_at v.scenario v.records h is.run.founded i in

@@ -55,12 +55,12 @@ pub record HasCome (v : View) (way : Way) (t0 : ℕ) (r : Happening) (frame : Pc
   pub after : t0 ≤ time_of gone.arriving
 
 -- the delay of a path is that of its first link and of the others
-delay_more : (n : Network) (link : LinkId) (l : Link) (rest : List LinkId) → link_at n link ≡ Some l
+pub delay_more : (n : Network) (link : LinkId) (l : Link) (rest : List LinkId) → link_at n link ≡ Some l
     → delay_on n (link ∷ rest) ≡ delay_by l + delay_on n rest
 delay_more n link l rest at = sum_by-cons (delay_of n) link rest ∙ ap (λ x. x + delay_on n rest) (rw at)
 
 -- so it does, where its path is no longer than others
-comes_over : {v : View} {channel : Channel} {way : Way} {t0 : ℕ} {r : Happening} {frame : Pcf}
+pub comes_over : {v : View} {channel : Channel} {way : Way} {t0 : ℕ} {r : Happening} {frame : Pcf}
     {sender receiver : DeviceId} {link : LinkId} {l : Link} {d k : ℕ} (is : IsView v) → IsWholeFrom v channel t0
     → IsUnderWay v channel way t0 r frame sender receiver link l d k → v.sizes.path + (d + delay_by l) ≤ v.sizes.dmax
     → k + 1 ≤ is.beta.links → t0 + v.sizes.dmax + v.sizes.path ≤ v.until
@@ -110,7 +110,7 @@ switch_ends {v} device channel is switch =
     ∙ not-true (is_end_system d.0.role) (sym (ap (λ c. is_some c) (sym d.2) ∙ known.switches))
 
 -- one that is a link's child is a relay
-child_relays : {v : View} (device : DeviceId) (channel : Channel) (link : LinkId) (l : Link) → IsView v
+pub child_relays : {v : View} (device : DeviceId) (channel : Channel) (link : LinkId) (l : Link) → IsView v
     → link_at v.scenario.network link ≡ Some l → l.child ≡ device → IsSwitchOf v.scenario.network channel device
     → is_relay v.scenario.network device ≡ true
 child_relays {v} device channel link l is at child switch =
@@ -287,7 +287,7 @@ master_no_cm Master e f = cc
 master_no_cm role e f = cc
 
 -- the delays of a path leave room for its error
-path_fits : {v : View} (channel : Channel) (device : DeviceId) (links : List LinkId) (is : IsView v)
+pub path_fits : {v : View} (channel : Channel) (device : DeviceId) (links : List LinkId) (is : IsView v)
     → IsDeviceOf v.scenario.network channel device → IsPath v.scenario.network channel device links
     → (v.sizes.path + delay_on v.scenario.network links ≤ v.sizes.dmax) × (length links ≤ is.beta.links)
 path_fits {v} channel device links is member path =
@@ -364,7 +364,7 @@ sound_frames_go_up v h master cm cycle is d one opens in_run =
 -- ---- the sound channel brings compressed frames down to its devices: one link down
 
 -- a frame of the sound channel has come down to the device
-record ComesDown (v : View) (channel : Channel) (first : Happening) (cm device : DeviceId) (d k : ℕ) : Type 0 where
+pub record ComesDown (v : View) (channel : Channel) (first : Happening) (cm device : DeviceId) (d k : ℕ) : Type 0 where
   pub legs : List Leg
   pub last : Happening
   pub trip : IsTrip v Down first legs last

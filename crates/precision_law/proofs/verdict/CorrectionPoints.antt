@@ -190,7 +190,7 @@ module _ (laws : FramesGoSo) (goes : BlocksGoSo) (v : View) (n t : ℕ) (block :
           ]
 
   -- so two masters at most were heard outside
-  few_heard_outside : (outside : Members) → AreOutside (heard_since v.scenario front device t) outside → count_of outside ≤ 2
+  pub few_heard_outside : (outside : Members) → AreOutside (heard_since v.scenario front device t) outside → count_of outside ≤ 2
   few_heard_outside outside are =
       elim (one_or_all (λ h. IsOutside h × IsPair v n t h.frame.members) (IsLoneIfOutside v) heard kinds) [
         | inl pair ↦ omega (arith, within pair.0.frame.members (λ h j out i set. in_pair pair.0.frame.members pair.2.1 h i out set (kinds h j)), pair.2.1.two)

@@ -39,7 +39,7 @@ head_whole file head is = elim (cases_lt (length file) head_length) [
   | inr size ↦ size
 ]
 
-capture_answer-fits : (file : List ℕ) → length file ≤ capture_limit → capture_answer file ≡ opened_answer file (opened file)
+pub capture_answer-fits : (file : List ℕ) → length file ≤ capture_limit → capture_answer file ≡ opened_answer file (opened file)
 unfolding capture_answer
 capture_answer-fits file short = rw (le-ltb capture_limit (length file) short) refl
 
@@ -67,7 +67,7 @@ answers-long left status old new long ends =
 abbrev pub answer_behind : ℕ → ℕ → CaptureHead → List ℕ → ℕ → Answer
 answer_behind n k head file to = packets_answer n (k + 1) head file to
 
-packets_next : (n k : ℕ) (head : CaptureHead) (file : List ℕ) (at : ℕ)
+pub packets_next : (n k : ℕ) (head : CaptureHead) (file : List ℕ) (at : ℕ)
     → packets_answer (suc n) k head file at ≡ found_answer k file (packet_at head file at)
     (answer_behind n k head file)
 unfolding packets_answer
@@ -226,7 +226,7 @@ unopened : (file : List ℕ) (e : CaptureRefusal) → IsFile file → HasHeadFau
 unopened file e f h = capture_answer-fits file f.short
     ∙ ap (opened_answer file) ((finds_head.refused file e f.octets).1 h)
 
-whole : (file : List ℕ) (head : CaptureHead) (ps : List Packet) → IsFile file → IsHead file head
+pub whole : (file : List ℕ) (head : CaptureHead) (ps : List Packet) → IsFile file → IsHead file head
     → StandFrom head file head_length ps (length file) → capture_answer file ≡ whole_answer file ps
 whole file head ps f h s =
     let within : length file ≤ length file = omega arith in

@@ -47,12 +47,12 @@ use Rattle.world_law.specs.source.Agreeing.{scenario}
 -- ---- how `stamp` ends
 
 module _ (granule : Units) (network : Network) (trace : List ℕ) where
-  refused_alone : amount granule < least_granule network → {b : Answer} → IsStampAnswer granule trace network b
+  pub refused_alone : amount granule < least_granule network → {b : Answer} → IsStampAnswer granule trace network b
       → b ≡ granule_answer network
   refused_alone low (inl refused) = refused.1
   refused_alone low (inr run) = absurd (let le = run.0 in omega (arith, low, le))
 
-  run_alone : least_granule network ≤ amount granule → {b : Answer} → IsStampAnswer granule trace network b
+  pub run_alone : least_granule network ≤ amount granule → {b : Answer} → IsStampAnswer granule trace network b
       → IsTraceAnswer (stamp_lines (amount granule)) trace network b
   run_alone fine (inl refused) = absurd (let low = refused.0 in omega (arith, low, fine))
   run_alone fine (inr run) = run.1
@@ -266,7 +266,7 @@ module _ (granule : ℕ) (network : Network) (notes others : List Note) where
       ++ option_to_list (option_map (stamp_line (length (before ++ event ∷ [])) (device_name network device)) o)) (same_stamp before event device same)
 
   -- those of the lines of events, where the records are the same before each of their times
-  same_behind : (before events : List Event) → ((e : Event) → IsIn e events → AreSameAt network notes others (amount e.time))
+  pub same_behind : (before events : List Event) → ((e : Event) → IsIn e events → AreSameAt network notes others (amount e.time))
       → stamps_behind granule network notes before events ≡ stamps_behind granule network others before events
   same_behind before [] same = refl
   same_behind before (event ∷ events) same =
@@ -276,7 +276,7 @@ module _ (granule : ℕ) (network : Network) (notes others : List Note) where
       (same_behind (before ++ event ∷ []) events (λ e i. same e (inr i)))
 
 -- the stamps of lines and of those behind them
-stamps_parts : (granule : ℕ) (network : Network) (notes : List Note) (before events more : List Event)
+pub stamps_parts : (granule : ℕ) (network : Network) (notes : List Note) (before events more : List Event)
     → stamps_behind granule network notes before (events ++ more)
     ≡ stamps_behind granule network notes before events ++ stamps_behind granule network notes (before ++ events) more
 stamps_parts granule network notes before [] more = ap (λ es. stamps_behind granule network notes es more) (sym (append-nil before))
@@ -446,7 +446,7 @@ module _ (granule : ℕ) (network : Network) (octets : List ℕ) (events : List 
         covers = λ place b. up place (up_to_mark (amount event.time) (amount (last_time events)) [] last place b);
       }
 
-  stamps_tell : StampsTell granule network events notes
+  pub stamps_tell : StampsTell granule network events notes
   stamps_tell = record {
     agree = λ before behind event d e stamp other is one two.
         agree granule (exact_scenario network events) mark notes (line_at network before event notes) d e stamp other in_run (is_line before behind event is)

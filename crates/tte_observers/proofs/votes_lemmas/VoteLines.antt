@@ -365,7 +365,7 @@ module _ (network : Network) (voters : Voters) (hs : List Happening) where
   lines_to zero = []
   lines_to (suc k) = lines_to k ++ lines_of (k / 2 ^ 32) (k % 2 ^ 32)
 
-  lines_none : lines_to 0 ≡ []
+  pub lines_none : lines_to 0 ≡ []
   unfolding lines_to
   lines_none = refl
 
@@ -383,7 +383,7 @@ module _ (network : Network) (voters : Voters) (hs : List Happening) where
       ap lines_to next ∙ lines_more k ∙ ap (λ c. lines_to k ++ lines_of c (k % 2 ^ 32)) one ∙ ap (λ d. lines_to k ++ lines_of cycle d) two
 
   -- lines of more places begin with those of fewer
-  lines_front : (k n : ℕ) → k ≤ n → (rest : List (List ℕ)) × (lines_to n ≡ lines_to k ++ rest)
+  pub lines_front : (k n : ℕ) → k ≤ n → (rest : List (List ℕ)) × (lines_to n ≡ lines_to k ++ rest)
   lines_front k zero le =
       let none : zero ≡ k = omega (arith, le) in ([], ap lines_to none ∙ sym (append-nil (lines_to k)))
   lines_front k (suc m) le = elim (cases_lt m k) [
@@ -484,7 +484,7 @@ module _ (network : Network) (voters : Voters) (hs : List Happening) where
       ∙ sym (before_one cycle)
 
   -- the lines of all places
-  lines_all : length network.device < 2 ^ 32 → lines_before network voters hs (2 ^ 32) ≡ lines_to (2 ^ 64)
+  pub lines_all : length network.device < 2 ^ 32 → lines_before network voters hs (2 ^ 32) ≡ lines_to (2 ^ 64)
   lines_all few =
       let all : 2 ^ 32 * 2 ^ 32 ≡ 2 ^ 64 = omega arith in sym (lines_cycles (2 ^ 32) few) ∙ ap lines_to all
 
@@ -500,7 +500,7 @@ open_lines network cycle device votes e =
 
 module _ (network : Network) (voters : Voters) (ns : List Note) where
   -- from a place up to another there are none
-  lines_open : (from to : ℕ) → from ≤ to → to ≤ 2 ^ 64 → AreOpenFrom network voters ns from to
+  pub lines_open : (from to : ℕ) → from ≤ to → to ≤ 2 ^ 64 → AreOpenFrom network voters ns from to
       → lines_to network voters (happenings network ns) to ≡ lines_to network voters (happenings network ns) from
   lines_open from zero le most opened =
       let same : zero ≡ from = omega (arith, le) in ap (lines_to network voters (happenings network ns)) same
@@ -523,7 +523,7 @@ module _ (network : Network) (voters : Voters) (ns : List Note) where
   ]
 
   -- those up to the next ballot that is kept, and its own
-  lines_given : (from cycle : ℕ) (device : DeviceId) (ballot : Votes) (left : KeptVotes) → IsNext network voters ns from cycle device ballot left
+  pub lines_given : (from cycle : ℕ) (device : DeviceId) (ballot : Votes) (left : KeptVotes) → IsNext network voters ns from cycle device ballot left
       → lines_to network voters (happenings network ns) (key_of cycle device + 1)
       ≡ lines_to network voters (happenings network ns) from ++ lines_at network cycle device ballot
   lines_given from cycle device ballot left next =
@@ -674,7 +674,7 @@ module _ (network : Network) (voters : Voters) (hs : List Happening) (cycle devi
       ]
 
   -- before a later cycle
-  in_lines : (n : ℕ) → cycle < n → device < length network.device → IsIn line (lines_before network voters hs n)
+  pub in_lines : (n : ℕ) → cycle < n → device < length network.device → IsIn line (lines_before network voters hs n)
   unfolding lines_before
   in_lines zero less there = absurd (omega (arith, less))
   in_lines (suc m) less there =
@@ -702,7 +702,7 @@ taken_still hs h vl cycle device e =
     ap (λ (o : Option Happening). option_map payload_in (option_and_then record_octets o))
     (find_still (λ (g : Happening). is_delivery vl cycle device g.note.body) hs h e)
 
-abbrev the_ballot : Option (List ℕ) → Option (List ℕ) → Option (List ℕ) → Votes
+abbrev pub the_ballot : Option (List ℕ) → Option (List ℕ) → Option (List ℕ) → Votes
 the_ballot a b c = record { first = a; second = b; third = c }
 
 ballot_still : (hs : List Happening) (h : Happening) (voters : Voters) (cycle : ℕ) (device : DeviceId)

@@ -48,7 +48,6 @@ use Rattle.world_drive.specs.{Observing.{Befell, IsCompleteExact, IsGiven, Told,
 use Rattle.world_drive.specs.exact.{Records.{AreAllRecords, AreRecordsBefore, clock_reading}}
 use Rattle.world_drive.specs.exact.{Worlds.{ExactWorld, StandsExact}}
 use Rattle.run_law.specs.declared.note.NoteBody.TheVariants as kinds
-use Rattle.run_law.specs.declared.note.NoteBody.TheVariants as notes
 use Rattle.tte_forms.specs.declared.accepting.NoNetwork.TheVariants as causes
 
 -- ---- what is seen of a correction stays as more records and events come: what is up to a time
@@ -91,7 +90,7 @@ module _ (s : Scenario) (hs : List Happening) (other : Scenario) (js : List Happ
   }
 
 -- under more records that are later
-alike_more : (s : Scenario) (hs tail : List Happening) (c t : ℕ) → t < c → ((h : Happening) → IsIn h tail → c ≤ time_of h) → Alike s hs s (hs ++ tail) t
+pub alike_more : (s : Scenario) (hs tail : List Happening) (c t : ℕ) → t < c → ((h : Happening) → IsIn h tail → c ≤ time_of h) → Alike s hs s (hs ++ tail) t
 alike_more s hs tail c t lt later =
     let same = up_to_more t c hs tail lt later in
     record {
@@ -111,7 +110,7 @@ broken_before network events event d t lt =
     ap (list_any (λ (e : Event). breaks_at d.0 e.what))
     (filter-append (λ (e : Event). nat_le (amount e.time) t) events (event ∷ []) ∙ ap (λ (l : List Event). old ++ l) none ∙ append-nil old)
 
-alike_event : (network : Network) (events : List Event) (event : Event) (hs tail : List Happening) (t : ℕ) → t < amount event.time
+pub alike_event : (network : Network) (events : List Event) (event : Event) (hs tail : List Happening) (t : ℕ) → t < amount event.time
     → ((h : Happening) → IsIn h tail → amount event.time ≤ time_of h)
     → Alike (exact_scenario network events) hs (exact_scenario network (events ++ event ∷ [])) (hs ++ tail) t
 alike_event network events event hs tail t lt later =
@@ -158,7 +157,7 @@ module _ (s other : Scenario) (hs tail : List Happening) (c : ℕ) (past : (h : 
   }
 
   -- where no correction comes it stays
-  spread_stays : (spread : Units) → ((h : Happening) → IsIn h tail → IsCorrection h → ⊥) → IsGreatestSpread s hs spread
+  pub spread_stays : (spread : Units) → ((h : Happening) → IsIn h tail → IsCorrection h → ⊥) → IsGreatestSpread s hs spread
       → IsGreatestSpread other (hs ++ tail) spread
   spread_stays spread none g = record {
     bound = λ apart a. elim (in_parts a.seen_at hs tail a.there) [
@@ -169,7 +168,7 @@ module _ (s other : Scenario) (hs tail : List Happening) (c : ℕ) (past : (h : 
   }
 
   -- where corrections of one time come it is the greater of it and of the spread of this time
-  spread_grows : (t : ℕ) (spread most : Units) (at : ℤ) (one : Happening) → ((h : Happening) → IsIn h tail → time_of h ≡ t) → IsIn one tail
+  pub spread_grows : (t : ℕ) (spread most : Units) (at : ℤ) (one : Happening) → ((h : Happening) → IsIn h tail → time_of h ≡ t) → IsIn one tail
       → IsCorrection one → IsSpreadAt other (hs ++ tail) t at → IsGreatestSpread s hs spread → spread.0 ≤ℤ most.0 → at ≤ℤ most.0
       → (most.0 ≡ spread.0) ⊎ (most.0 ≡ at) → IsGreatestSpread other (hs ++ tail) most
   spread_grows t spread most at one then_ there correction is g first second either = record {
@@ -582,11 +581,11 @@ pub record HasMost (P : ℤ → Type 0) : Type 0 where
   pub reached : (most ≡ pos 0) ⊎ P most
 
 -- none is so
-most_of_none : (P : ℤ → Type 0) → ((x : ℤ) → P x → ⊥) → HasMost P
+pub most_of_none : (P : ℤ → Type 0) → ((x : ℤ) → P x → ⊥) → HasMost P
 most_of_none P none = record { most = pos 0; least = omega (arith, ints); bound = λ x p. absurd (none x p); reached = inl refl }
 
 -- one is so
-most_of_one : (P : ℤ → Type 0) (v : ℤ) → P v → ((x : ℤ) → P x → x ≡ v) → HasMost P
+pub most_of_one : (P : ℤ → Type 0) (v : ℤ) → P v → ((x : ℤ) → P x → x ≡ v) → HasMost P
 most_of_one P (pos n) p only = record {
   most = pos n;
   least = omega (arith, ints);
@@ -621,7 +620,7 @@ most_of_two P Q R parts first second a b = by_lt_z {P = HasMost R} a.most b.most
 })
 
 -- the same ones
-most_of_same : (P Q : ℤ → Type 0) → ((x : ℤ) → P x → Q x) → ((x : ℤ) → Q x → P x) → HasMost P → HasMost Q
+pub most_of_same : (P Q : ℤ → Type 0) → ((x : ℤ) → P x → Q x) → ((x : ℤ) → Q x → P x) → HasMost P → HasMost Q
 most_of_same P Q there back a = record {
   most = a.most;
   least = a.least;
@@ -630,7 +629,7 @@ most_of_same P Q there back a = record {
 }
 
 -- those of each number below the bound
-most_below : (P : ℕ → ℤ → Type 0) → ((n : ℕ) → HasMost (P n)) → (bound : ℕ) → HasMost (λ x. (n : ℕ) × (n < bound) × P n x)
+pub most_below : (P : ℕ → ℤ → Type 0) → ((n : ℕ) → HasMost (P n)) → (bound : ℕ) → HasMost (λ x. (n : ℕ) × (n < bound) × P n x)
 most_below P each zero = most_of_none _ (λ x h. let lt = h.1 in omega (arith, lt))
 most_below P each (suc bound) =
     most_of_two (λ x. (n : ℕ) × (n < bound) × P n x) (P bound) (λ x. (n : ℕ) × (n < suc bound) × P n x)
@@ -641,7 +640,7 @@ most_below P each (suc bound) =
     (λ x h. let lt = h.1 in (h.0, omega (arith, lt), h.2)) (λ x p. (bound, omega arith, p)) (most_below P each bound) (each bound)
 
 -- those of each element of a list
-most_among : {N : Type 0} (P : N → ℤ → Type 0) → ((n : N) → HasMost (P n)) → (ns : List N) → HasMost (λ x. (n : N) × IsIn n ns × P n x)
+pub most_among : {N : Type 0} (P : N → ℤ → Type 0) → ((n : N) → HasMost (P n)) → (ns : List N) → HasMost (λ x. (n : N) × IsIn n ns × P n x)
 most_among P each [] = most_of_none _ (λ x h. h.1)
 most_among {N} P each (m ∷ ns) =
     most_of_two (P m) (λ x. (n : N) × IsIn n ns × P n x) (λ x. (n : N) × IsIn n (m ∷ ns) × P n x)
@@ -662,7 +661,7 @@ correction : (h : Happening) → IsDecided (IsCorrection h)
 correction h = by h.note.body refl
   where
     by : (body : NoteBody) → h.note.body ≡ body → IsDecided (IsCorrection h)
-    by (notes.Corrected device cycle amount adjustment) e = inl (record { device = device; cycle = cycle; by = amount; adjustment = adjustment; is = e })
+    by (kinds.Corrected device cycle amount adjustment) e = inl (record { device = device; cycle = cycle; by = amount; adjustment = adjustment; is = e })
     by other e = inr (λ c. let is = c.is in cc)
 
 -- ---- two devices

@@ -31,7 +31,6 @@ use Rattle.world_law.proofs.runs.{TaskPlaces.{acts_before, placed_so}}
 use Rattle.world_law.proofs.runs.Worlds
 use Worlds.{dispatches_same, earlier_still, frame_source, of_high_rank, reaches_back, settled_of, up_back}
 use Rattle.run_law.specs.declared.note.NoteBody.TheVariants as kinds
-use Rattle.run_law.specs.declared.note.NoteBody.TheVariants as notes
 
 -- ---- what a device at the present instant has not done of what is due, it has still to do: a list has a thing or not
 
@@ -250,13 +249,13 @@ module _ (s : Scenario) (device : DeviceId) (now : ℕ) (link : LinkId) (cause :
 -- ---- records behind the acts of their instant, which leave the device at rest, do not change its points
 
 unmoved_stretch : (device : DeviceId) (body : NoteBody) → moves device body ≡ false → ends_stretch device body ≡ false
-unmoved_stretch device (notes.State other state cause On) e = refl
-unmoved_stretch device (notes.State other state cause why) e = e
-unmoved_stretch device (notes.Corrected other cycle by adjustment) e = refl
+unmoved_stretch device (kinds.State other state cause On) e = refl
+unmoved_stretch device (kinds.State other state cause why) e = e
+unmoved_stretch device (kinds.Corrected other cycle by adjustment) e = refl
 unmoved_stretch device other e = e
 
 pub turning_stretch : (device : DeviceId) (body : NoteBody) → is_turning device body ≡ true → ends_stretch device body ≡ false
-turning_stretch device (notes.State other Integrating cause On) e = refl
+turning_stretch device (kinds.State other Integrating cause On) e = refl
 turning_stretch device other e = absurd cc
 
 quiet_stretch : (device : DeviceId) (body : NoteBody) → IsQuiet device body → ends_stretch device body ≡ false

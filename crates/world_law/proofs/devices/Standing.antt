@@ -519,7 +519,7 @@ pub record IsQuietInstant (s : Scenario) (hs : List Happening) (device : DeviceI
   pub in_time : IsInTime hs
 
 module _ {s : Scenario} {hs : List Happening} {device : DeviceId} {now : ℕ} (q : IsQuietInstant s hs device now) where
-  on_state : IsTurnedOnBy hs device now → state_after s (up_to now hs) device ≡ Integrating
+  pub on_state : IsTurnedOnBy hs device now → state_after s (up_to now hs) device ≡ Integrating
   on_state on =
       let f = λ (state : State) (h : Happening). state_with device state h.note.body in
       let at = parted on.by hs on.there in
@@ -536,7 +536,7 @@ module _ {s : Scenario} {hs : List Happening} {device : DeviceId} {now : ℕ} (q
 
   -- ---- the node
 
-  adjustment_quiet : adjustment_before s hs device (now + 1) ≡ adjustment_before s hs device now
+  pub adjustment_quiet : adjustment_before s hs device (now + 1) ≡ adjustment_before s hs device now
   adjustment_quiet =
       search (arith, fold_still, cycle_in, quiet_adjustment)
 
@@ -547,7 +547,7 @@ module _ {s : Scenario} {hs : List Happening} {device : DeviceId} {now : ℕ} (q
   cycle_quiet =
       search (arith, fold_still, quiet_cycle)
 
-  change_quiet : changed_at hs device (now + 1) ≡ changed_at hs device now
+  pub change_quiet : changed_at hs device (now + 1) ≡ changed_at hs device now
   change_quiet = grind (arith, option_map_or, time_of, last_or, filter_still, changes_adjustment, quiet_changes)
 
   local_quiet : local_at_change s hs device (now + 1) ≡ local_at_change s hs device now
@@ -555,7 +555,7 @@ module _ {s : Scenario} {hs : List Happening} {device : DeviceId} {now : ℕ} (q
       rw (change_quiet)
       (rw (adjustment_quiet))
 
-left_after_on : {s : Scenario} {hs : List Happening} {device : DeviceId} {now : ℕ} {node : Node}
+pub left_after_on : {s : Scenario} {hs : List Happening} {device : DeviceId} {now : ℕ} {node : Node}
     → IsQuietInstant s hs device now → is_turned_on_at s device now ≡ true
     → is_turned_on_at s device (now + 1) ≡ false → is_broken s device (now + 1) ≡ is_broken s device now
     → IsTurnedOnBy hs device now → IsLeft s hs device now node → IsLeft s hs device (now + 1) node

@@ -96,7 +96,7 @@ by_octets : (b : Bool) (octets : List ℕ) (came : Pcf) → (if b then control (
 by_octets true octets came e = cc
 by_octets false octets came e = absurd cc
 
-not_control : (octets : List ℕ) (came : Pcf) → timed octets ≡ control (Ok came) → ⊥
+pub not_control : (octets : List ℕ) (came : Pcf) → timed octets ≡ control (Ok came) → ⊥
 not_control octets came e = cc
 
 pub launched_frame : (s : Scenario) (front : List Happening) (h : Happening) (t : ℕ) (link : LinkId) (way : Way) (came : Pcf) (body : NoteBody)

@@ -169,7 +169,7 @@ one_opening ow (o ∷ ps) (k ∷ ks) some are c d at too same =
     ]
 
 -- so two frames that wait, whose collections opened at the same reading, are one
-one_waiting : {network : Network} {device : DeviceId} {node : Node} {a b : Compressed}
+pub one_waiting : {network : Network} {device : DeviceId} {node : Node} {a b : Compressed}
     → IsWaiting network device node a → IsWaiting network device node b → a.opened.0 ≡ b.opened.0 → a ≡ b
 one_waiting {network} {node} {a} {b} w x same =
     let ow = observation_window network in
@@ -222,7 +222,7 @@ due_shows v a reading precision whole reached late = record {
 not_less : (k m n : ℕ) → (IsBefore (k ∷ m ∷ []) (k ∷ n ∷ []) → ⊥) → n ≤ m
 not_less k m n none = elim (cases_lt m n) [ inl lt ↦ absurd (none (inr (refl, inl lt))) | inr ge ↦ ge ]
 
-row_order : {network : Network} (row : RowId) {entry : Entry} → IsEntry network row.0 entry
+pub row_order : {network : Network} (row : RowId) {entry : Entry} → IsEntry network row.0 entry
     → dispatch_order network row ≡ amount entry.row.offset ∷ entry.row.link.0 ∷ row.0 ∷ []
 row_order row is =
     rw is.row

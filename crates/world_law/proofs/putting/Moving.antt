@@ -89,7 +89,7 @@ settled_moves {s} {hs} {coming} {now} {r} {more} m all =
     }
 
 -- no entry is at the place, which is that of a source of another kind
-all_without : {X : Type 0} (place : X → List ℕ) (p : List ℕ) (xs : List X) → ((e : X) → place e ≡ p → ⊥) → IsWithout place p xs xs
+pub all_without : {X : Type 0} (place : X → List ℕ) (p : List ℕ) (xs : List X) → ((e : X) → place e ≡ p → ⊥) → IsWithout place p xs xs
 all_without place p xs never e = (λ i. (i, never e), λ both. both.0)
 
 module _ {s : Scenario} {hs : List Happening} {from to : List ℕ} {Own : List ℕ → Type 0}
@@ -136,7 +136,7 @@ module _ {s : Scenario} {hs : List Happening} {from to : List ℕ} {Own : List �
   }
 
   -- the frames that wait, where the source is of another kind
-  waiting_moves : {now : ℕ} {waiting : List Waiting} → ((t : ℕ) (more : List ℕ) → Own (t ∷ 3 ∷ more) → ⊥)
+  pub waiting_moves : {now : ℕ} {waiting : List Waiting} → ((t : ℕ) (more : List ℕ) → Own (t ∷ 3 ∷ more) → ⊥)
       → AreWaiting s hs from now waiting → AreWaiting s hs to now waiting
   waiting_moves other are = record {
     real = are.real;
@@ -209,7 +209,7 @@ module _ {s : Scenario} {hs : List Happening} {from to : List ℕ} {Own : List �
     phase = λ at p b. g.on p (k.phase at p b);
   }
 
-  held_moves : {M : Type 0} (stands : M → Network → DeviceId → Node → Type 0) {coming : List Happening} {now : ℕ}
+  pub held_moves : {M : Type 0} (stands : M → Network → DeviceId → Node → Type 0) {coming : List Happening} {now : ℕ}
       {device : DeviceId} {machine : M} → (Own (now ∷ 2 ∷ []) → ⊥)
       → ((task : Task) → Own (task_place s.network now device task) → ⊥)
       → IsHeld stands s hs coming from now device machine → IsHeld stands s hs coming to now device machine
@@ -217,7 +217,7 @@ module _ {s : Scenario} {hs : List Happening} {from to : List ℕ} {Own : List �
   held_moves stands longer other (inr k) = search arith
 
 -- the events of the instant stand elsewhere
-not_there : {s : Scenario} {hs coming : List Happening} {now r : ℕ} {more : List ℕ} → IsMoving s hs coming now r more
+pub not_there : {s : Scenario} {hs coming : List Happening} {now r : ℕ} {more : List ℕ} → IsMoving s hs coming now r more
     → now ∷ 2 ∷ [] ≡ now ∷ r ∷ more → ⊥
 not_there {now} {r} {more} m same =
     never_self (now ∷ r ∷ more) (subst (λ p. IsBefore p (now ∷ r ∷ more)) same m.later)

@@ -112,7 +112,7 @@ module _ (s : Scenario) (js : List Happening) (now k : ℕ) {w : Happening} wher
   follower_of device state whys.AsyncClique there event c = absurd (omega arith)
 
   -- so is one that is due with that cause
-  due_follows : {y : Happening} → numbered js (suc k) ≡ Some w
+  pub due_follows : {y : Happening} → numbered js (suc k) ≡ Some w
       → ((line : ℕ) (what : What) → w.note.body ≡ notes.Event line what → ⊥) → IsDueAs s js y → time_of y ≡ now
       → rank y.note.body ≡ 7 → cause_of y.note.body ≡ k + 1
       → (it : AsState y.note.body) × (it.cause ≡ k + 1) × Follows s js now w it.device
@@ -132,7 +132,7 @@ module _ (s : Scenario) (js : List Happening) (now k : ℕ) {w : Happening} wher
   ]
 
 -- the record has its number in the list
-at_number : (hs front c : List Happening) (w : Happening) → numbered (hs ++ (front ++ w ∷ c)) (suc (before_it hs front)) ≡ Some w
+pub at_number : (hs front c : List Happening) (w : Happening) → numbered (hs ++ (front ++ w ∷ c)) (suc (before_it hs front)) ≡ Some w
 at_number hs front c w = rw (sym (append_assoc hs front (w ∷ c))) (numbered_here (hs ++ front) c w)
 
 -- ---- one record
@@ -157,7 +157,7 @@ from_two now r more (inr (e, inl lt)) = omega arith
 from_two now r more (inr (e, inr b)) = omega (arith, b.0)
 
 -- what hears at the instant is aside of what comes from another source
-hears_aside : {s : Scenario} {hs coming : List Happening} (f rest : List Happening) {now r : ℕ} {more : List ℕ} (x : Happening)
+pub hears_aside : {s : Scenario} {hs coming : List Happening} (f rest : List Happening) {now r : ℕ} {more : List ℕ} (x : Happening)
     (device : DeviceId) → IsMoving s hs coming now r more
     → coming ≡ f ++ x ∷ rest → hears device x.note.body ≡ true
     → IsBefore (rows_place now device) (now ∷ r ∷ more) ⊎ (now ∷ r ∷ more ≡ rows_place now device)
@@ -235,7 +235,7 @@ module _ {s : Scenario} {hs front back : List Happening} {now r : ℕ} {more : L
       placed_well (well_of p.moving) (placing_one p) (none_follows last)
 
 -- of what is to come then only this record may stand at its source
-worked_then : {s : Scenario} {hs front back : List Happening} (then_ : List ℕ) {now r : ℕ} {more : List ℕ} {w : Happening}
+pub worked_then : {s : Scenario} {hs front back : List Happening} (then_ : List ℕ) {now r : ℕ} {more : List ℕ} {w : Happening}
     → IsOne s hs front back now r more w → (is_at_source w.note.body ≡ true → IsBefore (place_of w) then_)
     → (z : Happening) → IsIn z (front ++ w ∷ back) → is_at_source z.note.body ≡ true → IsBefore (place_of z) then_
 worked_then {front} {back} then_ {w} p at z i is =

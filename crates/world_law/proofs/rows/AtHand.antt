@@ -234,7 +234,7 @@ module _ (s : Scenario) (front : List Happening) (device : DeviceId) (t : ℕ) (
 -- ---- the value that the clock showed
 
 -- a value in a cycle from 1 on
-value_in : (z : ℤ) (size cycle : ℕ) → 1 ≤ size → 1 ≤ cycle → natural (int_div_euclid z (pos size)) ≡ cycle → (place : ℕ) × (place < size)
+pub value_in : (z : ℤ) (size cycle : ℕ) → 1 ≤ size → 1 ≤ cycle → natural (int_div_euclid z (pos size)) ≡ cycle → (place : ℕ) × (place < size)
     × (z ≡ pos (cycle * size + place)) × (int_rem_euclid z (pos size) ≡ pos place)
 value_in (pos a) size cycle some begun e =
     let parts = div-add-mod a size in
@@ -299,7 +299,7 @@ same_clock {s} {hs} {h} device founded at =
 module _ (s : Scenario) (hs : List Happening) (h : Happening) (device : DeviceId) (link : _) (cause : ℕ) (vl : VlId)
     (cycle : ℕ) (founded : AreFoundedAs s hs) (i : IsIn h hs) where
   -- a frame that was accepted came in the window of a row that enters the device
-  accepted_at : h.note.body ≡ notes.Accepted device link cause vl cycle
+  pub accepted_at : h.note.body ≡ notes.Accepted device link cause vl cycle
       → IsTakenAt s.network device vl cycle (local_before s hs device (time_of h))
   accepted_at body =
       let at = founded_as s hs h founded i in
@@ -309,7 +309,7 @@ module _ (s : Scenario) (hs : List Happening) (h : Happening) (device : DeviceId
       vl cycle caused)
 
   -- and one that was delivered came to an end system
-  delivered_at : h.note.body ≡ notes.Delivered device link cause vl cycle → is_end s.network device ≡ true
+  pub delivered_at : h.note.body ≡ notes.Delivered device link cause vl cycle → is_end s.network device ≡ true
   delivered_at body =
       let at = founded_as s hs h founded i in
       let caused : IsCaused s at.front h.note.time (notes.Delivered device link cause vl cycle) =
@@ -353,7 +353,7 @@ pub record IsForwarded (network : Network) (device : DeviceId) (place : ℕ) (en
   pub other : entry.vl.sender ≡ device → ⊥
 
 -- what was taken in the cycle was taken below the row's value in the cycle
-below_value : {network : Network} {device : DeviceId} {place cycle : ℕ} {entry : Entry} {z : ℤ}
+pub below_value : {network : Network} {device : DeviceId} {place cycle : ℕ} {entry : Entry} {z : ℤ}
     → IsInRange network → KeepsRules network → IsForwarded network device place entry
     → IsTakenAt network device entry.row.vl cycle z → z <ℤ pos
     (cycle * amount network.cycle + amount entry.row.offset)
@@ -369,7 +369,7 @@ pub row_ends : {network : Network} {place : ℕ} {entry : Entry} → KeepsRules 
 row_ends {place} {entry} rules is = let ends = rules WindowEnds place entry is in omega arith
 
 -- where the clock reaches the row's value in a cycle, it takes no frame of the virtual link
-none_at_value : {s : Scenario} {hs : List Happening} {device : DeviceId} {place : ℕ} (cycle : ℕ) {t : ℕ}
+pub none_at_value : {s : Scenario} {hs : List Happening} {device : DeviceId} {place : ℕ} (cycle : ℕ) {t : ℕ}
     {entry : Entry} → IsInRange s.network → KeepsRules s.network
     → IsSteady (s.reading device) (amount s.network.precision) → AreFoundedAs s hs
     → IsForwarded s.network device place entry → Reaches s hs device

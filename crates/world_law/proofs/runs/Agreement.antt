@@ -22,7 +22,7 @@ use Rattle.run_law.specs.declared.note.NoteBody.TheVariants as notes
 
 -- ---- what is due at a time is so in each scenario that agrees up to then: the events
 
-setting_same : {V : Type 0} {n : Network} {f g : DeviceId → ℕ → ℕ} {events more : List Event} {t : ℕ} (u : ℕ)
+pub setting_same : {V : Type 0} {n : Network} {f g : DeviceId → ℕ → ℕ} {events more : List Event} {t : ℕ} (u : ℕ)
     (setting : What → Option V) (initial : V) → Agree n f g events more t → u ≤ t
     → last_set (scenario n f events) setting initial u ≡ last_set (scenario n g more) setting initial u
 setting_same u setting initial a le =
@@ -50,7 +50,7 @@ module _ (n : Network) (f g : DeviceId → ℕ → ℕ) (events more : List Even
       λ x yes_it. at_time (turns_on device x.what) (amount x.time) u yes_it in
       any_kept p q events keeps ∙ ap (list_any p) (a.befell u le) ∙ sym (any_kept p q more keeps)
 
-  state_same : (hs : List Happening) {t : ℕ} (u : ℕ) (device : DeviceId) → Agree n f g events more t → u ≤ t
+  pub state_same : (hs : List Happening) {t : ℕ} (u : ℕ) (device : DeviceId) → Agree n f g events more t → u ≤ t
       → state_before (scenario n f events) hs device u ≡ state_before (scenario n g more) hs device u
   state_same hs u device a le =
       rw (turned_on_same u device a le)
@@ -110,7 +110,7 @@ module _ (n : Network) (f g : DeviceId → ℕ → ℕ) (events more : List Even
       → IsReach (f device) from v (pos u) → IsReach (g device) from v (pos u)
   reach_same u device {v} a le r = search arith
 
-  reaches_same : {hs : List Happening} {t u : ℕ} {device : DeviceId} {v : ℤ} → Agree n f g events more t → u ≤ t
+  pub reaches_same : {hs : List Happening} {t u : ℕ} {device : DeviceId} {v : ℤ} → Agree n f g events more t → u ≤ t
       → Reaches (scenario n f events) hs device v u → Reaches (scenario n g more) hs device v u
   reaches_same {hs} {u} {device} {v} a le r = record {
     below = rw (local_same hs u device a le) at r.below;
@@ -125,11 +125,11 @@ module _ {n : Network} {f g : DeviceId → ℕ → ℕ} {events more : List Even
 
   -- ---- what is due
 
-  sends_same : {cycle : ℕ} → Agree n f g events more t → u ≤ t → Sends (scenario n f events) hs device u cycle
+  pub sends_same : {cycle : ℕ} → Agree n f g events more t → u ≤ t → Sends (scenario n f events) hs device u cycle
       → Sends (scenario n g more) hs device u cycle
   sends_same a le d = grind (arith, state_same, broken_same, reaches_same)
 
-  comes_same : {cycle : ℕ} {verdict : Verdict} → Agree n f g events more t → u ≤ t
+  pub comes_same : {cycle : ℕ} {verdict : Verdict} → Agree n f g events more t → u ≤ t
       → ((h : Happening) → IsIn h hs → time_of h ≤ t) → ComesToCorrection
       (scenario n f events) hs device u cycle verdict → ComesToCorrection
       (scenario n g more) hs device u cycle verdict
@@ -260,7 +260,7 @@ module _ (n : Network) (f g : DeviceId → ℕ → ℕ) (events more : List Even
       → Departs (scenario n g more) hs device u link cause is
   departs_same a le all x = grind (arith, sooner, time_of, hold_same, way_from, broken_same, departure_same)
 
-  dispatches_same : {link : LinkId} {cause : ℕ} {vl : VlId} {cycle : ℕ} → Agree n f g events more t → u ≤ t
+  pub dispatches_same : {link : LinkId} {cause : ℕ} {vl : VlId} {cycle : ℕ} → Agree n f g events more t → u ≤ t
       → Dispatches (scenario n f events) hs device u link cause vl cycle
       → Dispatches (scenario n g more) hs device u link cause vl cycle
   dispatches_same a le x = grind (arith, state_same, broken_same, reaches_same)

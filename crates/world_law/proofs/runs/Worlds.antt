@@ -53,7 +53,7 @@ none_due {N} place IsDue mark ns p within none = record {
 }
 
 -- a record that is due behind the mark is next, where none is due before it
-is_next : {N : Type 0} {place : N → List ℕ} (IsDue : List N → N → Type 0) {mark : List ℕ} {ns : List N} (x : N)
+pub is_next : {N : Type 0} {place : N → List ℕ} (IsDue : List N → N → Type 0) {mark : List ℕ} {ns : List N} (x : N)
     → IsRun place IsDue mark ns → (IsBefore (place x) mark → ⊥) → IsDue ns x
     → NoneDueBefore place IsDue mark ns (place x) → IsNextOf place IsDue mark ns x
 is_next IsDue x run not due none = grind (arith, before_later, none_due)
@@ -107,7 +107,7 @@ not_both other e o = e
 module _ {n : Network} {f g : DeviceId → ℕ → ℕ} {events : List Event} {event : Event} {mark : List ℕ}
     {ns : List Note} (may : MayBefall n f g events event mark ns) {ps : List Happening} {y : Happening} where
   -- what was due is due still
-  due_on : IsIn y (happenings n ns) → AllBefore place_of ps (place_of y) → IsDue (scenario n f events) ps y
+  pub due_on : IsIn y (happenings n ns) → AllBefore place_of ps (place_of y) → IsDue (scenario n f events) ps y
       → IsDue (scenario n g (events ++ event ∷ [])) ps y
   due_on there before due = record {
     number = due.number;

@@ -32,7 +32,7 @@ in_contained (y ∷ xs) (suc k) {x} lt e = inr (in_contained xs k (omega arith) 
 pub in_permuted : {X : Type 0} (xs ys : List X) (x : X) → IsPermutation xs ys → IsIn x xs → IsIn x ys
 in_permuted xs ys x same there = let c = Contains-permutation xs ys x same (contains xs x there) in in_contained ys c.0 c.1 c.2
 
-all_in : {X : Type 0} (P : X → Type 0) (xs : List X) → AllByRecursion P xs → (x : X) → IsIn x xs → P x
+pub all_in : {X : Type 0} (P : X → Type 0) (xs : List X) → AllByRecursion P xs → (x : X) → IsIn x xs → P x
 all_in P [] all x there = absurd there
 all_in P (y ∷ xs) all x (inl e) = subst P (sym e) all.0
 all_in P (y ∷ xs) all x (inr rest) = all_in P xs all.1 x rest
@@ -63,14 +63,14 @@ module _ {X Y : Type 0} (h : X → Option Y) where
   from_first xs ys (Some y) some by = by y
 
   -- of the same elements it gives the same
-  permuted_map : (xs ys : List X) → IsPermutation xs ys → ((x : X) → IsIn x xs → is_some (h x) ≡ true)
+  pub permuted_map : (xs ys : List X) → IsPermutation xs ys → ((x : X) → IsIn x xs → is_some (h x) ≡ true)
       → IsPermutation (filter_map h xs) (filter_map h ys)
   permuted_map [] [] same some = IsPermutation-refl []
   permuted_map [] (y ∷ ys) same some = absurd (omega (arith, length_permutation [] (y ∷ ys) same))
   permuted_map (x ∷ xs) ys same some =
       from_first (x ∷ xs) ys (h x) (some x (inl refl)) (by_default (x ∷ xs) ys same some)
 
-  length_map : (xs : List X) → ((x : X) → IsIn x xs → is_some (h x) ≡ true) → length (filter_map h xs) ≡ length xs
+  pub length_map : (xs : List X) → ((x : X) → IsIn x xs → is_some (h x) ≡ true) → length (filter_map h xs) ≡ length xs
   length_map [] some = refl
   length_map (x ∷ xs) some = grind (arith, is_some, length, both_ways, (length_map xs (λ y there. some y (inr there))))
 
@@ -165,7 +165,7 @@ before_is_less p q b =
     (λ b. then_less p.device q.device _ _ b (λ b. then_less p.link q.link _ _ b (λ b. last_less p.cause q.cause b))))
 
 -- what the first is not less than is not before it
-not_before : (x y : Reverse Slotted) → is_lt (reversed x y) ≡ false → IsBefore (numbers_of y.0.place) (numbers_of x.0.place) → ⊥
+pub not_before : (x y : Reverse Slotted) → is_lt (reversed x y) ≡ false → IsBefore (numbers_of y.0.place) (numbers_of x.0.place) → ⊥
 not_before x y late b = both_ways _ late (rw (before_is_less y.0.place x.0.place b))
 
 -- ---- places in a heap with their slots: one is put in, and the first is taken out
@@ -178,7 +178,7 @@ module _ {T : Type 0} where
   some_mapped place None some = absurd (both_ways false refl some)
   some_mapped place (Some content) some = refl
 
-  some_entry : (s : Slab T) (r : Reverse Slotted) → is_some (get s r.0.slot) ≡ true → is_some (entry_of s r) ≡ true
+  pub some_entry : (s : Slab T) (r : Reverse Slotted) → is_some (get s r.0.slot) ≡ true → is_some (entry_of s r) ≡ true
   some_entry s r some = some_mapped r.0.place (get s r.0.slot) some
 
   place_or : Option (Entry T) → DueAt → DueAt

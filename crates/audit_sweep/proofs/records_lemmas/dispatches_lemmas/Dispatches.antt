@@ -451,7 +451,7 @@ all_exits all are link = grind (arith, slice_get_within)
 
 -- ---- the cycles in which the virtual link of a row occurs: the cycles
 
-not_none : (phase : ℕ) → (phase == 0) ≡ false → 1 ≤ phase
+pub not_none : (phase : ℕ) → (phase == 0) ≡ false → 1 ≤ phase
 not_none zero e = absurd (false≢true (sym e ∙ eq-eqb 0 0 refl))
 not_none (suc n) e = omega arith
 

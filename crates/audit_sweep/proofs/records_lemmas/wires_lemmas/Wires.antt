@@ -118,7 +118,7 @@ shows : (network : Network) (before : List Happening) (h : Happening) (body : No
 shows network before h (notes.Event line (events.Send link octets)) e o = (e, o)
 shows network before h other e o = tt
 
-by_cause : (network : Network) (h : Happening) → ShowsByCause network h → SendShows h h.note.body
+pub by_cause : (network : Network) (h : Happening) → ShowsByCause network h → SendShows h h.note.body
 by_cause network h c = shows network c.0 h h.note.body (ap (λ (x : Happening). x.frame) c.1) (ap (λ (x : Happening). x.octets) c.1)
 
 sent_by : (b : Bool) (d : Result Pcf PcfRefusal) (octets : List ℕ) (r : KeptRecord) → r.frame ≡ frame_in d → r.heading ≡ heading_of octets
@@ -140,7 +140,7 @@ control_put link way None put e = absurd cc
 control_put link way (Some f) put e = (launch link way (control (Ok f)), refl, sym (same_Some _ _ e))
 
 -- what is told is put on the way, where no cut stops it
-put_launched : (s : Scenario) (h : Happening) (t : ℕ) (body : NoteBody) (put : Put) → SendShows h body
+pub put_launched : (s : Scenario) (h : Happening) (t : ℕ) (body : NoteBody) (put : Put) → SendShows h body
     → put_by s.network (record_of h) (kept_of body) ≡ Some put → stops s t put.link (kept_of body) ≡ false
     → (l : Launch) × (launched s h t body ≡ Some l) × (put ≡ put_of l)
 put_launched s h t (notes.Left device link cause clock) put shown e whole = control_put link (way_from s.network device link) h.frame put e
@@ -163,7 +163,7 @@ not_cut true x y e = absurd cc
 not_cut false x y e = (refl, same_Some _ _ e)
 
 -- what is put on the way is told, and no cut stops it
-launched_put : (s : Scenario) (h : Happening) (t : ℕ) (body : NoteBody) (l : Launch) → SendShows h body → launched s h t body ≡ Some l
+pub launched_put : (s : Scenario) (h : Happening) (t : ℕ) (body : NoteBody) (l : Launch) → SendShows h body → launched s h t body ≡ Some l
     → (put_by s.network (record_of h) (kept_of body) ≡ Some (put_of l)) × (stops s t l.link (kept_of body) ≡ false)
 launched_put s h t (notes.Left device link cause clock) l shown e = (control_launched link (way_from s.network device link) h.frame l e, refl)
 launched_put s h t (notes.TtSent device link cause vl cycle) l shown e = (ap (λ x. Some (put_of x)) (same_Some _ _ e), refl)
@@ -446,7 +446,7 @@ choose false x y b e = absurd cc
 
 module _ (network : Network) where
   -- the device that is told gives the frame
-  gives : (body : NoteBody) (device : DeviceId) (link : LinkId) → giver network link (kept_of body) ≡ Some device
+  pub gives : (body : NoteBody) (device : DeviceId) (link : LinkId) → giver network link (kept_of body) ≡ Some device
       → Gives network body device link
   gives (notes.Sent master cycle) device link e =
       let x = chosen (is_child_of network master link) master device e in
@@ -462,7 +462,7 @@ module _ (network : Network) where
   gives other device link e = absurd cc
 
   -- and the device that gives it is told
-  given : (body : NoteBody) (device : DeviceId) (link : LinkId) → Gives network body device link
+  pub given : (body : NoteBody) (device : DeviceId) (link : LinkId) → Gives network body device link
       → giver network link (kept_of body) ≡ Some device
   given (notes.Sent master cycle) device link g =
       choose (is_child_of network master link) master device

@@ -152,7 +152,7 @@ module _ (ow calc : ℤ) where
   ordered (c ∷ cs) (suc i) (suc j) a b apart all le e f = ordered cs i j a b apart.2 all.1 (omega (arith, le)) e f
 
 -- of two emissions of a gathering the one behind is at no lower reading
-ascending : {h : History} {g : Gathering} {points : List Point} (i j : ℕ) (a b : Emitted) → pos 0 ≤ℤ h.ow
+pub ascending : {h : History} {g : Gathering} {points : List Point} (i j : ℕ) (a b : Emitted) → pos 0 ≤ℤ h.ow
     → Gathers h g points → i ≤ j → slice_get (emissions_in h g) i ≡ Some a → slice_get (emissions_in h g) j ≡ Some b
     → a.at ≤ℤ b.at
 ascending {h} {g} {points} i j a b some gathers le e f =
@@ -170,7 +170,7 @@ opened_first ow calc (c ∷ cs) zero a some more all e =
 opened_first ow calc (c ∷ cs) (suc i) a some more all e = opened_first ow calc cs i a some more all.1 e
 
 -- none is at a lower reading than that at which its cluster opens
-opens_before : {h : History} {g : Gathering} {points : List Point} (i : ℕ) (a : Emitted) → pos 0 ≤ℤ h.ow
+pub opens_before : {h : History} {g : Gathering} {points : List Point} (i : ℕ) (a : Emitted) → pos 0 ≤ℤ h.ow
     → pos 0 ≤ℤ h.calc → Gathers h g points → slice_get (emissions_in h g) i ≡ Some a → a.opened ≤ℤ a.at
 opens_before {h} {g} {points} i a some more gathers e =
     opened_first h.ow h.calc (clusters_in h g) i a some more (all_inside h.ow h.calc points (clusters_in h g) some gathers.are) e
@@ -190,7 +190,7 @@ take_one All One Other IsPaid has first late = grind arith
 turned : {O : Type 0} (All One Other : O → ℕ → Type 0) → HasParts All One Other → HasParts All Other One
 turned All One Other has = grind arith
 
-first_of_both : {O : Type 0} (All One Other : O → ℕ → Type 0) (IsPaid : O → Type 0) (a b : Option ℕ) → HasParts All One Other
+pub first_of_both : {O : Type 0} (All One Other : O → ℕ → Type 0) (IsPaid : O → Type 0) (a b : Option ℕ) → HasParts All One Other
     → TellsFirstOf One IsPaid a → TellsFirstOf Other IsPaid b → TellsFirstOf All IsPaid (earlier_of a b)
 first_of_both All One Other IsPaid None None has h g = λ o t owed. elim (has.parts o t owed) [ inl p ↦ h o t p | inr q ↦ g o t q ]
 first_of_both All One Other IsPaid None (Some u) has h g =
@@ -212,13 +212,13 @@ first_of_both All One Other IsPaid (Some t) (Some u) has h g =
     ]
 
 -- of what is owed in other words
-first_as : {O : Type 0} (All One : O → ℕ → Type 0) (IsPaid : O → Type 0) (a : Option ℕ) → ((o : O) (t : ℕ) → All o t → One o t)
+pub first_as : {O : Type 0} (All One : O → ℕ → Type 0) (IsPaid : O → Type 0) (a : Option ℕ) → ((o : O) (t : ℕ) → All o t → One o t)
     → ((o : O) (t : ℕ) → One o t → All o t) → TellsFirstOf One IsPaid a → TellsFirstOf All IsPaid a
 first_as All One IsPaid None to from h = λ o t owed. h o t (to o t owed)
 first_as All One IsPaid (Some t) to from h = grind arith
 
 -- nothing is owed
-first_of_none : {O : Type 0} (Owes : O → ℕ → Type 0) (IsPaid : O → Type 0) → ((o : O) (t : ℕ) → Owes o t → ⊥) → TellsFirstOf Owes IsPaid None
+pub first_of_none : {O : Type 0} (Owes : O → ℕ → Type 0) (IsPaid : O → Type 0) → ((o : O) (t : ℕ) → Owes o t → ⊥) → TellsFirstOf Owes IsPaid None
 first_of_none Owes IsPaid none = λ o t owed. absurd (none o t owed)
 
 -- ---- the first of what is unpaid, from one change of a stretch to the next, and of a device
@@ -318,7 +318,7 @@ emission_within s hs until device (debts.emission other sent) is owed =
 emission_within s hs until device other is owed = absurd is
 
 -- what is owed of a device by its debts
-owed_by : {s : Scenario} {hs : List Happening} {until : ℕ} {device other : DeviceId} {sent : Compressed}
+pub owed_by : {s : Scenario} {hs : List Happening} {until : ℕ} {device other : DeviceId} {sent : Compressed}
     → other ≡ device → (owed : OwesEmission s hs until other sent) → OwesAt s hs until device sent owed.time
 owed_by {s} {hs} {until} {sent} is owed =
     subst (λ (d : DeviceId). OwesAt s hs until d sent owed.time) is
@@ -444,7 +444,7 @@ has_parts : (s : Scenario) (hs : List Happening) (until : ℕ) (d : DeviceId) (c
     → HasParts (OwesBehind s hs until d collections e k) (OwesBehind s hs until d collections e (k + 1)) (OwesHere s hs until d collections e k a)
 has_parts s hs until d collections e k a is = grind (arith, cases_lt, slice_get, same_sent, further)
 
-none_more : (r : Option ℕ) → earlier_of r None ≡ r
+pub none_more : (r : Option ℕ) → earlier_of r None ≡ r
 none_more None = refl
 none_more (Some t) = refl
 
@@ -534,7 +534,7 @@ module _ (s : Scenario) (hs : List Happening) (until : ℕ) (d : DeviceId) (coll
           let reached = reach.reached in
           omega (arith, ints, before, reached, low)
 
-past : {X : Type 0} (xs : List X) (i : ℕ) (x : X) → length xs ≤ i → slice_get xs i ≡ Some x → ⊥
+pub past : {X : Type 0} (xs : List X) (i : ℕ) (x : X) → length xs ≤ i → slice_get xs i ≡ Some x → ⊥
 past [] i x le e = cc
 past (y ∷ ys) zero x le e = omega (arith, le)
 past (y ∷ ys) (suc i) x le e = past ys i x (omega (arith, le)) e

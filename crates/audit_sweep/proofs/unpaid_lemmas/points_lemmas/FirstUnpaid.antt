@@ -313,7 +313,7 @@ pub few_crossed : (s : Scenario) (device : DeviceId) {shown : Shown} {series : S
 few_crossed s device wide begins next = grind (arith, mul-le-mul_left, ints)
 
 -- nothing is sent at time 0
-none_at_first : {s : Scenario} {hs : List Happening} {device : DeviceId} (t : ℕ) {cycle : ℕ}
+pub none_at_first : {s : Scenario} {hs : List Happening} {device : DeviceId} (t : ℕ) {cycle : ℕ}
     → Sends s hs device t cycle → 0 < t
 none_at_first zero sends = grind (arith, changed_early, ints)
 none_at_first (suc t) sends = omega arith

@@ -197,7 +197,7 @@ octets_come_so v h device link cause vl cycle is d =
 -- ---- lengths
 
 -- two rows of one virtual link have it
-same_vl : {network : Network} {place other : ℕ} {entry second : Entry} → IsEntry network place entry
+pub same_vl : {network : Network} {place other : ℕ} {entry second : Entry} → IsEntry network place entry
     → IsEntry network other second → entry.row.vl ≡ second.row.vl → entry.vl ≡ second.vl
 same_vl {network} {entry} {second} one two same =
     same_some (slice_get network.vl entry.row.vl.0) entry.vl second.vl one.vl
@@ -231,7 +231,7 @@ frame_shows network vl cycle marker id ethertype = grind (arith, replicate, leng
 -- ---- dispatches
 
 -- a dispatch shows its virtual link's id
-dispatch_shows : {v : View} {h : Happening} {device : DeviceId} {link : LinkId} {cause : ℕ} {vl : VlId}
+pub dispatch_shows : {v : View} {h : Happening} {device : DeviceId} {link : LinkId} {cause : ℕ} {vl : VlId}
     {cycle : ℕ} → IsView v → FieldsFit v.scenario.network → (d : IsRowDispatch v h device link cause vl cycle)
     → field 4 2 h.octets ≡ d.entry.vl.id
 dispatch_shows {v} {h} {device} {link} {cause} {vl} {cycle} is fit d =
@@ -284,7 +284,7 @@ record PutByRow (v : View) (h : Happening) (device : DeviceId) (link : LinkId) (
 module _ (a b : LinkId) (way turned : Way) (one two : Signal)
     (e : Some (put_on a way one) ≡ Some (put_on b turned two)) where
   -- the link of what is put
-  same_link : a ≡ b
+  pub same_link : a ≡ b
   same_link = ap (λ l. l.link) (same_some (Some (put_on a way one)) (put_on a way one)
       (put_on b turned two) refl e)
 

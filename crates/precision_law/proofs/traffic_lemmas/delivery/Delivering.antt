@@ -149,7 +149,7 @@ none_before brings {v} h g device link other cause second vl cycle is fit good i
         ]
 
 -- two deliveries of a cycle are one
-delivered_once : Brings → {v : View} (h g : Happening) (device : DeviceId) (link other : LinkId)
+pub delivered_once : Brings → {v : View} (h g : Happening) (device : DeviceId) (link other : LinkId)
     (cause second : ℕ) (vl : VlId) (cycle : ℕ) → IsView v → FieldsFit v.scenario.network → IsGood v device
     → IsIn h v.records → IsIn g v.records → h.note.body ≡ notes.Delivered device link cause vl cycle
     → g.note.body ≡ notes.Delivered device other second vl cycle → h ≡ g
@@ -268,7 +268,7 @@ keeps_then v device found (notes.Compressed other opened own cycle members judge
 keeps_then v device found body none c old timed = timed
 
 -- a device that is synchronised behind the time at which its clock reaches its schedule was so before it
-synchronised_before : {v : View} {device : DeviceId} (n : ℕ) {value t : ℕ} → IsView v
+pub synchronised_before : {v : View} {device : DeviceId} (n : ℕ) {value t : ℕ} → IsView v
     → IsInSchedule v.sizes value → Reaches v.scenario v.records device (pos (n * v.sizes.cycle + value)) t
     → state_left v device (t + 1) ≡ Synchronised → state_left v device t ≡ Synchronised
 synchronised_before {v} {device} n {t} is within reaches timed =
@@ -314,7 +314,7 @@ record ComesInTime (v : View) (vl : VlId) (cycle : ℕ) (device : DeviceId) : Ty
   pub is : delivery.note.body ≡ notes.Delivered device link cause vl cycle
 
 -- the frame that is owed comes
-comes_in_time : Brings → {v : View} {vl : VlId} {of_vl : VirtualLink} {cycle : ℕ} {device : DeviceId} {from last : ℕ}
+pub comes_in_time : Brings → {v : View} {vl : VlId} {of_vl : VirtualLink} {cycle : ℕ} {device : DeviceId} {from last : ℕ}
     → IsView v → FieldsFit v.scenario.network → HasGoodSources v vl → IsOwedIn v vl of_vl cycle device from last
     → ComesInTime v vl cycle device
 comes_in_time brings {v} {vl} {of_vl} {cycle} {device} {last} is fit sources owed =
@@ -461,7 +461,7 @@ reaches_in {v} {hs} {device} cycle place {t} is front le reaches =
     rw (cycle_is is) (reaches_by v.records (front.early t (omega arith)) reaches)
 
 -- the frame is sent in the view
-sent_in : Brings → {v : View} {hs : List Happening} {until : ℕ} {vl : VlId} {of_vl : VirtualLink} {cycle : ℕ}
+pub sent_in : Brings → {v : View} {hs : List Happening} {until : ℕ} {vl : VlId} {of_vl : VirtualLink} {cycle : ℕ}
     {device : DeviceId} → IsView v → IsFrontOf v hs → (owed : IsOwed v.scenario hs until vl of_vl cycle device)
     → owed.to ≡ v.until → IsReachedInSpan v cycle owed.last v.until → IsSentIn v vl of_vl cycle owed.last
 sent_in brings {v} {hs} {of_vl} {cycle} {device} is front owed end reached = record {

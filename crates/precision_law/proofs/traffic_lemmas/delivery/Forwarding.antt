@@ -77,7 +77,7 @@ entry_some network device link id row found named l at =
     )
 
 -- the entry by which a frame of a row's virtual link enters by the row's link is the row's
-enters_by : {network : Network} (device : DeviceId) (link : LinkId) {place : ℕ} {entry : Entry}
+pub enters_by : {network : Network} (device : DeviceId) (link : LinkId) {place : ℕ} {entry : Entry}
     → KeepsRules network → IsEntry network place entry → entry.row.link ≡ link
     → way_to network device link ≡ entry.row.way → entry_entering network device link entry.vl.id ≡ Some entry
 enters_by {network} device link {place} {entry} keeps row by way =
@@ -115,12 +115,12 @@ skip true x o e = absurd cc
 skip false x o e = refl
 
 -- octets of the network, for a synchronised device, have no fault
-octets_sound : (network : Network) (at : Standpoint) (octets : List ℕ) → at.takes_part ≡ true → least_type ≤ field 12 2 octets
+pub octets_sound : (network : Network) (at : Standpoint) (octets : List ℕ) → at.takes_part ≡ true → least_type ≤ field 12 2 octets
     → is_synchronised at.state ≡ true → field 0 4 octets ≡ network.marker → octets_fault network at octets ≡ None
 octets_sound network at octets part type with_time marker = grind (arith, skip, not, not_from_true, nat_lt, field, le-ltb, is_synchronised, eq-eqb)
 
 -- a frame of the row, in the row's window, has none
-row_sound : (network : Network) (at : Standpoint) (entry : Entry) (size : ℕ) (last : Option ℕ) → size ≡ entry.vl.length
+pub row_sound : (network : Network) (at : Standpoint) (entry : Entry) (size : ℕ) (last : Option ℕ) → size ≡ entry.vl.length
     → OccursIn entry.vl (cycle_at network (clock_of at))
     → (window_of network entry).from.0 ≤ℤ offset_in_cycle network (clock_of at) → offset_in_cycle network (clock_of at) ≤ℤ (window_of network entry).to.0
     → is_taken_in (cycle_at network (clock_of at)) last ≡ false → row_fault network at entry size last ≡ None
@@ -167,11 +167,11 @@ pub record SaysSo (device : DeviceId) (vl : VlId) (cycle t : ℕ) (g : Happening
   pub by_then : time_of g ≤ t
 
 -- what was taken before is no later
-sooner : (at t : ℕ) (more : Bool) → (nat_lt at t || (at == t && more)) ≡ true → at ≤ t
+pub sooner : (at t : ℕ) (more : Bool) → (nat_lt at t || (at == t && more)) ≡ true → at ≤ t
 sooner at t more e = grind (arith, or_cases, nat_lt, ltb-true, eqb-true, and_parts)
 
 -- the id of a virtual link
-one_vl : (d e : VlId) → (d.0 == e.0) ≡ true → e ≡ d
+pub one_vl : (d e : VlId) → (d.0 == e.0) ≡ true → e ≡ d
 one_vl d e same = rw (sym (eqb-true d.0 e.0 same))
 
 -- what passes the test is such a record
@@ -572,7 +572,7 @@ taken_there brings {v} {vl} {of_vl} {cycle} {last} is fit sources sent {k} {entr
     let window : window_end n d.entry ≤ last = rw went.same ends in
     let in_time = arrives_in_time brings is sent good d window in
     let arrives = frames_arrive_in_spans brings.blocks v h device link went.cause vl cycle d.entry.row.way is good d in_time in
-    let timed = firm_at brings arrives.span receiver is switch in
+    let with_time = firm_at brings arrives.span receiver is switch in
     let off = brings.not_on v receiver (arrives_at v h link d.entry.row.way d.entry) is (has_time_at with_time).timed in
     let taken = arrivals_are_taken brings.blocks brings.channels v h device receiver link went.cause vl cycle is fit good fine d whole (ap target_of went.same)
     in_time with_time off in
@@ -731,7 +731,7 @@ sent_below brings (suc bound) {v} {vl} {of_vl} {cycle} {last} is fit sources sen
             let before = sent.before in
             let narrow = before_narrow before in
             let space = room is in
-            let timed = brings.switches v cycle before device is firm in
+            let with_time = brings.switches v cycle before device is firm in
             let r = values_are_reached brings.blocks brings.not_on v cycle (amount entry.row.offset) before device is with_time sent.occurs.begun
             (offset_in_schedule is row)
             (omega (arith, ints, times.tolerates, sent.in_run, space.eight_errors)) in

@@ -42,7 +42,7 @@ next_down (y ∷ p) i [] b = inl tt
 next_down (y ∷ p) i (x ∷ xs) (inl lt) = inl (inl lt)
 next_down (y ∷ p) i (x ∷ xs) (inr h) = grind (arith, (next_down p i xs h.1))
 
-next_of : (p : List ℕ) (i : ℕ) → IsNext (p ++ i ∷ []) (p ++ suc i ∷ [])
+pub next_of : (p : List ℕ) (i : ℕ) → IsNext (p ++ i ∷ []) (p ++ suc i ∷ [])
 next_of p i = record { up = next_up p i; down = next_down p i }
 
 -- what is before a place is before each place under it
@@ -53,12 +53,12 @@ before_under (y ∷ p) n (x ∷ xs) (inl lt) = inl lt
 before_under (y ∷ p) n (x ∷ xs) (inr h) = inr (h.0, before_under p n xs h.1)
 
 -- and one under it is before a later one
-under_before : (p : List ℕ) (k n : ℕ) (ks : List ℕ) → k < n → IsBefore (p ++ k ∷ ks) (p ++ n ∷ [])
+pub under_before : (p : List ℕ) (k n : ℕ) (ks : List ℕ) → k < n → IsBefore (p ++ k ∷ ks) (p ++ n ∷ [])
 under_before [] k n ks lt = inl lt
 under_before (y ∷ p) k n ks lt = inr (refl, under_before p k n ks lt)
 
 -- what is before a place under one is before the next
-inside_next : (p : List ℕ) (i n : ℕ) (q : List ℕ) → IsBefore q ((p ++ i ∷ []) ++ n ∷ []) → IsBefore q (p ++ suc i ∷ [])
+pub inside_next : (p : List ℕ) (i n : ℕ) (q : List ℕ) → IsBefore q ((p ++ i ∷ []) ++ n ∷ []) → IsBefore q (p ++ suc i ∷ [])
 inside_next [] i n [] b = tt
 inside_next [] i n (x ∷ xs) (inl lt) = inl (omega arith)
 inside_next [] i n (x ∷ xs) (inr h) = inl (omega (arith, h.0))
@@ -79,7 +79,7 @@ IsSized (suc size) bound (k ∷ ks) = (k < bound) × IsSized size bound ks
 
 module _ {N : Type 0} (place : N → List ℕ) (IsDue : List N → N → Type 0) where
   -- a run goes up to a later mark, where none that is due is before this alone
-  move_on : (m next : List ℕ) (ns : List N) → IsRun place IsDue m ns → ((q : List ℕ) → IsBefore q m → IsBefore q next)
+  pub move_on : (m next : List ℕ) (ns : List N) → IsRun place IsDue m ns → ((q : List ℕ) → IsBefore q m → IsBefore q next)
       → ((y : N) → IsDue ns y → IsBefore (place y) next → IsBefore (place y) m) → IsRun place IsDue next ns
   move_on m next ns run up none =
       move_mark IsDue run (λ x i. up (place x) (run.within x i))
@@ -160,7 +160,7 @@ module _ {N : Type 0} (place : N → List ℕ) (IsDue : List N → N → Type 0)
     loop p (suc n) one r = one n (loop p n one r)
 
     -- a run up to a place goes on to the next, over all that is under it
-    sweep : (size bound : ℕ) (p next : List ℕ) → IsNext p next → IsBefore p next
+    pub sweep : (size bound : ℕ) (p next : List ℕ) → IsNext p next → IsBefore p next
         → ((n : ℕ) (q : List ℕ) → IsBefore q (p ++ n ∷ []) → IsBefore q next) → IsUnder under p → AreSized p size bound → IsReached p → IsReached next
     sweep zero bound p next at first inside here sized r = leaf p next bound at first here sized r
     sweep (suc size) bound p next at first inside here sized r =

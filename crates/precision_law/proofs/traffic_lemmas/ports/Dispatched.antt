@@ -56,7 +56,7 @@ one_way Down Up l differ same = absurd (differ (sym same))
 one_way Down Down l differ same = refl
 
 -- two rows of one link that leave one device go on one way
-same_way : {network : Network} {place other : ℕ} {entry second : Entry} → KeepsRules network
+pub same_way : {network : Network} {place other : ℕ} {entry second : Entry} → KeepsRules network
     → IsEntry network place entry → IsEntry network other second → entry.row.link ≡ second.row.link
     → source_of entry ≡ source_of second → entry.row.way ≡ second.row.way
 same_way keeps one two link source = grind (arith, same_some, link_at, one_way, ends_differ, source_by)
@@ -405,7 +405,7 @@ one_in_order brings {v} {h} {g} {device} {link} {cause} {other} {vl} {cycle} is 
     ∙ sym (place_is g device link other vl cycle two.is) in
     same_by_place h g is one.there two.there place
 
-dispatches_are_one : BringsBlocks → DispatchesAreOne
+pub dispatches_are_one : BringsBlocks → DispatchesAreOne
 dispatches_are_one brings v h g device link cause other vl cycle is good one two =
     elim (cases_lt (time_of g) (time_of h)) [
       | inl lt ↦ sym (one_in_order brings is good (omega arith) two one)

@@ -143,7 +143,7 @@ record IsPermanentRecord (device : DeviceId) (h : Happening) (reading : ℤ) : T
   pub reads : reading ≡ point.0
 
 -- the point that a test lets through
-made_of : (b : Bool) (point : Point) (o : Point) → (if b then Some point else None) ≡ Some o → (b ≡ true) × (point ≡ o)
+pub made_of : (b : Bool) (point : Point) (o : Point) → (if b then Some point else None) ≡ Some o → (b ≡ true) × (point ≡ o)
 made_of true point o e = (refl, cc)
 made_of false point o e = absurd cc
 
@@ -224,7 +224,7 @@ never_dropped reason judgements.Opened e = cc
 never_dropped reason other e = cc
 
 -- so a compression master has found no fault of it
-no_fault : (network : Network) (points : List Point) (point : Point) (o : Option Reason) (j : Judgement)
+pub no_fault : (network : Network) (points : List Point) (point : Point) (o : Option Reason) (j : Judgement)
     → IsCollectedOrDropped network points point o (ripe_as j) → o ≡ None
 no_fault network points point (Some reason) j c = absurd (never_dropped reason j c)
 no_fault network points point None j c = refl
@@ -385,7 +385,7 @@ ends_none {device} {r} g h front between_them rest is whole record_is late early
     ]
 
 -- what a synchronised compression master sends was opened so
-emission_opened : TimedAreNotTurnedOn → {v : View} (device : DeviceId) (g : Happening) (opened at : Units)
+pub emission_opened : TimedAreNotTurnedOn → {v : View} (device : DeviceId) (g : Happening) (opened at : Units)
     (cycle : ℕ) (members : Members) (verdict : Judgement) → IsView v → IsIn g v.records
     → g.note.body ≡ notes.Compressed device opened at cycle members verdict
     → state_left v device (time_of g) ≡ Synchronised → IsOpenedAt v device (time_of g) at.0

@@ -41,7 +41,7 @@ module _ {s : Scenario} (ns : List Note) (until : ℕ) (lawful : IsLawful s)
   run_to = grind (arith, soon)
 
   -- a lawful run goes well
-  goes_well : GoesWell s (happenings s.network ns) until
+  pub goes_well : GoesWell s (happenings s.network ns) until
   goes_well =
       let it = run_to in
       record {
@@ -70,7 +70,7 @@ comes_earlier : (wait : ℕ) (s : Scenario) (hs : List Happening) (u t : ℕ) �
 comes_earlier wait s hs u t le comes device from x end on long early good =
     comes device from x end on long (omega arith) good
 
-well_earlier : {s : Scenario} {hs : List Happening} (u : ℕ) {t : ℕ} → u ≤ t → GoesWell s hs t → GoesWell s hs u
+pub well_earlier : {s : Scenario} {hs : List Happening} (u : ℕ) {t : ℕ} → u ≤ t → GoesWell s hs t → GoesWell s hs u
 well_earlier {s} {hs} u {t} le well = record {
   safe = safe_earlier u le well.safe;
   time = stays_earlier s hs u t le well.time;
@@ -87,7 +87,7 @@ lowest (notes.Event line what) lt = (line, what, refl)
 lowest other lt = absurd (omega arith)
 
 -- a place that is not before a time, but before the place behind its events, is of this time and of the lowest rank
-between : (at kind time : ℕ) (rest : List ℕ) → (IsBefore (at ∷ kind ∷ rest) (time ∷ []) → ⊥) → IsBefore (at ∷ kind ∷ rest) (time ∷ 2 ∷ [])
+pub between : (at kind time : ℕ) (rest : List ℕ) → (IsBefore (at ∷ kind ∷ rest) (time ∷ []) → ⊥) → IsBefore (at ∷ kind ∷ rest) (time ∷ 2 ∷ [])
     → (at ≡ time) × (kind < 2)
 between at kind time rest not (inl lt) = absurd (not (inl lt))
 between at kind time rest not (inr (same, inl lt)) = (same, lt)
@@ -106,7 +106,7 @@ event_of s {hs} time at run h i =
 -- ---- the front
 
 -- a run up to before a time goes well up to each earlier time
-goes_well_before : {s : Scenario} (ns : List Note) (time : ℕ) → IsLawful s
+pub goes_well_before : {s : Scenario} (ns : List Note) (time : ℕ) → IsLawful s
     → time ≤ 2 ^ 20 * amount s.network.cycle + 1 → IsScenarioRun s (time ∷ []) ns → (until : ℕ) → until < time
     → GoesWell s (happenings s.network ns) until
 goes_well_before {s} ns time lawful short run until early =
@@ -123,7 +123,7 @@ pub record IsParted (s : Scenario) (time : ℕ) (ns : List Note) : Type 0 where
   pub run : IsScenarioRun s (time ∷ []) front
   pub only_events : (note : Note) → IsIn note rest → IsEventOf time note
 
-part : (s : Scenario) (time : ℕ) (ns : List Note) → IsScenarioRun s (time ∷ 2 ∷ []) ns → IsParted s time ns
+pub part : (s : Scenario) (time : ℕ) (ns : List Note) → IsScenarioRun s (time ∷ 2 ∷ []) ns → IsParted s time ns
 part s time ns run =
     let hs = happenings s.network ns in
     let at = split place_of (IsDue s) hs (time ∷ []) run.founded in
@@ -165,7 +165,7 @@ in_order_behind network all front (e ∷ rest) last same within begun =
       in_order_behind network all (front ++ last ∷ []) rest e (same ∙ sym (append_assoc (front ++ last ∷ []) (e ∷ []) rest)) within begun,
     )
 
-in_order : (network : Network) (all : List Event) → AreWithinHypothesis network all → ((e : Event) → IsIn e all → pos 0 ≤ℤ e.time.0)
+pub in_order : (network : Network) (all : List Event) → AreWithinHypothesis network all → ((e : Event) → IsIn e all → pos 0 ≤ℤ e.time.0)
     → AreSlowInOrder network.rho 0 all
 in_order network [] within begun = tt
 in_order network (e ∷ es) within begun = (
@@ -220,7 +220,7 @@ each_in P (y ∷ xs) all x (inl e) = subst P (sym e) (All-head P y xs all)
 each_in P (y ∷ xs) all x (inr i) = each_in P xs (All-tail P y xs all) x i
 
 -- no event comes before time 0
-begun : (network : Network) (events : List Event) → IsUnder network events → (event : Event) → IsIn event events → pos 0 ≤ℤ event.time.0
+pub begun : (network : Network) (events : List Event) → IsUnder network events → (event : Event) → IsIn event events → pos 0 ≤ℤ event.time.0
 begun network events under event i = (each_in IsEventInRange events under.times event i).time
 
 -- a cut names a link of the network

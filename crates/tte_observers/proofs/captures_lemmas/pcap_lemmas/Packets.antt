@@ -67,7 +67,7 @@ at_packet head file at stamp small whole =
 -- what stands at a place
 data Finding (head : CaptureHead) (file : List ℕ) (at : ℕ) : Type 0 where
   ended : at ≡ length file → packet_at head file at ≡ Ok None → Finding head file at
-  found : (p : Packet) → IsPacket head file at p → packet_at head file at ≡ Ok (Some p) → Finding head file at
+  pub found : (p : Packet) → IsPacket head file at p → packet_at head file at ≡ Ok (Some p) → Finding head file at
   refused : (e : CaptureRefusal) → HasPacketFault head file at e → packet_at head file at ≡ Err e → Finding head file at
 
 module _ (head : CaptureHead) (file : List ℕ) where
@@ -102,7 +102,7 @@ module _ (head : CaptureHead) (file : List ℕ) where
   ]
 
   -- the octets fix the packet
-  packet_is : (at : ℕ) (p : Packet) → IsPacket head file at p → packet_of head file at (captured head file at) ≡ p
+  pub packet_is : (at : ℕ) (p : Packet) → IsPacket head file at p → packet_of head file at (captured head file at) ≡ p
   packet_is at p i =
       let behind : at + stamp_length + captured head file at ≡ p.to =
       ap (λ n. n + captured head file at) i.from ∙ i.to in
@@ -170,7 +170,7 @@ pub length-stamp_octets : (seconds micros n : ℕ) → length (stamp_octets seco
 unfolding stamp_octets
 length-stamp_octets seconds micros n = refl
 
-length-packet_octets : (seconds micros : ℕ) (octets : List ℕ) → length (packet_octets seconds micros octets) ≡ 16 + length octets
+pub length-packet_octets : (seconds micros : ℕ) (octets : List ℕ) → length (packet_octets seconds micros octets) ≡ 16 + length octets
 length-packet_octets seconds micros octets =
     length-append (stamp_octets seconds micros (length octets)) octets
     ∙ ap (λ n. n + length octets) (length-stamp_octets seconds micros (length octets))
@@ -190,25 +190,25 @@ written_front stamp octets room rest size =
 
 -- the numbers that stand before the octets of a packet
 
-seconds_read : (seconds micros : ℕ) (octets rest : List ℕ) → seconds < 2 ^ 32 → number false 4 0 (packet_octets seconds micros octets ++ rest) ≡ seconds
+pub seconds_read : (seconds micros : ℕ) (octets rest : List ℕ) → seconds < 2 ^ 32 → number false 4 0 (packet_octets seconds micros octets ++ rest) ≡ seconds
 unfolding number stamp_octets
 seconds_read seconds micros octets rest fits = little_number-reads_back 4 seconds (drop 4 (packet_octets seconds micros octets ++ rest)) fits
 
-micros_read : (seconds micros : ℕ) (octets rest : List ℕ) → micros < 2 ^ 32 → number false 4 4 (packet_octets seconds micros octets ++ rest) ≡ micros
+pub micros_read : (seconds micros : ℕ) (octets rest : List ℕ) → micros < 2 ^ 32 → number false 4 4 (packet_octets seconds micros octets ++ rest) ≡ micros
 unfolding number stamp_octets
 micros_read seconds micros octets rest fits = little_number-reads_back 4 micros (drop 8 (packet_octets seconds micros octets ++ rest)) fits
 
-captured_read : (seconds micros : ℕ) (octets rest : List ℕ) → length octets < 2 ^ 32
+pub captured_read : (seconds micros : ℕ) (octets rest : List ℕ) → length octets < 2 ^ 32
     → number false 4 8 (packet_octets seconds micros octets ++ rest) ≡ length octets
 unfolding number stamp_octets
 captured_read seconds micros octets rest fits = little_number-reads_back 4 (length octets) (drop 12 (packet_octets seconds micros octets ++ rest)) fits
 
-original_read : (seconds micros : ℕ) (octets rest : List ℕ) → length octets < 2 ^ 32
+pub original_read : (seconds micros : ℕ) (octets rest : List ℕ) → length octets < 2 ^ 32
     → number false 4 12 (packet_octets seconds micros octets ++ rest) ≡ length octets
 unfolding number stamp_octets
 original_read seconds micros octets rest fits = little_number-reads_back 4 (length octets) (drop 16 (packet_octets seconds micros octets ++ rest)) fits
 
-octets_behind : (seconds micros : ℕ) (octets rest : List ℕ) → drop 16 (packet_octets seconds micros octets ++ rest) ≡ octets ++ rest
+pub octets_behind : (seconds micros : ℕ) (octets rest : List ℕ) → drop 16 (packet_octets seconds micros octets ++ rest) ≡ octets ++ rest
 unfolding stamp_octets
 octets_behind seconds micros octets rest = refl
 

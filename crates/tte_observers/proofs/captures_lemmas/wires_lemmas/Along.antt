@@ -68,7 +68,7 @@ module _ (link : LinkId) (way : Way) (network : Network) (events : List Event) (
       (λ h i. settled_sooner (happenings network notes) (amount event.time) ((length events + 1) ∷ []) b.0 h (settled h i))
 
   -- so the capture begins with them
-  begins : (all : List Event) (others : List Note) → GoesOnTo network events notes all others
+  pub begins : (all : List Event) (others : List Note) → GoesOnTo network events notes all others
       → BeginWith (capture_of network link way all others) (packets_of (scenario_under network events) link way front)
   begins all others on =
       let s = scenario_under network (events ++ on.more) in
@@ -109,7 +109,7 @@ module _ (link : LinkId) (way : Way) (network : Network) (octets : List ℕ) whe
   either_stops {events} (inr f) event admitted =
       fault_stops network events (behind_lines (length events) octets) f.fault f.is admitted
 
-  answer_captures : {a : Answer} → IsCapture link way octets network a → Captures link way network octets a
+  pub answer_captures : {a : Answer} → IsCapture link way octets network a → Captures link way network octets a
   answer_captures {a} i = by i.is
     where
       by : EndsEither (way_lines link way) network octets i.events a → Captures link way network octets a
@@ -142,7 +142,7 @@ module _ (link : LinkId) (way : Way) (network : Network) (octets : List ℕ) whe
 
 module _ (network : Network) (octets : List ℕ) (events : List Event) where
   -- from the records on the way to a next event that is admitted
-  next_goes : (event : Event) {mark : List ℕ} (notes : List Note) {all : List Event} {others : List Note}
+  pub next_goes : (event : Event) {mark : List ℕ} (notes : List Note) {all : List Event} {others : List Note}
       → AreAdmitted network octets (events ++ event ∷ [])
       → ((p : List ℕ) → IsBefore p mark → IsBefore p (place_of_event events event))
       → AreRecordsBefore network events mark notes → RunsOut network octets all others
@@ -181,7 +181,7 @@ module _ (network : Network) (octets : List ℕ) (events : List Event) where
       record { more = []; rest = r.0; events_are = sym (append-nil events); notes_are = r.1; behind = λ e behind is. absurd cc }
 
   -- from the records so far, of whichever first events
-  so_far_goes : (notes : List Note) {all : List Event} {others : List Note} → AreAdmitted network octets events
+  pub so_far_goes : (notes : List Note) {all : List Event} {others : List Note} → AreAdmitted network octets events
       → AreRecordsSoFar network events notes → RunsOut network octets all others
       → GoesOnTo network events notes all others
   so_far_goes notes {all} {others} admitted run out =
@@ -220,7 +220,7 @@ module _ (link : LinkId) (way : Way) (network : Network) (octets : List ℕ) (ev
       ]
 
   -- from the records up to any mark that is not behind the end
-  ended_goes : {mark : List ℕ} (notes : List Note) {a : Answer} → IsAllAdmitted network octets events
+  pub ended_goes : {mark : List ℕ} (notes : List Note) {a : Answer} → IsAllAdmitted network octets events
       → ((p : List ℕ) → IsBefore p mark → IsBefore p ((amount (last_time events) + 1) ∷ []))
       → AreRecordsBefore network events mark notes → (w : AnswersAll (way_lines link way) network octets events a)
       → GoesOnTo network events notes events w.notes

@@ -186,7 +186,7 @@ module _ {K : Type 0} (sink : Ghosts K) where
   }
 
   -- memory runs out behind them
-  memory_further : {T U : Type 0} (lines : List (List ℕ)) (x : T) (old new : K) → PutsAll {T = T} sink lines (Ok x) old new
+  pub memory_further : {T U : Type 0} (lines : List (List ℕ)) (x : T) (old new : K) → PutsAll {T = T} sink lines (Ok x) old new
       → PutsFurther {T = U} sink (Err OutOfMemory) old new
   memory_further lines x old new p = record { grew = (concat lines, p.all.0.written); quiet = tt {0}; cause = p.all.1 }
 
@@ -293,7 +293,7 @@ module _ (s : Scenario) (link : LinkId) where
 abbrev put_of : Option Launch → Option Signal
 put_of launch = option_map (λ (l : Launch). l.signal) launch
 
-abbrev line_of : ℕ → Option (List ℕ) → List (List ℕ)
+abbrev pub line_of : ℕ → Option (List ℕ) → List (List ℕ)
 line_of t octets = cons_option (option_map (packet_at t) octets) []
 
 -- the lines of what is found on the wire: none, or that of octets as they are spelt

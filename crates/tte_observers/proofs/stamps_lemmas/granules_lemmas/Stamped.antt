@@ -62,7 +62,7 @@ pub record IsStamped (granule : ℕ) (network : Network) (line : Line) (device :
   pub ready : IsReady network line device
   pub is : stamp ≡ stamp_of granule (shown_at network line device)
 
-stamped : (granule : ℕ) (network : Network) (line : Line) (device : DeviceId) (stamp : ℤ) → stamp_at granule network line device ≡ Some stamp
+pub stamped : (granule : ℕ) (network : Network) (line : Line) (device : DeviceId) (stamp : ℤ) → stamp_at granule network line device ≡ Some stamp
     → IsStamped granule network line device stamp
 stamped granule network line device stamp e =
     let both = some_if (stamps network line device) (stamp_of granule (shown_at network line device)) stamp e in
@@ -83,7 +83,7 @@ of_locals granule network line device (Some l) shown =
 -- ---- what the events of a run tell at a line of its trace: the times of events
 
 -- none is before time 0
-begun : (s : Scenario) → IsLawful s → (event : Event) → IsIn event s.events → pos 0 ≤ℤ event.time.0
+pub begun : (s : Scenario) → IsLawful s → (event : Event) → IsIn event s.events → pos 0 ≤ℤ event.time.0
 begun s lawful event i = (All-contains IsEventInRange s.events event lawful.events (contains s.events event i)).time
 
 -- none is behind the last cycle
@@ -113,7 +113,7 @@ behind_later network all front (x ∷ rest) last same within begun e i =
 
 module _ (s : Scenario) (mark : List ℕ) (hs : List Happening) (line : Line) (lawful : IsLawful s) (of : IsLineOf s mark hs line) where
   -- its time is in the first 2^20 cycles
-  line_in_time : line.time ≤ 2 ^ 20 * amount s.network.cycle
+  pub line_in_time : line.time ≤ 2 ^ 20 * amount s.network.cycle
   line_in_time =
       let there : IsIn of.event line.befallen = subst (IsIn of.event) (sym of.befallen) (in_right of.event of.before (of.event ∷ []) (inl refl)) in
       let short = in_time lawful of.event (subst (IsIn of.event) (sym of.trace) (in_left of.event line.befallen of.behind there)) in
@@ -127,7 +127,7 @@ module _ (s : Scenario) (mark : List ℕ) (hs : List Happening) (line : Line) (l
       omega (arith, le, of.time)
 
   -- a device that is not broken at it was not broken before
-  unbroken : (device : DeviceId) (u : ℕ) → u < line.time → is_broken (scenario_at s.network line) device line.time ≡ false → is_broken s device u ≡ false
+  pub unbroken : (device : DeviceId) (u : ℕ) → u < line.time → is_broken (scenario_at s.network line) device line.time ≡ false → is_broken s device u ≡ false
   unbroken device u lt correct = false_from_ne_true (is_broken s device u) (λ broken.
       let breaks = λ (e : Event). breaks_at device.0 e.what in
       let by_then = λ (e : Event). nat_le (amount e.time) u in
@@ -170,7 +170,7 @@ module _ (s : Scenario) (mark : List ℕ) (hs : List Happening) (line : Line) (d
   left = up_state (is_turned_on_at (scenario_at s.network line) device line.time) (state_after s (earlier line.time line.records) device) ready.synchronised
 
   -- at time 0 it shows its start
-  at_start : line.time ≡ 0 → (pos 0 ≤ℤ shown_at s.network line device) × (shown_at s.network line device ≤ℤ s.network.settled.0)
+  pub at_start : line.time ≡ 0 → (pos 0 ≤ℤ shown_at s.network line device) × (shown_at s.network line device ≤ℤ s.network.settled.0)
   at_start now =
       let none : earlier line.time line.records ≡ [] = ap (λ x. earlier x line.records) now ∙ none_at_start line.records in
       let start = has_start (start_of s.network device) (timed_of _ (subst (λ gs. state_after s gs device ≡ Synchronised) none left)) in
@@ -182,7 +182,7 @@ module _ (s : Scenario) (mark : List ℕ) (hs : List Happening) (line : Line) (d
       (omega (arith, ints, shown, known.0), omega (arith, ints, shown, known.1))
 
   -- and a unit before a later line it is in step
-  just_before : (u : ℕ) → line.time ≡ u + 1 → IsJustBefore s hs device u (shown_at s.network line device)
+  pub just_before : (u : ℕ) → line.time ≡ u + 1 → IsJustBefore s hs device u (shown_at s.network line device)
   just_before u next =
       let same : earlier line.time line.records ≡ up_to u hs = of.records ∙ ap (λ x. earlier x hs) next ∙ sym (up_to_is u hs) in
       let reads : line.reading device line.time ≡ s.reading device (u + 1) = of.reads device line.time (omega arith) ∙ ap (s.reading device) next in
@@ -210,7 +210,7 @@ above_zero : (cycles t error : ℕ) (last shown : ℤ) → ((pos cycles +ℤ pos
 above_zero cycles t error last shown least come = omega (arith, ints, least, come)
 
 -- a clock in step shows at least 0, but for its error
-not_behind : {s : Scenario} {mark : List ℕ} {ns : List Note} {u : ℕ} (path : ℕ) {device : DeviceId}
+pub not_behind : {s : Scenario} {mark : List ℕ} {ns : List Note} {u : ℕ} (path : ℕ) {device : DeviceId}
     → IsRunUpTo s mark ns u → IsBeta s.network (pos path) → IsInStep s (happenings s.network ns) device u
     → pos 0 ≤ℤ (local s (happenings s.network ns) device u +ℤ pos (ideal_error s.network path))
 not_behind {s} {mark} {ns} {u} path {device} up beta step =
@@ -232,7 +232,7 @@ pub record AreSmall (n : Network) (path : ℕ) : Type 0 where
   pub start : n.settled.0 ≤ℤ n.precision.0
   pub error : pos (ideal_error n path) ≤ℤ n.precision.0
 
-are_small : {n : Network} (path : ℕ) → IsInRange n → HaveRoom (sizes_of n path) → AreSmall n path
+pub are_small : {n : Network} (path : ℕ) → IsInRange n → HaveRoom (sizes_of n path) → AreSmall n path
 are_small path range room =
     let small = small_sizes room in
     let least = range.precision.least in

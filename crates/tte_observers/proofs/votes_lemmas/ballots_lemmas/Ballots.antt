@@ -27,7 +27,7 @@ use Rattle.run_law.specs.declared.note.NoteBody.TheVariants as notes
 
 -- ---- the seats of a ballot behind a further record: what is taken by a record
 
-none_taken : (body : NoteBody) (vl : VlId) (cycle : ℕ) (device : DeviceId) → delivery_in body ≡ None → is_delivery vl cycle device body ≡ false
+pub none_taken : (body : NoteBody) (vl : VlId) (cycle : ℕ) (device : DeviceId) → delivery_in body ≡ None → is_delivery vl cycle device body ≡ false
 none_taken (notes.Delivered other link cause of_vl of_cycle) vl cycle device e = absurd cc
 none_taken other vl cycle device e = refl
 
@@ -35,7 +35,7 @@ none_taken other vl cycle device e = refl
 abbrev pub is_of : VlId → ℕ → DeviceId → BallotDelivery → Bool
 is_of vl cycle device d = device.0 == d.device.0 && (vl.0 == d.vl.0 && cycle == d.cycle)
 
-some_taken : (body : NoteBody) (d : BallotDelivery) (vl : VlId) (cycle : ℕ) (device : DeviceId) → delivery_in body ≡ Some d
+pub some_taken : (body : NoteBody) (d : BallotDelivery) (vl : VlId) (cycle : ℕ) (device : DeviceId) → delivery_in body ≡ Some d
     → is_delivery vl cycle device body ≡ is_of vl cycle device d
 some_taken (notes.Delivered other link cause of_vl of_cycle) d vl cycle device e = ap (is_of vl cycle device) (same_Some _ _ e)
 some_taken other d vl cycle device e = absurd cc
@@ -68,13 +68,13 @@ module _ (hs : List Happening) (h : Happening) (vl : VlId) (cycle : ℕ) (device
   )
 
   -- a record that is none of its deliveries leaves it
-  seat_stays : (seat : Option ℕ) → is_delivery vl cycle device h.note.body ≡ false
+  pub seat_stays : (seat : Option ℕ) → is_delivery vl cycle device h.note.body ≡ false
       → IsCastBy hs vl cycle device seat → IsCastBy (hs ++ h ∷ []) vl cycle device seat
   seat_stays (Some number) e is = stays number is
   seat_stays None e is = last_by false e is
 
 -- a record of its ballot casts it if it is of its virtual link, and it is not cast
-seat_cast : (hs : List Happening) (h : Happening) (vl of_vl : VlId) (cycle : ℕ) (device : DeviceId) (number : ℕ) (seat : Option ℕ)
+pub seat_cast : (hs : List Happening) (h : Happening) (vl of_vl : VlId) (cycle : ℕ) (device : DeviceId) (number : ℕ) (seat : Option ℕ)
     → is_delivery vl cycle device h.note.body ≡ (vl.0 == of_vl.0) → number ≡ length hs + 1 → IsCastBy hs vl cycle device seat
     → IsCastBy (hs ++ h ∷ []) vl cycle device (seat_with vl of_vl number seat)
 seat_cast hs h vl of_vl cycle device number (Some first) e last is = stays hs h vl cycle device first is
@@ -143,7 +143,7 @@ ballots_other hs h voters ballots d taken none are cycle device c e =
 
 -- ---- the ballot that it is of
 
-equal_keys : (k q : ℕ) → is_eq (nat_cmp k q) ≡ true → k ≡ q
+pub equal_keys : (k q : ℕ) → is_eq (nat_cmp k q) ≡ true → k ≡ q
 equal_keys k q e = by (nat_lt k q) (k == q) refl e
   where
     by : (less same : Bool) → (k == q) ≡ same → is_eq (cond less Less (cond same Equal Greater)) ≡ true → k ≡ q

@@ -23,7 +23,7 @@ use Rattle.run_law.specs.declared.note.NoteBody.TheVariants as notes
 -- ---- the first of a list's entries that passes a test, where one alone does
 
 -- the one entry that passes is found
-find_one : {X : Type 0} (p : X → Bool) (xs : List X) (x : X) → IsIn x xs → p x ≡ true → ((y : X) → IsIn y xs → p y ≡ true → y ≡ x) → find p xs ≡ Some x
+pub find_one : {X : Type 0} (p : X → Bool) (xs : List X) (x : X) → IsIn x xs → p x ≡ true → ((y : X) → IsIn y xs → p y ≡ true → y ≡ x) → find p xs ≡ Some x
 find_one p [] x at hit one = absurd at
 find_one {X} p (y ∷ xs) x at hit one =
     by (p y) refl (λ there. find_one p xs x there hit (λ z is passes. one z (inr is) passes))
@@ -108,7 +108,7 @@ hits vl cycle device link cause =
     (and_from (vl.0 == vl.0) (cycle == cycle) (eq-eqb vl.0 vl.0 refl) (eq-eqb cycle cycle refl))
 
 -- what is taken of a frame that is delivered once, as it was sent
-payload_delivered : {s : Scenario} {hs : List Happening} {vl : VlId} {of_vl : VirtualLink} {cycle : ℕ}
+pub payload_delivered : {s : Scenario} {hs : List Happening} {vl : VlId} {of_vl : VirtualLink} {cycle : ℕ}
     {device : DeviceId} → IsDelivered s hs vl of_vl cycle device
     → payload_taken hs vl cycle device ≡ Some (sent_payload of_vl cycle)
 payload_delivered {s} {hs} {vl} {of_vl} {cycle} {device} d =
@@ -149,13 +149,13 @@ by_second v p e none t =
     (if b then Some 0 else (if are_equal v.second v.third then Some 1 else None))) none
     ∙ ap (λ (b : Bool). option_and_then (payload_of v) (if b then Some 1 else None)) t ∙ e
 
-first_and_second : (v : Votes) (p : List ℕ) → v.first ≡ Some p → v.second ≡ Some p → voted v ≡ Some p
+pub first_and_second : (v : Votes) (p : List ℕ) → v.first ≡ Some p → v.second ≡ Some p → voted v ≡ Some p
 first_and_second v p e f = by_first v p e (ap (λ (b : Bool). b || are_equal v.first v.third) (equal_both v.first v.second p e f))
 
-first_and_third : (v : Votes) (p : List ℕ) → v.first ≡ Some p → v.third ≡ Some p → voted v ≡ Some p
+pub first_and_third : (v : Votes) (p : List ℕ) → v.first ≡ Some p → v.third ≡ Some p → voted v ≡ Some p
 first_and_third v p e f = by_first v p e (or_right (are_equal v.first v.second) (are_equal v.first v.third) (equal_both v.first v.third p e f))
 
-second_and_third : (v : Votes) (p : List ℕ) → v.second ≡ Some p → v.third ≡ Some p → voted v ≡ Some p
+pub second_and_third : (v : Votes) (p : List ℕ) → v.second ≡ Some p → v.third ≡ Some p → voted v ≡ Some p
 second_and_third v p e f =
     let a = are_equal v.first v.second in
     let b = are_equal v.first v.third in

@@ -46,7 +46,7 @@ pub still_now : {s : Scenario} {hs zs : List Happening} {now : ℕ} {device : De
 still_now {s} {now} {device} w off h i from lt =
     unmoved_by s device now h.note.body off (w.still h i (omega arith))
 
-base_then : {s : Scenario} {hs zs : List Happening} {now : ℕ} {device : DeviceId} {node : Node}
+pub base_then : {s : Scenario} {hs zs : List Happening} {now : ℕ} {device : DeviceId} {node : Node}
     → IsAtWork s hs zs now device node → is_turned_on_at s device now ≡ false
     → is_broken s device (now + 1) ≡ is_broken s device now → IsBase s (hs ++ zs) device (now + 1) node
 base_then w off same =
@@ -78,7 +78,7 @@ pub none_bear : {s : Scenario} {hs : List Happening} (front back : List Happenin
     → NoneBefore place_of back (place_of w) → (z : Happening) → IsIn z back → bears_on device z.note.body ≡ false
 none_bear front back w work off at late none z i = grind (arith, in_right, bears_none, cases_lt, rank, unmoved_by)
 
-one_in : (q : Happening → Bool) (w : Happening) (back : List Happening) → filter q back ≡ [] → filter q (w ∷ back) ≡ filter q (w ∷ [])
+pub one_in : (q : Happening → Bool) (w : Happening) (back : List Happening) → filter q back ≡ [] → filter q (w ∷ back) ≡ filter q (w ∷ [])
 one_in q w back none = filter-append q (w ∷ []) back ∙ ap (λ l. filter q (w ∷ []) ++ l) none ∙ append-nil
     (filter q (w ∷ []))
 
@@ -114,7 +114,7 @@ borne_two hs front mid rest device w f none =
 
 -- ---- what it has done and sent then
 
-left_called : {s : Scenario} {js : List Happening} {device : DeviceId} {u : ℕ} {node : Node} (moment : Moment)
+pub left_called : {s : Scenario} {js : List Happening} {device : DeviceId} {u : ℕ} {node : Node} (moment : Moment)
     → IsLeft s js device u node → IsLeft s js device u (called moment acting node)
 left_called moment left = grind arith
 

@@ -284,7 +284,7 @@ module _ {M : Type 0} {stands : M → Network → DeviceId → Node → Type 0} 
   one_act st before none a = one_caused st before none a.caused a.own a.here a.fresh
 
   -- the records with it are founded
-  lawful_then : {body : NoteBody} {r : ℕ} {more : List ℕ}
+  pub lawful_then : {body : NoteBody} {r : ℕ} {more : List ℕ}
       → StageAt stands s hs (front ++ back) now device machine node r more
       → AllBefore place_of front (place_of (record_of s.network hs front now body))
       → NoneBefore place_of back (place_of (record_of s.network hs front now body))
@@ -611,7 +611,7 @@ none_joined_by : (n : ℕ) (device : DeviceId) (heard : Ripe) → KeepsBy heard 
 none_joined_by n device ripe.Integrates k = absurd k
 none_joined_by n device other k = refl
 
-last_by : (device : DeviceId) (c : Compressed) (v : Judgement) → StaysBy v → is_last (kinds.Compressed device c.opened c.at c.cycle c.members v) ≡ true
+pub last_by : (device : DeviceId) (c : Compressed) (v : Judgement) → StaysBy v → is_last (kinds.Compressed device c.opened c.at c.cycle c.members v) ≡ true
 last_by device c judgements.Integrates s = absurd s
 last_by device c other s = refl
 

@@ -30,7 +30,6 @@ use Rattle.world_law.proofs.steps_lemmas.acting.Work
 use Work.{IsAtWork, IsPutAs, all_earlier, at_correction, comes, heard_by_these, heard_more, heard_put, none_heard}
 use Rattle.run_law.specs.declared.judgement.Why.TheVariants as whys
 use Rattle.run_law.specs.declared.note.NoteBody.TheVariants as kinds
-use Rattle.run_law.specs.declared.note.NoteBody.TheVariants as notes
 
 -- ---- how a device stands at the next unit of time behind a record of the instant that moves it
 
@@ -73,7 +72,7 @@ heard_anew s hs device u h lt it = grind (arith, nat_lt, time_of, changes_adjust
 
 -- ---- a correction
 
-beyond : (o : Option ℕ) (least cycle : ℕ) → least ≤ cycle → IfSome o (λ c. c ≤ least) → option_map_or (λ c. (cycle + 1) == c) o false ≡ false
+pub beyond : (o : Option ℕ) (least cycle : ℕ) → least ≤ cycle → IfSome o (λ c. c ≤ least) → option_map_or (λ c. (cycle + 1) == c) o false ≡ false
 beyond None least cycle le h = refl
 beyond (Some c) least cycle le h = ne_eqb (cycle + 1) c (λ e. omega arith)
 
@@ -82,7 +81,7 @@ started_on None least cycle le h = h
 started_on (Some c) least cycle le h = omega arith
 
 module _ (s : Scenario) (device : DeviceId) (w : List Happening) (h : Happening) (cycle : ℕ) (by adjustment : Units)
-    (e : h.note.body ≡ notes.Corrected device cycle by adjustment) where
+    (e : h.note.body ≡ kinds.Corrected device cycle by adjustment) where
   state_corrected : state_after s (w ++ h ∷ []) device ≡ state_after s w device
   state_corrected =
       fold_more (λ state g. state_with device state g.note.body) _ w h ∙ ap
@@ -92,7 +91,7 @@ module _ (s : Scenario) (device : DeviceId) (w : List Happening) (h : Happening)
   adjustment_corrected = grind (arith, fold_more, adjustment_with, cycle_in, adjustment_after, self)
 
 module _ (device : DeviceId) (w : List Happening) (h : Happening) (cycle : ℕ) (by adjustment : Units)
-    (e : h.note.body ≡ notes.Corrected device cycle by adjustment) where
+    (e : h.note.body ≡ kinds.Corrected device cycle by adjustment) where
   integration_corrected : integration_cycle (w ++ h ∷ []) device ≡ integration_cycle w device
   integration_corrected =
       search (arith, fold_more, cycle_in)
@@ -100,14 +99,14 @@ module _ (device : DeviceId) (w : List Happening) (h : Happening) (cycle : ℕ) 
   cycle_corrected : recorded_cycle (w ++ h ∷ []) device ≡ cycle + 1
   cycle_corrected = grind (arith, fold_more, cycle_after, recorded_cycle, self)
 
-change_corrected : (device : DeviceId) (h : Happening) (cycle : ℕ) (by adjustment : Units) → h.note.body ≡ notes.Corrected device cycle by adjustment
+change_corrected : (device : DeviceId) (h : Happening) (cycle : ℕ) (by adjustment : Units) → h.note.body ≡ kinds.Corrected device cycle by adjustment
     → changes_adjustment device h.note.body ≡ true
 change_corrected device h cycle by adjustment e = ap (changes_adjustment device) e ∙ self device
 
 -- the record of a correction of the device, at a moment of a time before u: of the point that was next, and with the sum
 pub record IsCorrectedSo (s : Scenario) (device : DeviceId) (u : ℕ) (node : Node) (h : Happening) (cycle : ℕ) (by adjustment : Units)
     (moment : Moment) : Type 0 where
-  pub body : h.note.body ≡ notes.Corrected device cycle by adjustment
+  pub body : h.note.body ≡ kinds.Corrected device cycle by adjustment
   pub before : time_of h < u
   pub timed : is_timed node.standing.state ≡ true
   pub number : node.standing.number ≡ cycle
@@ -160,7 +159,7 @@ module _ {s : Scenario} {hs : List Happening} {device : DeviceId} {u : ℕ} {nod
 -- ---- a change of state
 
 state_changed : (s : Scenario) (device : DeviceId) (w : List Happening) (h : Happening) (state : State) (cause : ℕ) (why : Why)
-    → h.note.body ≡ notes.State device state cause why → state_after s (w ++ h ∷ []) device ≡ state
+    → h.note.body ≡ kinds.State device state cause why → state_after s (w ++ h ∷ []) device ≡ state
 state_changed s device w h state cause why e = grind (arith, fold_more, state_with, state_after, self)
 
 -- a record that changes none of what the others tell
@@ -187,7 +186,7 @@ heard_none : (s : Scenario) (device : DeviceId) (w since : List Happening) (u : 
 heard_none s device w since u h none = grind (arith, filter_map, hearing_by, filter-append, not, cleared_in, time_of, heard_none_by, filter)
 
 module _ {s : Scenario} (hs : List Happening) {device : DeviceId} {u : ℕ} {node : Node} (h : Happening)
-    (state : State) (cause : ℕ) (why : Why) (e : h.note.body ≡ notes.State device state cause why) where
+    (state : State) (cause : ℕ) (why : Why) (e : h.note.body ≡ kinds.State device state cause why) where
   -- all but its state and its points is told by the other records
   pub change_counts : time_of h < u → IsCounted s hs device u node → IsCounted s (hs ++ h ∷ []) device u node
   change_counts lt left =
@@ -229,7 +228,7 @@ module _ {s : Scenario} (hs : List Happening) {device : DeviceId} {u : ℕ} {nod
       }
 
   -- the state and the points are those of the record, which ends the stretch
-  pub change_leaves : ends_stretch device (notes.State device state cause why) ≡ true → time_of h < u
+  pub change_leaves : ends_stretch device (kinds.State device state cause why) ≡ true → time_of h < u
       → is_turned_on_at s device u ≡ false → node.standing.state ≡ state
       → (is_cm s.network device ≡ true → node.points ≡ []) → IsCounted s (hs ++ h ∷ []) device u node
       → IsLeft s (hs ++ h ∷ []) device u node
@@ -241,7 +240,7 @@ module _ {s : Scenario} {hs : List Happening} {device : DeviceId} {u : ℕ} {nod
   pub joiner_corrects : {h : Happening} (g : Happening) {cycle : ℕ} (cause : ℕ) {by adjustment : Units}
       {moment : Moment} (heard : Summary) → IsCorrectedSo s device u node h cycle by adjustment moment
       → node.standing.state ≡ Joining → is_turned_on_at s device u ≡ false
-      → g.note.body ≡ notes.State device Synchronised cause whys.Correction → time_of g < u
+      → g.note.body ≡ kinds.State device Synchronised cause whys.Correction → time_of g < u
       → IsBase s hs device u node → IsLeft s ((hs ++ h ∷ []) ++ g ∷ []) device u (with_corrected node moment heard by)
   joiner_corrects {h} g {cycle} cause {by} {adjustment} {moment} heard so joining off e lt left =
       change_leaves (hs ++ h ∷ []) g Synchronised cause
@@ -261,8 +260,8 @@ module _ {s : Scenario} {hs : List Happening} {device : DeviceId} {u : ℕ} {nod
   pub cliques : (h : Happening) (cause : ℕ) (why : Why) (heard : Summary) (verdict : Verdict)
       → state_by node.standing.state verdict ≡ Integrating
       → adjustment_by node.standing.adjustment verdict ≡ node.standing.adjustment
-      → h.note.body ≡ notes.State device Integrating cause why
-      → ends_stretch device (notes.State device Integrating cause why) ≡ true → time_of h < u
+      → h.note.body ≡ kinds.State device Integrating cause why
+      → ends_stretch device (kinds.State device Integrating cause why) ≡ true → time_of h < u
       → is_turned_on_at s device u ≡ false → IsBase s hs device u node
       → IsLeft s (hs ++ h ∷ []) device u (with_clique node heard verdict)
   cliques h cause why heard verdict lost same e ends lt off left =
@@ -273,7 +272,7 @@ module _ {s : Scenario} {hs : List Happening} {device : DeviceId} {u : ℕ} {nod
 -- the record tells the device the time, at the moment before u: no time is between the two
 pub record IsJoinedSo (s : Scenario) (device : DeviceId) (u : ℕ) (h : Happening) (opened : Units) (cycle : ℕ) (members : Members) (point : Units) (frame : Pcf)
     (moment : Moment) : Type 0 where
-  pub body : h.note.body ≡ notes.Compressed device opened point cycle members Integrates
+  pub body : h.note.body ≡ kinds.Compressed device opened point cycle members Integrates
   pub same_cycle : frame.cycle ≡ cycle
   pub of_frame : h.frame ≡ Some frame
   pub before : u ≡ time_of h + 1

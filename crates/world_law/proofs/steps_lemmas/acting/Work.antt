@@ -105,7 +105,7 @@ pub record IsSameBut (node new : Node) : Type 0 where
   pub points : new.points ≡ node.points
 
 -- stands as it did, where the records differ only at the instant
-left_now : {s : Scenario} {hs : List Happening} (gs : List Happening) {device : DeviceId} {now : ℕ}
+pub left_now : {s : Scenario} {hs : List Happening} (gs : List Happening) {device : DeviceId} {now : ℕ}
     {node new : Node} → earlier now hs ≡ earlier now gs → IsSameBut node new
     → (is_timed node.standing.state ≡ true → new.heard ≡ heard_since s gs device now)
     → points_of hs device ≡ points_of gs device → IsLeft s hs device now node → IsLeft s gs device now new
@@ -113,7 +113,7 @@ left_now gs same but heard points left =
     grind (arith, is_timed, adjustment_after, integration_cycle, next_in, local_in, recorded_cycle, is_turned_on_at, state_after)
 
 -- the points are the same with one more record between those of the instant
-points_put : (s : Scenario) (hs front back : List Happening) (now : ℕ) (device : DeviceId) (w : Happening)
+pub points_put : (s : Scenario) (hs front back : List Happening) (now : ℕ) (device : DeviceId) (w : Happening)
     → ((z : Happening) → IsIn z (front ++ back) → IsAtRest s device now z.note.body × (4 ≤ rank z.note.body)) → IsQuiet device w.note.body
     → 4 ≤ rank w.note.body → points_of (hs ++ (front ++ back)) device ≡ points_of (hs ++ (front ++ w ∷ back)) device
 points_put s hs front back now device w rest quiet late =

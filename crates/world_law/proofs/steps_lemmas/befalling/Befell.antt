@@ -28,7 +28,6 @@ use Rattle.world_law.specs.{world.World.{IsDueAs, IsForward, IsWorkedOff}}
 use Rattle.net_plan.specs.declared.event.What.TheVariants as events
 use Rattle.run_law.specs.declared.judgement.Why.TheVariants as whys
 use Rattle.run_law.specs.declared.note.NoteBody.TheVariants as kinds
-use Rattle.run_law.specs.declared.note.NoteBody.TheVariants as notes
 
 -- ---- what the events of an instant put on wires, and what else is under way when their outcomes are settled
 
@@ -39,7 +38,7 @@ pub record IsTelling (hs : List Happening) (frontier : List ℕ) (now : ℕ) (be
   pub sooner : (h : Happening) → IsIn h hs → (time_of h < now) ⊎ ((time_of h ≡ now) × IsEventBody h.note.body)
 
 -- the frontier goes on
-goes_on : {hs : List Happening} {frontier : List ℕ} {now : ℕ} {befell : List Befell}
+pub goes_on : {hs : List Happening} {frontier : List ℕ} {now : ℕ} {befell : List Befell}
     → IsTelling hs frontier now befell → (p : List ℕ) → IsBefore p frontier → IsBefore p (behind (now ∷ 2 ∷ []))
 goes_on {now} m p b =
     chain p (now ∷ 2 ∷ []) (behind (now ∷ 2 ∷ [])) (m.untold.early refl p b) (before_behind (now ∷ 2 ∷ []))
@@ -59,13 +58,13 @@ not_gone_by {now} t k w ws m high b = m.over (t ∷ k ∷ w ∷ ws) (inl (earlie
 -- ---- wires
 
 -- what an event puts on a wire it puts there as one that has an outcome
-launch_out : (s : Scenario) (h : Happening) (t line : ℕ) (what : What) (l : _) → launched s h t (notes.Event line what) ≡ Some l → has_outcome what ≡ true
+launch_out : (s : Scenario) (h : Happening) (t line : ℕ) (what : What) (l : _) → launched s h t (kinds.Event line what) ≡ Some l → has_outcome what ≡ true
 launch_out s h t line (events.Send link octets) l e = refl
 launch_out s h t line (events.On device) l e = refl
 launch_out s h t line other l e = absurd cc
 
-event_is : (body : NoteBody) → IsEventBody body → (line : ℕ) × (what : What) × (body ≡ notes.Event line what)
-event_is (notes.Event line what) is = (line, what, refl)
+event_is : (body : NoteBody) → IsEventBody body → (line : ℕ) × (what : What) × (body ≡ kinds.Event line what)
+event_is (kinds.Event line what) is = (line, what, refl)
 event_is other is = absurd is
 
 -- one of these put it there
@@ -106,7 +105,7 @@ put_all hs (y ∷ befell) old new (mid, g, at, first, later) x (inr i) there arr
     put_all hs befell mid new later x i there arrives
 
 module _ (s : Scenario) {hs : List Happening} {frontier : List ℕ} {now : ℕ} {befell : List Befell} where
-  wires_told : {wires : List OnWire} (new : List OnWire) → IsTelling hs frontier now befell → IsForward s
+  pub wires_told : {wires : List OnWire} (new : List OnWire) → IsTelling hs frontier now befell → IsForward s
       → AreOnWires s hs frontier now true wires → ArePutBy s hs befell wires new
       → AreOnWires s hs (behind (now ∷ 2 ∷ [])) now false new
   wires_told {wires} new m forward are put = record {
@@ -147,11 +146,11 @@ module _ (s : Scenario) {hs : List Happening} {frontier : List ℕ} {now : ℕ} 
 
   -- ---- ports, and what waits
 
-  ports_told : {ports : List AtPort} → IsTelling hs frontier now befell → AreAtPorts s hs frontier ports
+  pub ports_told : {ports : List AtPort} → IsTelling hs frontier now befell → AreAtPorts s hs frontier ports
       → AreAtPorts s hs (behind (now ∷ 2 ∷ [])) ports
   ports_told m are = search (arith, not_gone_by, goes_on)
 
-  waiting_told : {waiting : List Waiting} → IsTelling hs frontier now befell → AreWaiting s hs frontier now waiting
+  pub waiting_told : {waiting : List Waiting} → IsTelling hs frontier now befell → AreWaiting s hs frontier now waiting
       → AreWaiting s hs (behind (now ∷ 2 ∷ [])) now waiting
   waiting_told m are = record {
     real = are.real;
@@ -232,7 +231,7 @@ module _ {s : Scenario} {hs : List Happening} {now : ℕ} (device : DeviceId) wh
             ∙ on_so s line d founded it is in cc)
       ]
 
-known_told : {s : Scenario} {hs coming : List Happening} {frontier : List ℕ} {now : ℕ} {befell : List Befell}
+pub known_told : {s : Scenario} {hs coming : List Happening} {frontier : List ℕ} {now : ℕ} {befell : List Befell}
     → AreToldOf s hs coming frontier now befell → AreOfNetwork s (hs ++ []) → AreOfNetwork s (hs ++ coming)
 known_told {s} {hs} {coming} {now} m known = record {
   unmoved = λ device le h i. elim (in_parts h hs coming i) [
@@ -316,7 +315,7 @@ module _ {M : Type 0} (stands : M → Network → DeviceId → Node → Type 0) 
 
   -- ---- and each
 
-  held_told : AreToldOf s hs coming frontier now befell → IsHeld stands s hs [] frontier now device machine
+  pub held_told : AreToldOf s hs coming frontier now befell → IsHeld stands s hs [] frontier now device machine
       → IsHeld stands s hs coming (behind (now ∷ 2 ∷ [])) now device machine
   held_told m (inl k) = inl (kept_told m k)
   held_told m (inr k) =
@@ -437,7 +436,7 @@ module _ {w : Happening} {old new : List Happening} (put : IsPutIn w old new) wh
 -- ---- all are put in
 
 module _ (s : Scenario) (hs : List Happening) (now : ℕ) where
-  filled_all : (bodies : List NoteBody) {old : List Happening} (new : List Happening) → IsFilled s hs now old
+  pub filled_all : (bodies : List NoteBody) {old : List Happening} (new : List Happening) → IsFilled s hs now old
       → ((b : NoteBody) → IsIn b bodies → IsOutcome s hs now b) → AreRising bodies
       → ((z : Happening) (b : NoteBody) → IsIn z old → IsIn b bodies → cause_of z.note.body < cause_of b)
       → ArePutIn s.network hs now bodies old new → IsFilled s hs now new
@@ -455,7 +454,7 @@ module _ (s : Scenario) (hs : List Happening) (now : ℕ) where
   all_old [] old new put z i = rw put i
   all_old (b ∷ bodies) old new (mid, put, later) z i = all_old bodies mid new later z (put_old put z i)
 
-  all_new : (bodies : List NoteBody) (old new : List Happening) → ArePutIn s.network hs now bodies old new
+  pub all_new : (bodies : List NoteBody) (old new : List Happening) → ArePutIn s.network hs now bodies old new
       → (b : NoteBody) → IsIn b bodies → IsIn (settled_as s.network hs now b) new
   all_new [] old new put b i = absurd i
   all_new (c ∷ bodies) old new (mid, put, later) b (inl same) =
@@ -463,7 +462,7 @@ module _ (s : Scenario) (hs : List Happening) (now : ℕ) where
       (rw same (put_new put))
   all_new (c ∷ bodies) old new (mid, put, later) b (inr i) = all_new bodies mid new later b i
 
-  all_long : (bodies : List NoteBody) (old new : List Happening) → ArePutIn s.network hs now bodies old new
+  pub all_long : (bodies : List NoteBody) (old new : List Happening) → ArePutIn s.network hs now bodies old new
       → length new ≡ length old + length bodies
   all_long [] old new put = let a = ap length put in omega arith
   all_long (b ∷ bodies) old new (mid, put, later) =
@@ -484,7 +483,7 @@ pub record IsSettling (s : Scenario) (hs : List Happening) (frontier : List ℕ)
   pub run : IsRun place_of (IsDue s) frontier hs
   pub of_now : (p : List ℕ) → IsBefore p (now ∷ []) → IsBefore p frontier
   pub filled : IsFilled s hs now settled
-  pub there : (number line : ℕ) (what : What) (h : Happening) → IsOfThisTime hs now number h → h.note.body ≡ notes.Event line what → (b : NoteBody)
+  pub there : (number line : ℕ) (what : What) (h : Happening) → IsOfThisTime hs now number h → h.note.body ≡ kinds.Event line what → (b : NoteBody)
       → IsIn b (bodies_of s now number what) → IsIn (settled_as s.network hs now b) settled
 
 -- ---- each is due, by an event
@@ -521,7 +520,7 @@ module _ {s : Scenario} {hs : List Happening} {now : ℕ} where
   late_body (IsOutcome.turning d n line h sound it is) = (7, d.0 ∷ n ∷ [], refl, omega arith)
   late_body (IsOutcome.losing d link n it) = (9, d.0 ∷ link.0 ∷ n ∷ [], refl, omega arith)
 
-  not_at_source : {body : NoteBody} → IsOutcome s hs now body → is_at_source body ≡ false
+  pub not_at_source : {body : NoteBody} → IsOutcome s hs now body → is_at_source body ≡ false
   not_at_source (IsOutcome.turning d n line h sound it is) = refl
   not_at_source (IsOutcome.losing d link n it) = refl
 
@@ -540,7 +539,7 @@ behind_two : (now r : ℕ) (more : List ℕ) → 7 ≤ r → IsBefore (behind (n
 behind_two now r more high = inr (refl, inl (omega arith))
 
 -- none of them is before the place behind the events
-not_yet : (s : Scenario) {hs : List Happening} {now : ℕ} {z : Happening} → IsOne s hs now z
+pub not_yet : (s : Scenario) {hs : List Happening} {now : ℕ} {z : Happening} → IsOne s hs now z
     → IsBefore (place_of z) (behind (now ∷ 2 ∷ [])) → ⊥
 not_yet s {hs} {now} {z} it b =
     search (arith, late_place, behind, never_self, chain, behind_two)
@@ -554,12 +553,12 @@ bodies_out s now number what b sound i = rw sound i
 lost_out : (s : Scenario) (now n : ℕ) {device : DeviceId} (link : LinkId) {way : Link} {o : Option Link} → o ≡ Some way
     → device ≡ way.child
     → is_cut s link Up now ≡ true
-    → IsIn (notes.Lost device link n) (option_map_or
-    (λ l. if is_cut s link Up now then notes.Lost l.child link n ∷ [] else []) o [])
+    → IsIn (kinds.Lost device link n) (option_map_or
+    (λ l. if is_cut s link Up now then kinds.Lost l.child link n ∷ [] else []) o [])
 lost_out s now n link there by cut = grind (arith, option_map_or, is_cut)
 
 event_joins : (device : DeviceId) (body : NoteBody) → IsEventBody body → is_joined_by device body ≡ false
-event_joins device (notes.Event line what) is = refl
+event_joins device (kinds.Event line what) is = refl
 event_joins device other is = absurd is
 
 -- a record of the instant among those given and such outcomes is that of an event, or such an outcome
@@ -579,41 +578,41 @@ module _ {s : Scenario} (hs front : List Happening) {frontier : List ℕ} {now :
       → ((z : Happening) → IsIn z front → is_calm z.note.body ≡ true) → amount time ≡ now
       → IsOwnSource s (hs ++ front) (amount time) members body (amount time ∷ 2 ∷ [])
       → IsCaused s (hs ++ front) time body → StandsThere s hs now settled (amount time ∷ rank body ∷ key members body)
-  came ms (notes.State d st n whys.On) m calm at o (looking, sound, (line, h, it, is)) =
+  came ms (kinds.State d st n whys.On) m calm at o (looking, sound, (line, h, it, is)) =
       elim (of_instant front m.telling calm
       (rw at at it)) [
         | inr new ↦ absurd (cc)
         | inl old ↦ (
-          notes.State d Integrating n whys.On,
-          m.there n line (events.On d) h old.0 is (notes.State d Integrating n whys.On)
-              (bodies_out s now n (events.On d) (notes.State d Integrating n whys.On)
+          kinds.State d Integrating n whys.On,
+          m.there n line (events.On d) h old.0 is (kinds.State d Integrating n whys.On)
+              (bodies_out s now n (events.On d) (kinds.State d Integrating n whys.On)
               (ap (is_broken s d) (sym at) ∙ sound) (inl refl)),
           rw (sym at),
         )
       ]
-  came ms (notes.State d st n whys.Frame) m calm at o (joining, (h, it, joins)) =
+  came ms (kinds.State d st n whys.Frame) m calm at o (joining, (h, it, joins)) =
       absurd (elim (of_instant front m.telling calm (rw at at it)) [
         | inr new ↦ (both_ways _ (calm_joins d h.note.body new) joins)
         | inl old ↦ (both_ways _ (event_joins d h.note.body old.1) joins)
       ])
-  came ms (notes.State d st n whys.Correction) m calm at o (first, joining, (cycle, by, adjustment, h, it, is)) =
+  came ms (kinds.State d st n whys.Correction) m calm at o (first, joining, (cycle, by, adjustment, h, it, is)) =
       absurd (elim (of_instant front m.telling calm (rw at at it)) [
         | inr new ↦ (cc)
         | inl old ↦ subst IsEventBody is old.1
       ])
-  came ms (notes.Lost d link n) m calm at (inr (inr (o, lost))) c =
+  came ms (kinds.Lost d link n) m calm at (inr (inr (o, lost))) c =
       elim (of_instant front m.telling calm
       (rw at at lost.is)) [
         | inr new ↦ absurd (cc)
         | inl old ↦ (
-          notes.Lost d link n,
-          m.there n lost.line (events.Send link lost.octets) lost.event old.0 lost.sends (notes.Lost d link n)
+          kinds.Lost d link n,
+          m.there n lost.line (events.Send link lost.octets) lost.event old.0 lost.sends (kinds.Lost d link n)
               (lost_out s now n link lost.there lost.by (ap (is_cut s link Up) (sym at) ∙ lost.cut)),
           rw (sym at),
         )
       ]
-  came ms (notes.Lost d link n) m calm at (inl o) c = absurd (grind arith)
-  came ms (notes.Lost d link n) m calm at (inr (inl o)) c = absurd (grind arith)
+  came ms (kinds.Lost d link n) m calm at (inl o) c = absurd (grind arith)
+  came ms (kinds.Lost d link n) m calm at (inr (inl o)) c = absurd (grind arith)
   came ms other m calm at o c = absurd (grind arith)
 
 -- ---- a record that is due by a source up to there
@@ -700,7 +699,7 @@ turned_there {s} {hs} {frontier} {now} device m on sound =
     let it = on_by_event s device now on in
     let h = recorded s it.0 m.run it.2 (m.befallen.begun it.0 it.1 it.2)
     (m.befallen.told it.0 it.1 it.2) in
-    let body = notes.State device Integrating h.0 whys.On in
+    let body = kinds.State device Integrating h.0 whys.On in
     let here : IsIn body (bodies_of s now h.0 (events.On device)) = rw sound (inl refl) in
     let there = m.there h.0 (it.0 + 1) (events.On device) h.1
     (record { there = h.2; same_time = ap amount h.3 ∙ it.4 }) (h.4 ∙ (rw it.3)) body here in

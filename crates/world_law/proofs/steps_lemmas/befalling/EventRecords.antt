@@ -20,39 +20,38 @@ use Words.{same_before, signal_of, slice_get, state_after, state_with, subst, su
 use Words.{turns_on, up_to, wire_place, ℕ}
 use Rattle.net_plan.specs.declared.event.What.TheVariants as events
 use Rattle.run_law.specs.declared.note.NoteBody.TheVariants as kinds
-use Rattle.run_law.specs.declared.note.NoteBody.TheVariants as notes
 
 -- ---- the record of what comes of an event leaves a device as it was, but for its state
 
 -- is it the record that a device was turned on, or that what was sent met a cut way?
 abbrev pub is_calm : NoteBody → Bool
-is_calm (notes.State device Integrating cause On) = true
-is_calm (notes.Lost device link cause) = true
+is_calm (kinds.State device Integrating cause On) = true
+is_calm (kinds.Lost device link cause) = true
 is_calm other = false
 
 calm_changes : (device : DeviceId) (body : NoteBody) → is_calm body ≡ true → changes_adjustment device body ≡ false
-calm_changes device (notes.State other Integrating cause On) e = refl
-calm_changes device (notes.Lost other link cause) e = refl
+calm_changes device (kinds.State other Integrating cause On) e = refl
+calm_changes device (kinds.Lost other link cause) e = refl
 calm_changes device other e = absurd cc
 
 calm_ends : (device : DeviceId) (body : NoteBody) → is_calm body ≡ true → ends_stretch device body ≡ false
-calm_ends device (notes.State other Integrating cause On) e = refl
-calm_ends device (notes.Lost other link cause) e = refl
+calm_ends device (kinds.State other Integrating cause On) e = refl
+calm_ends device (kinds.Lost other link cause) e = refl
 calm_ends device other e = absurd cc
 
 calm_point : (device : DeviceId) (h : Happening) (body : NoteBody) → is_calm body ≡ true → point_by device h body ≡ None
-calm_point device h (notes.State other Integrating cause On) e = refl
-calm_point device h (notes.Lost other link cause) e = refl
+calm_point device h (kinds.State other Integrating cause On) e = refl
+calm_point device h (kinds.Lost other link cause) e = refl
 calm_point device h other e = absurd cc
 
 calm_hears : (network : Network) (device : DeviceId) (h : Happening) (body : NoteBody) → is_calm body ≡ true → hearing_by network device h body ≡ None
-calm_hears network device h (notes.State other Integrating cause On) e = refl
-calm_hears network device h (notes.Lost other link cause) e = refl
+calm_hears network device h (kinds.State other Integrating cause On) e = refl
+calm_hears network device h (kinds.Lost other link cause) e = refl
 calm_hears network device h other e = absurd cc
 
 pub calm_joins : (device : DeviceId) (body : NoteBody) → is_calm body ≡ true → is_joined_by device body ≡ false
-calm_joins device (notes.State other Integrating cause On) e = refl
-calm_joins device (notes.Lost other link cause) e = refl
+calm_joins device (kinds.State other Integrating cause On) e = refl
+calm_joins device (kinds.Lost other link cause) e = refl
 calm_joins device other e = absurd cc
 
 -- ---- a node
@@ -156,7 +155,7 @@ any_from p (x ∷ xs) e =
 
 -- a record that says so is that of an event
 pub event_due : (s : Scenario) (hs : List Happening) (h : Happening) (line : ℕ) (what : What) → IsFounded place_of (IsDue s) hs → IsIn h hs
-    → h.note.body ≡ notes.Event line what → IsEventRecord s.events h.note.time line what
+    → h.note.body ≡ kinds.Event line what → IsEventRecord s.events h.note.time line what
 event_due s hs h line what founded i is =
     let at = founded_at s hs h founded i in
     subst (λ b. IsCaused s at.front h.note.time b) is at.due.cause
@@ -182,10 +181,10 @@ pub recorded : (s : Scenario) {frontier : List ℕ} {hs : List Happening} (i : �
     → IsRun place_of (IsDue s) frontier hs → slice_get s.events i ≡ Some e
     → pos 0 ≤ℤ e.time.0 → IsBefore (amount e.time ∷ 1 ∷ (i + 1) ∷ []) frontier → (n : ℕ) × (h : Happening)
     × (numbered hs n ≡ Some h) × (h.note.time ≡ e.time)
-    × (h.note.body ≡ notes.Event (i + 1) e.what)
+    × (h.note.body ≡ kinds.Event (i + 1) e.what)
 recorded s {hs} i {e} run get begun told =
     let at = split place_of (IsDue s) hs (amount e.time ∷ 1 ∷ (i + 1) ∷ []) run.founded in
-    let note : Note = record { number = length at.front + 1; time = e.time; body = notes.Event (i + 1) e.what } in
+    let note : Note = record { number = length at.front + 1; time = e.time; body = kinds.Event (i + 1) e.what } in
     let x = happening s.network at.front note in
     let due : IsDue s at.front x = record {
       number = refl;
@@ -320,8 +319,8 @@ put_in_more network hs now (b ∷ bodies) more old mid new (next, one, later) th
 -- this comes of an event of the instant: a sound device is turned on, or what is sent meets a cut way
 pub data IsOutcome (s : Scenario) (hs : List Happening) (now : ℕ) : NoteBody → Type 0 where
   turning : (device : DeviceId) (cause line : ℕ) (h : Happening) → is_broken s device now ≡ false → IsOfThisTime hs now cause h
-      → h.note.body ≡ notes.Event line (events.On device) → IsOutcome s hs now (notes.State device Integrating cause On)
-  losing : (device : DeviceId) (link : LinkId) (cause : ℕ) → IsSendLost s hs device now link cause → IsOutcome s hs now (notes.Lost device link cause)
+      → h.note.body ≡ kinds.Event line (events.On device) → IsOutcome s hs now (kinds.State device Integrating cause On)
+  losing : (device : DeviceId) (link : LinkId) (cause : ℕ) → IsSendLost s hs device now link cause → IsOutcome s hs now (kinds.Lost device link cause)
 
 pub calm_outcome : {s : Scenario} {hs : List Happening} {now : ℕ} {body : NoteBody} → IsOutcome s hs now body
     → is_calm body ≡ true
@@ -332,8 +331,8 @@ calm_outcome (IsOutcome.losing device link cause it) = refl
 
 module _ (s : Scenario) {hs : List Happening} {now number : ℕ} (line : ℕ) where
   turned_body : (device : DeviceId) {h : Happening} (b : NoteBody) (x : Bool) → is_broken s device now ≡ x
-      → IsOfThisTime hs now number h → h.note.body ≡ notes.Event line (events.On device)
-      → IsIn b (if x then [] else notes.State device Integrating number On ∷ [])
+      → IsOfThisTime hs now number h → h.note.body ≡ kinds.Event line (events.On device)
+      → IsIn b (if x then [] else kinds.State device Integrating number On ∷ [])
       → IsOutcome s hs now b × (cause_of b ≡ number)
   turned_body device b true sound it is i = absurd i
   turned_body device {h} b false sound it is (inl same) =
@@ -342,8 +341,8 @@ module _ (s : Scenario) {hs : List Happening} {now number : ℕ} (line : ℕ) wh
 
   cut_body : (link : LinkId) (octets : List ℕ) {way : Link} {h : Happening} (b : NoteBody) (x : Bool)
       → is_cut s link Up now ≡ x → link_at s.network link ≡ Some way → IsOfThisTime hs now number h
-      → h.note.body ≡ notes.Event line (events.Send link octets)
-      → IsIn b (if x then notes.Lost way.child link number ∷ [] else [])
+      → h.note.body ≡ kinds.Event line (events.Send link octets)
+      → IsIn b (if x then kinds.Lost way.child link number ∷ [] else [])
       → IsOutcome s hs now b × (cause_of b ≡ number)
   cut_body link octets b false cut there it is i = absurd i
   cut_body link octets {way} {h} b true cut there it is (inl same) = (
@@ -356,8 +355,8 @@ module _ (s : Scenario) {hs : List Happening} {now number : ℕ} (line : ℕ) wh
 
   lost_body : (link : LinkId) (octets : List ℕ) {h : Happening} (b : NoteBody) (o : Option Link)
       → link_at s.network link ≡ o → IsOfThisTime hs now number h
-      → h.note.body ≡ notes.Event line (events.Send link octets)
-      → IsIn b (option_map_or (λ way. if is_cut s link Up now then notes.Lost way.child link number
+      → h.note.body ≡ kinds.Event line (events.Send link octets)
+      → IsIn b (option_map_or (λ way. if is_cut s link Up now then kinds.Lost way.child link number
       ∷ [] else []) o []) → IsOutcome s hs now b × (cause_of b ≡ number)
   lost_body link octets b None there it is i = absurd i
   lost_body link octets b (Some way) there it is i =
@@ -365,7 +364,7 @@ module _ (s : Scenario) {hs : List Happening} {now number : ℕ} (line : ℕ) wh
 
   -- each is an outcome, and its cause is the event's record
   each_body : (what : What) {h : Happening} (b : NoteBody) → IsOfThisTime hs now number h
-      → h.note.body ≡ notes.Event line what → IsIn b (bodies_of s now number what)
+      → h.note.body ≡ kinds.Event line what → IsIn b (bodies_of s now number what)
       → IsOutcome s hs now b × (cause_of b ≡ number)
   each_body (events.On device) b it is i = turned_body device b (is_broken s device now) refl it is i
   each_body (events.Send link octets) b it is i = lost_body link octets b (link_at s.network link) refl it is i
@@ -381,13 +380,13 @@ few_then false b = omega arith
 
 module _ (s : Scenario) (now number : ℕ) where
   few_lost : (link : LinkId) (o : Option Link) → length
-      (option_map_or (λ way. if is_cut s link Up now then notes.Lost way.child link number
+      (option_map_or (λ way. if is_cut s link Up now then kinds.Lost way.child link number
       ∷ [] else []) o []) ≤ 1
   few_lost link None = omega arith
-  few_lost link (Some way) = few_then (is_cut s link Up now) (notes.Lost way.child link number)
+  few_lost link (Some way) = few_then (is_cut s link Up now) (kinds.Lost way.child link number)
 
   few_bodies : (what : What) → length (bodies_of s now number what) ≤ 1
-  few_bodies (events.On device) = few_if (is_broken s device now) (notes.State device Integrating number On)
+  few_bodies (events.On device) = few_if (is_broken s device now) (kinds.State device Integrating number On)
   few_bodies (events.Send link octets) = few_lost link (link_at s.network link)
   few_bodies other = omega arith
 
@@ -396,7 +395,7 @@ module _ (s : Scenario) (now number : ℕ) where
 -- each of these befell at the instant
 abbrev pub HaveRecords : List Happening → ℕ → List Befell → Type 0
 HaveRecords hs now befell =
-    (e : Befell) → IsIn e befell → (line : ℕ) × (h : Happening) × IsOfThisTime hs now e.number h × (h.note.body ≡ notes.Event line e.what)
+    (e : Befell) → IsIn e befell → (line : ℕ) × (h : Happening) × IsOfThisTime hs now e.number h × (h.note.body ≡ kinds.Event line e.what)
 
 pub all_bodies : (s : Scenario) (hs : List Happening) (now : ℕ) (befell : List Befell) → HaveRecords hs now befell → (b : NoteBody)
     → IsIn b (befell_bodies s now befell) → IsOutcome s hs now b × ((e : Befell) × IsIn e befell × (cause_of b ≡ e.number))

@@ -40,7 +40,7 @@ at_two : (device : DeviceId) (link : LinkId) (cause : ℕ) (is : Arrival) → 2 
 at_two device link cause (arrivals.Dropped reason) = omega arith
 at_two device link cause other = omega arith
 
-low_rank : (b : Bool) → (if b then 12 else 11) ≤ 13
+pub low_rank : (b : Bool) → (if b then 12 else 11) ≤ 13
 low_rank true = omega arith
 low_rank false = omega arith
 
@@ -99,23 +99,23 @@ module _ (network : Network) (device : DeviceId) (link : LinkId) (p : Standpoint
       none_fault frame (frame_fault network device link p frame) vl cycle e
 
 -- what is accepted is so at a switch
-accepted_high : (s : Scenario) (device : DeviceId) (t : ℕ) (link : LinkId) (cause : ℕ) (signal : Signal) (js : List Happening) (vl : VlId) (cycle : ℕ)
+pub accepted_high : (s : Scenario) (device : DeviceId) (t : ℕ) (link : LinkId) (cause : ℕ) (signal : Signal) (js : List Happening) (vl : VlId) (cycle : ℕ)
     → arrival_of s js device t link cause signal ≡ arrivals.Accepted vl cycle → (if is_end s.network device then 12 else 11) ≤ 11
 accepted_high s device t link cause (control frame) js vl cycle e = absurd (none_control s.network device link (standpoint s js device t) frame vl cycle e)
 accepted_high s device t link cause (timed octets) js vl cycle e =
     rw e at (rank_is s device t link cause (timed octets) js)
 
-delivered_high : (network : Network) (device : DeviceId) → (if is_end network device then 12 else 11) ≤ 12
+pub delivered_high : (network : Network) (device : DeviceId) → (if is_end network device then 12 else 11) ≤ 12
 delivered_high network device = grind (arith, is_end)
 
 -- ---- records of the instant do not change where a device stands
 
 module _ (s : Scenario) (hs zs : List Happening) (device : DeviceId) (t : ℕ) where
-  standpoint_still : ((z : Happening) → IsIn z zs → t ≤ time_of z)
+  pub standpoint_still : ((z : Happening) → IsIn z zs → t ≤ time_of z)
       → standpoint s (hs ++ zs) device t ≡ standpoint s hs device t
   standpoint_still late = ap (standpoint_in s device t) (earlier_still t hs zs late)
 
-  control_still : (link : LinkId) (cause : ℕ) (frame : Rattle.std.specs.Prelude.Result Pcf PcfRefusal)
+  pub control_still : (link : LinkId) (cause : ℕ) (frame : Rattle.std.specs.Prelude.Result Pcf PcfRefusal)
       → ((z : Happening) → IsIn z zs → t ≤ time_of z) → arrival_of s (hs ++ zs) device t link cause (control frame)
       ≡ arrival_of s hs device t link cause (control frame)
   control_still link cause frame late =
@@ -164,7 +164,7 @@ module _ {s : Scenario} {hs front back : List Happening} {now : ℕ} {e : OnWire
         placed_at e is w p.one.at p.body ∙ outcome_at f p.wire p.arrives so c,
       )
 
-  arrival_put : AreSettled s hs (front ++ w ∷ back) (now ∷ 2 ∷ e.device.0 ∷ e.link.0 ∷ e.cause ∷ [])
+  pub arrival_put : AreSettled s hs (front ++ w ∷ back) (now ∷ 2 ∷ e.device.0 ∷ e.link.0 ∷ e.cause ∷ [])
       (behind (now ∷ 2 ∷ e.device.0 ∷ e.link.0 ∷ e.cause ∷ [])) now
   arrival_put =
       one_by p.one
@@ -240,7 +240,7 @@ module _ {s : Scenario} {hs coming : List Happening} {now : ℕ} {e : OnWire}
 
 -- ---- a sound device judges it as the records say
 
-kept_judges : {M : Type 0} {stands : M → Network → DeviceId → Node → Type 0} {s : Scenario}
+pub kept_judges : {M : Type 0} {stands : M → Network → DeviceId → Node → Type 0} {s : Scenario}
     {hs coming : List Happening} {now : ℕ} {e : OnWire} {machine : M} (signal : Signal)
     → IsAfterGiven s hs coming now e → (k : IsKept stands s hs coming (now ∷ 2 ∷ e.device.0 ∷ e.link.0 ∷ e.cause ∷ []) now e.device machine)
     → arrival_at s.network e.device k.node (moment_of s e.device now) e.link signal
@@ -274,7 +274,7 @@ at_least_low : (b : Bool) (r : ℕ) → (if b then 12 else 11) ≤ r → 11 ≤ 
 at_least_low true r le = omega arith
 at_least_low false r le = le
 
-abbrev IsApart : DeviceId → NoteBody → Type 0
+abbrev pub IsApart : DeviceId → NoteBody → Type 0
 IsApart device (notes.Accepted other by from vl cycle) = (device.0 == other.0) ≡ false
 IsApart device (notes.Delivered other by from vl cycle) = (device.0 == other.0) ≡ false
 IsApart device other = Unit {0}
@@ -332,7 +332,7 @@ takes_not device other e = λ at. refl
 module _ {s : Scenario} {hs coming : List Happening} {now : ℕ} {e : OnWire}
     (a : IsAfterGiven s hs coming now e) where
   -- so it takes none by what is left
-  no_taking : (z : Happening) → IsIn z coming → (r : ℕ)
+  pub no_taking : (z : Happening) → IsIn z coming → (r : ℕ)
       → (IsBefore (place_of z) (now ∷ r ∷ e.device.0 ∷ e.link.0 ∷ e.cause ∷ []) → ⊥)
       → (if is_end s.network e.device then 12 else 11) ≤ r → IsNoTaking e.device z.note.body
   no_taking z i r none high =
@@ -354,7 +354,7 @@ module _ {s : Scenario} {hs coming : List Happening} {now : ℕ} {e : OnWire}
       ∙ filter-append q (hs ++ f) rest
       ∙ ap (λ l. filter q (hs ++ f) ++ l) gone ∙ append-nil (filter q (hs ++ f)))
 
-  heard_as_all : IsHeardAs s hs coming now e (arrival_of s (hs ++ coming) e.device now e.link e.cause e.signal)
+  pub heard_as_all : IsHeardAs s hs coming now e (arrival_of s (hs ++ coming) e.device now e.link e.cause e.signal)
   heard_as_all f rest r whole none high = by e.signal high
     where
       late_all : (z : Happening) → IsIn z coming → now ≤ time_of z
@@ -554,7 +554,7 @@ plain_there {stands} {s} {hs} {front} {back} {now} e heard {w} quiet at none k i
     (inl (kept_called stands heard arriving on (after_here s now e)))
 
 -- no place behind it, and before what acts, is before the frontier
-not_over : (now d : ℕ) (more : List ℕ) → IsBefore (now ∷ 2 ∷ (d + 1) ∷ []) (now ∷ 2 ∷ d ∷ more) → ⊥
+pub not_over : (now d : ℕ) (more : List ℕ) → IsBefore (now ∷ 2 ∷ (d + 1) ∷ []) (now ∷ 2 ∷ d ∷ more) → ⊥
 not_over now d more (inl lt) = omega arith
 not_over now d more (inr (e, inl lt)) = omega arith
 not_over now d more (inr (e, inr (f, inl lt))) = omega arith

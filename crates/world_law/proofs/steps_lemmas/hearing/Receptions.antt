@@ -31,21 +31,20 @@ use Words.{ℤ}
 use Rattle.run_law.specs.declared.judgement.Reason.TheVariants as reasons
 use Rattle.run_law.specs.declared.judgement.Why.TheVariants as whys
 use Rattle.run_law.specs.declared.note.NoteBody.TheVariants as kinds
-use Rattle.run_law.specs.declared.note.NoteBody.TheVariants as notes
 use Rattle.run_law.specs.declared.steps.Arrival.TheVariants as arrivals
 
 -- ---- what becomes of a frame that arrives: the one record of it: the body of the record
 
-body_cause : (device : DeviceId) (link : LinkId) (cause : ℕ) (is : Arrival) → cause_of (arrival_body device link cause is) ≡ cause
+pub body_cause : (device : DeviceId) (link : LinkId) (cause : ℕ) (is : Arrival) → cause_of (arrival_body device link cause is) ≡ cause
 body_cause device link cause (arrivals.Dropped reason) = refl
 body_cause device link cause other = refl
 
-body_key : (members : ℕ) (device : DeviceId) (link : LinkId) (cause : ℕ) (is : Arrival)
+pub body_key : (members : ℕ) (device : DeviceId) (link : LinkId) (cause : ℕ) (is : Arrival)
     → key members (arrival_body device link cause is) ≡ device.0 ∷ link.0 ∷ cause ∷ []
 body_key members device link cause (arrivals.Dropped reason) = refl
 body_key members device link cause other = refl
 
-body_caused : {s : Scenario} {js : List Happening} (time : Units) {device : DeviceId} {link : LinkId} {cause : ℕ}
+pub body_caused : {s : Scenario} {js : List Happening} (time : Units) {device : DeviceId} {link : LinkId} {cause : ℕ}
     (is : Arrival) → ArrivesAs s js device (amount time) link cause is
     → IsCaused s js time (arrival_body device link cause is)
 body_caused time (arrivals.Dropped reason) a = inl a
@@ -58,7 +57,7 @@ body_caused time (arrivals.PassesAndWaits frame way point) a =
 body_caused time (arrivals.Accepted vl cycle) a = a
 body_caused time (arrivals.Delivered vl cycle) a = a
 
-body_own : {s : Scenario} {js : List Happening} {t : ℕ} (members : ℕ) {device : DeviceId} {link : LinkId}
+pub body_own : {s : Scenario} {js : List Happening} {t : ℕ} (members : ℕ) {device : DeviceId} {link : LinkId}
     {cause : ℕ} (is : Arrival) → ArrivesAs s js device t link cause is
     → IsOwnSource s js t members (arrival_body device link cause is) (t ∷ 2 ∷ device.0 ∷ link.0 ∷ cause ∷ [])
 body_own m (arrivals.Dropped reason) a = inl (refl, a)
@@ -72,7 +71,7 @@ placed_at e is w at body = grind (arith, time_of, rank, key, members_in, arrival
 
 -- ---- it arrives so
 
-few_cause : {s : Scenario} {hs : List Happening} {e : OnWire} → IsOnWire s hs e → e.cause ≤ length hs
+pub few_cause : {s : Scenario} {hs : List Happening} {e : OnWire} → IsOnWire s hs e → e.cause ≤ length hs
 few_cause {hs} {e} it = let lt = numbered_within hs e.cause it.putting it.there in omega arith
 
 -- what becomes of it, given more records
@@ -131,7 +130,7 @@ pub record ComesAs (s : Scenario) (js : List Happening) (now : ℕ) (e : OnWire)
 
 module _ (s : Scenario) (js : List Happening) {now : ℕ} (e : OnWire) {t : ℕ} (members : ℕ) (device : DeviceId)
     (link : LinkId) {cause : ℕ} where
-  comes : (body : NoteBody) {is : Arrival} → now ∷ 2 ∷ e.device.0 ∷ e.link.0 ∷ e.cause ∷ [] ≡ t ∷ 2 ∷ device.0
+  pub comes : (body : NoteBody) {is : Arrival} → now ∷ 2 ∷ e.device.0 ∷ e.link.0 ∷ e.cause ∷ [] ≡ t ∷ 2 ∷ device.0
       ∷ link.0 ∷ cause ∷ [] → ArrivesAs s js device t link cause is
       → rank (arrival_body e.device e.link e.cause is) ≡ rank body
       → device.0 ∷ link.0 ∷ cause ∷ [] ≡ key members body → ComesAs s js now e t members body
@@ -191,11 +190,11 @@ behind_here : {now t r : ℕ} (more : List ℕ) {ws w : List ℕ} → now ≡ t 
     (now ∷ 2 ∷ more) w
 behind_here more e lt is = rw is (inr (e, inl lt))
 
-abbrev first_of : List ℕ → ℕ
+abbrev pub first_of : List ℕ → ℕ
 first_of [] = 0
 first_of (a ∷ more) = a
 
-own_there : (s : Scenario) (js : List Happening) {now : ℕ} (e : OnWire) (is : Arrival) {t : ℕ} (members : ℕ)
+pub own_there : (s : Scenario) (js : List Happening) {now : ℕ} (e : OnWire) (is : Arrival) {t : ℕ} (members : ℕ)
     (body : NoteBody) (w : List ℕ)
     → now ∷ rank (arrival_body e.device e.link e.cause is) ∷ e.device.0 ∷ e.link.0 ∷ e.cause ∷ [] ≡ t ∷ rank body ∷ key members body
     → IsOwnSource s js t members body w → (w ≡ now ∷ 2 ∷ e.device.0 ∷ e.link.0 ∷ e.cause ∷ []) ⊎ IsBefore (now ∷ 2 ∷ e.device.0 ∷ e.link.0 ∷ e.cause ∷ []) w
@@ -377,7 +376,7 @@ same_reading network node moment vl cycle (doing deed) = refl
 
 module _ (s : Scenario) (now : ℕ) {device : DeviceId} {node : Node} (vl : VlId) (cycle : ℕ) where
   -- it is ready at the instant
-  ready_took : IsSteady (s.reading device) (amount s.network.precision) → pos 0 ≤ℤ s.network.precision.0
+  pub ready_took : IsSteady (s.reading device) (amount s.network.precision) → pos 0 ≤ℤ s.network.precision.0
       → IsReadyAt (s.reading device) s.network device node now
       → IsReadyAt (s.reading device) s.network device (took (moment_of s device now) vl cycle node) now
   ready_took steady precise ready =
@@ -401,7 +400,7 @@ module _ (s : Scenario) (now : ℕ) {device : DeviceId} {node : Node} (vl : VlId
       }
 
   -- it has done what it had
-  done_took : {changed high : ℕ} → IsSteady (s.reading device) (amount s.network.precision)
+  pub done_took : {changed high : ℕ} → IsSteady (s.reading device) (amount s.network.precision)
       → HasDoneFrom s.network (s.reading device) device node changed now high
       → HasDoneFrom s.network (s.reading device) device (took (moment_of s device now) vl cycle node) changed now high
   done_took steady has = record {
@@ -414,7 +413,7 @@ module _ (s : Scenario) (now : ℕ) {device : DeviceId} {node : Node} (vl : VlId
   }
 
   -- and sent
-  sent_took : {low high : ℕ} → HasSentFrom s device node low high
+  pub sent_took : {low high : ℕ} → HasSentFrom s device node low high
       → HasSentFrom s device (took (moment_of s device now) vl cycle node) low high
   sent_took has = record {
     unsent = λ sent w x lt. has.unsent sent (was_waiting s.network device node (moment_of s device now) vl cycle w) x
@@ -423,7 +422,7 @@ module _ (s : Scenario) (now : ℕ) {device : DeviceId} {node : Node} (vl : VlId
   }
 
 -- the records leave it so
-left_took : {s : Scenario} {hs : List Happening} {device : DeviceId} {t : ℕ} {node : Node} (moment : Moment)
+pub left_took : {s : Scenario} {hs : List Happening} {device : DeviceId} {t : ℕ} {node : Node} (moment : Moment)
     (vl : VlId) (cycle : ℕ) → IsLeft s hs device t node → IsLeft s hs device t (took moment vl cycle node)
 left_took moment vl cycle left = grind arith
 
@@ -460,7 +459,7 @@ timed_off : (network : Network) (device : DeviceId) (link : LinkId) (p : Standpo
     → timed_arrival network device link p octets last ≡ arrivals.Dropped reasons.Off
 timed_off network device link p octets last e = grind (arith, octets_or_fault, octets_fault, first_off, nat_lt, field, not, is_synchronised)
 
-no_part : (a b : Bool) → b ≡ true → (a && not b) ≡ false
+pub no_part : (a b : Bool) → b ≡ true → (a && not b) ≡ false
 no_part true b e = ap not e
 no_part false b e = refl
 
@@ -484,8 +483,8 @@ out_drops network device node moment link (timed octets) e =
 
 -- did the device take a frame of the virtual link by the record?
 abbrev pub is_taking : DeviceId → VlId → NoteBody → Bool
-is_taking device vl (notes.Accepted other by from of_vl cycle) = device.0 == other.0 && vl.0 == of_vl.0
-is_taking device vl (notes.Delivered other by from of_vl cycle) = device.0 == other.0 && vl.0 == of_vl.0
+is_taking device vl (kinds.Accepted other by from of_vl cycle) = device.0 == other.0 && vl.0 == of_vl.0
+is_taking device vl (kinds.Delivered other by from of_vl cycle) = device.0 == other.0 && vl.0 == of_vl.0
 is_taking device vl other = false
 
 -- ---- by its node
@@ -511,15 +510,15 @@ taking_step device other vl of_vl at o p h is same false c e = same
 last_step : (device : DeviceId) (vl : VlId) (at : ℤ) (o : Option TakenFrame) (p : Option Happening) (h : Happening) (body : NoteBody) → h.note.body ≡ body
     → cycle_of o ≡ cycle_by p
     → cycle_of (last_or o (filter (λ taking. taking.vl.0 == vl.0) (taken_in device at body))) ≡ cycle_by (if is_taking device vl body then Some h else p)
-last_step device vl at o p h (notes.Accepted other by from of_vl cycle) is same =
+last_step device vl at o p h (kinds.Accepted other by from of_vl cycle) is same =
     taking_step device other vl of_vl at o p h (ap taken_cycle is) same (device.0 == other.0) (vl.0 == of_vl.0)
     (flips of_vl.0 vl.0)
-last_step device vl at o p h (notes.Delivered other by from of_vl cycle) is same =
+last_step device vl at o p h (kinds.Delivered other by from of_vl cycle) is same =
     taking_step device other vl of_vl at o p h (ap taken_cycle is) same (device.0 == other.0) (vl.0 == of_vl.0)
     (flips of_vl.0 vl.0)
 last_step device vl at o p h other is same = same
 
-last_by : (device : DeviceId) (vl : VlId) (at : ℕ → ℤ) (hs : List Happening) (o : Option TakenFrame) (p : Option Happening) → cycle_of o ≡ cycle_by p
+pub last_by : (device : DeviceId) (vl : VlId) (at : ℕ → ℤ) (hs : List Happening) (o : Option TakenFrame) (p : Option Happening) → cycle_of o ≡ cycle_by p
     → cycle_of (last_or o (filter (λ taking. taking.vl.0 == vl.0) (taken_by device at hs)))
     ≡ cycle_by (last_or p (filter (λ h. is_taking device vl h.note.body) hs))
 last_by device vl at [] o p same = same
@@ -566,8 +565,8 @@ three false b c so = refl
 
 -- it is earlier, or of the time and by an arrival before this one
 abbrev pub IsSooner : DeviceId → ℕ → LinkId → ℕ → Happening → NoteBody → Type 0
-IsSooner device t link cause h (notes.Accepted other by from of_vl cycle) = device ≡ other → (time_of h < t) ⊎ ((time_of h ≡ t) × IsBefore2 by from link cause)
-IsSooner device t link cause h (notes.Delivered other by from of_vl cycle) = device ≡ other → (time_of h < t) ⊎ ((time_of h ≡ t) × IsBefore2 by from link cause)
+IsSooner device t link cause h (kinds.Accepted other by from of_vl cycle) = device ≡ other → (time_of h < t) ⊎ ((time_of h ≡ t) × IsBefore2 by from link cause)
+IsSooner device t link cause h (kinds.Delivered other by from of_vl cycle) = device ≡ other → (time_of h < t) ⊎ ((time_of h ≡ t) × IsBefore2 by from link cause)
 IsSooner device t link cause h other = Unit {0}
 
 sooner_test : (device other : DeviceId) (t : ℕ) (link : LinkId) (cause : ℕ) (at : ℕ) (by : LinkId) (from : ℕ)
@@ -577,9 +576,9 @@ sooner_test device other t link cause at by from so e = grind (arith, eqb-true, 
 
 pub taking_is : (device : DeviceId) (vl : VlId) (t : ℕ) (link : LinkId) (cause : ℕ) (h : Happening) (body : NoteBody) → IsSooner device t link cause h body
     → is_taking device vl body ≡ is_taken_before device vl t link cause (time_of h) body
-taking_is device vl t link cause h (notes.Accepted other by from of_vl cycle) so =
+taking_is device vl t link cause h (kinds.Accepted other by from of_vl cycle) so =
     search (arith, three, comes_before, sooner_test)
-taking_is device vl t link cause h (notes.Delivered other by from of_vl cycle) so =
+taking_is device vl t link cause h (kinds.Delivered other by from of_vl cycle) so =
     search (arith, three, comes_before, sooner_test)
 taking_is device vl t link cause h other so = refl
 

@@ -56,7 +56,7 @@ under_act now d more = inr (refl, inl (omega arith))
 
 module _ {M : Type 0} {stands : M → Network → DeviceId → Node → Type 0} {s : Scenario} {hs coming : List Happening}
     {now : ℕ} {e : Waiting} {machine : M} (r : IsRipe s hs coming now e) where
-  is_yet : (k : IsKept stands s hs coming (now ∷ 3 ∷ ripe_more e) now e.device machine) → IsYet s hs coming now k.up e
+  pub is_yet : (k : IsKept stands s hs coming (now ∷ 3 ∷ ripe_more e) now e.device machine) → IsYet s hs coming now k.up e
   is_yet k =
       let here = now ∷ 3 ∷ ripe_more e in
       let not_acted : IsBefore (act_place now e.device) here → ⊥ = λ b.
@@ -81,7 +81,7 @@ module _ {M : Type 0} {stands : M → Network → DeviceId → Node → Type 0} 
       }
 
   -- and rests
-  rests_yet : (k : IsKept stands s hs coming (now ∷ 3 ∷ ripe_more e) now e.device machine)
+  pub rests_yet : (k : IsKept stands s hs coming (now ∷ 3 ∷ ripe_more e) now e.device machine)
       → HasRested s e.device k.node (changed_at (hs ++ coming) e.device k.up) k.up
   rests_yet k =
       search (arith, rested, never_self, chain, under_act)
@@ -109,7 +109,7 @@ task_carried (emitting sent) c p =
     elim (c.waiting sent p.1) [ inl old ↦ inl ((sym c.same.broken ∙ p.0, old), refl) | inr later ↦ inr later ]
 task_carried (doing deed) c p = grind (arith, undone_alike, alike_of, value_of)
 
-before_place : (p : List ℕ) (now : ℕ) (more : List ℕ) → IsBefore p (now ∷ 3 ∷ []) → IsBefore p (now ∷ 3 ∷ more)
+pub before_place : (p : List ℕ) (now : ℕ) (more : List ℕ) → IsBefore p (now ∷ 3 ∷ []) → IsBefore p (now ∷ 3 ∷ more)
 before_place [] now more b = tt
 before_place (x ∷ xs) now more (inl lt) = inl lt
 before_place (x ∷ []) now more (inr (e, b)) = inr (e, tt)
@@ -127,7 +127,7 @@ pub record IsNext (s : Scenario) (hs coming coming2 : List Happening) (now up : 
       → HasTurnedOn s hs coming2 frontier device now
   pub frames : frames_taken s (hs ++ coming) device ≡ frames_taken s (hs ++ coming2) device
 
-kept_next : {M : Type 0} {stands : M → Network → DeviceId → Node → Type 0} {s : Scenario}
+pub kept_next : {M : Type 0} {stands : M → Network → DeviceId → Node → Type 0} {s : Scenario}
     {hs coming coming2 : List Happening} {now : ℕ} {e : Waiting} {machine : M} (after : M)
     (new : Node) (r : IsRipe s hs coming now e)
     (k : IsKept stands s hs coming (now ∷ 3 ∷ ripe_more e) now e.device machine)
@@ -229,7 +229,7 @@ kept_next {stands} {s} {hs} {coming} {coming2} {now} {e} {machine} after base r 
 
 -- ---- the frame is dropped, or tells another device something
 
-next_aside : {s : Scenario} (hs front back : List Happening) (now : ℕ) {up : ℕ} {device : DeviceId}
+pub next_aside : {s : Scenario} (hs front back : List Happening) (now : ℕ) {up : ℕ} {device : DeviceId}
     (w : Happening) {new : Node} → Rattle.world_law.specs.device.Own.bears_on device w.note.body ≡ false
     → IsNoTaking device w.note.body → IsLeft s (hs ++ (front ++ back)) device up new
     → IsNext s hs (front ++ back) (front ++ w ∷ back) now up device new
@@ -242,7 +242,7 @@ next_aside {s} hs front back now {up} {device} w {new} misses none left = record
   frames = frames_aside s hs front back w device misses none;
 }
 
-carried_called : (s : Scenario) (e : Waiting) (node : Node) (now : ℕ) → IsCarriedOn s e node (called (moment_of s e.device now) ripening node)
+pub carried_called : (s : Scenario) (e : Waiting) (node : Node) (now : ℕ) → IsCarriedOn s e node (called (moment_of s e.device now) ripening node)
 carried_called s e node now = grind (arith, waiting_alike, called, moment_of, ripening)
 
 -- ---- the frame is collected, or heard
@@ -283,7 +283,7 @@ module _ {s : Scenario} {hs coming : List Happening} {now : ℕ} {e : Waiting} w
   calc_some : IsRipe s hs coming now e → pos 1 ≤ℤ pos (amount s.network.calc)
   calc_some r = grind (arith, natural, ints)
 
-  carried_by_role : (node : Node) (verdict : Judgement) → IsRipe s hs coming now e
+  pub carried_by_role : (node : Node) (verdict : Judgement) → IsRipe s hs coming now e
       → IsByRole (is_cm s.network e.device) verdict → (is_cm s.network e.device ≡ true → (q : Point)
       → IsIn q node.points → q.reading ≤ℤ e.point.0) → IsCarriedOn s e node
       (called (moment_of s e.device now) ripening (after_permanence node (moment_of s e.device now) (channel_of_link
@@ -315,7 +315,7 @@ role_still : (cm : Bool) (device : DeviceId) {body : NoteBody} (link : _) (cause
     × (Rattle.run_law.specs.control.Collections.ends_stretch device body ≡ false)
 role_still cm device link cause point verdict e role = grind (arith, is_joined_by, moves, changes_adjustment)
 
-next_by_role : {M : Type 0} {stands : M → Network → DeviceId → Node → Type 0} {s : Scenario}
+pub next_by_role : {M : Type 0} {stands : M → Network → DeviceId → Node → Type 0} {s : Scenario}
     {hs coming : List Happening} {now : ℕ} {e : Waiting} {machine : M} (w : Happening)
     (verdict : Judgement) (r : IsRipe s hs coming now e)
     (k : IsKept stands s hs coming (now ∷ 3 ∷ ripe_more e) now e.device machine) → Hears s hs e.device now k.node
@@ -459,7 +459,7 @@ looking_of : (b : Bool) (state : State) → Integrating ≡ (if b then Joining e
 looking_of true state e = absurd cc
 looking_of false state e = sym e
 
-was_looking : {s : Scenario} {hs : List Happening} {now : ℕ} (e : Waiting) {node : Node}
+pub was_looking : {s : Scenario} {hs : List Happening} {now : ℕ} (e : Waiting) {node : Node}
     → Hears s hs e.device now node → is_cm s.network e.device ≡ false
     → Rattle.run_law.specs.machines.Answers.IsPermanenceOutcomeAt s.network e.device node e.frame e.point
     ripe.Integrates → state_before s hs e.device now ≡ Integrating
@@ -468,7 +468,7 @@ was_looking e hears other so =
 
 -- ---- it is kept
 
-kept_joined : {M : Type 0} {stands : M → Network → DeviceId → Node → Type 0} {s : Scenario}
+pub kept_joined : {M : Type 0} {stands : M → Network → DeviceId → Node → Type 0} {s : Scenario}
     {hs coming zs : List Happening} {now : ℕ} {e : Waiting} {machine : M} (after : M)
     {w : Happening} (r : IsRipe s hs coming now e)
     (k : IsKept stands s hs coming (now ∷ 3 ∷ ripe_more e) now e.device machine) → stands after s.network e.device

@@ -173,7 +173,7 @@ still_on {s} {hs} front {now} t device run past befallen le inside on sound =
 
 -- ---- what is heard at a time counts as before it, where no frame has told the device the time at it: lists and places
 
-none_of : {X : Type 0} (p : X → Bool) (xs : List X) (x : X) → list_any p xs ≡ false → IsIn x xs → p x ≡ false
+pub none_of : {X : Type 0} (p : X → Bool) (xs : List X) (x : X) → list_any p xs ≡ false → IsIn x xs → p x ≡ false
 none_of p [] x e i = absurd i
 none_of {X} p (y ∷ xs) x e (inl same) = rw same (or_parts (p y) (list_any p xs) e).0
 none_of p (y ∷ xs) x e (inr i) = none_of p xs x (or_parts (p y) (list_any p xs) e).1 i
@@ -182,10 +182,10 @@ none_of p (y ∷ xs) x e (inr i) = none_of p xs x (or_parts (p y) (list_any p xs
 
 module _ (s : Scenario) (hs : List Happening) (device : DeviceId) (t : ℕ)
     (e : has_joined_at hs device t ≡ false) where
-  not_joined : state_at_hearing s hs device t ≡ state_before s hs device t
+  pub not_joined : state_at_hearing s hs device t ≡ state_before s hs device t
   not_joined = rw e
 
-  not_joined_yet : ((h : Happening) → IsIn h hs → time_of h ≤ t)
+  pub not_joined_yet : ((h : Happening) → IsIn h hs → time_of h ≤ t)
       → adjustment_at_hearing s hs device t ≡ adjustment_before s hs device t
   not_joined_yet all =
       grind (arith, adjustment_after, same_kept, nat_lt, time_of, is_joined_by, cases_lt, or_left, lt-ltb, eq-eqb, none_of, or_none)
@@ -193,7 +193,7 @@ module _ (s : Scenario) (hs : List Happening) (device : DeviceId) (t : ℕ)
 role_for : (b : Bool) (P Q R : Type 0) → b ≡ false → MatchBool b P R → MatchBool b Q R
 role_for b P Q R e m = rw e (MatchBool-at_false P R e m)
 
-by_role : (n : Network) (device : DeviceId) (state : State) (adjustment : _) (points others : List Point) (frame : Pcf) (point : _) (is : Ripe)
+pub by_role : (n : Network) (device : DeviceId) (state : State) (adjustment : _) (points others : List Point) (frame : Pcf) (point : _) (is : Ripe)
     → (is_cm n device ≡ true → points ≡ others) → IsPermanenceOutcome n device state adjustment points frame point is
     → IsPermanenceOutcome n device state adjustment others frame point is
 by_role n device state adjustment points others frame point is same so = grind (arith, cases_Bool, is_cm, role_for)
@@ -286,7 +286,7 @@ fold_filter {B} f q z (h ∷ hs) same =
           ∙ sym (rw left))
     ]
 
-adjustment_now : {s : Scenario} {hs coming : List Happening} {now : ℕ} {e : Waiting}
+pub adjustment_now : {s : Scenario} {hs coming : List Happening} {now : ℕ} {e : Waiting}
     → IsRipe s hs coming now e → adjustment_after s (hs ++ coming) e.device
     ≡ adjustment_at_hearing s hs e.device now
 adjustment_now {s} {hs} {coming} {now} {e} r =
@@ -606,7 +606,7 @@ module _ {s : Scenario} {hs coming : List Happening} {now : ℕ} {e : Waiting}
       turning_rank device (kinds.State other Integrating cause whys.On) t = refl
       turning_rank device other t = absurd cc
 
-  state_now : state_after s (hs ++ coming) e.device ≡ state_at_hearing s hs e.device now
+  pub state_now : state_after s (hs ++ coming) e.device ≡ state_at_hearing s hs e.device now
   state_now =
       let r = told.ripe in
       let device = e.device in

@@ -53,7 +53,7 @@ record IsOwnDrop (s : Scenario) (js : List Happening) (t : ℕ) (body : NoteBody
   pub becomes : BecomesPermanent s js device t link cause point (ripe.Dropped reason)
   pub at : here ≡ t ∷ 3 ∷ device.0 ∷ amount point ∷ becomes.frame.members.0 ∷ link.0 ∷ cause ∷ []
 
-rank_at : {now t k : ℕ} {more ws : List ℕ} → now ∷ 3 ∷ more ≡ t ∷ k ∷ ws → 3 ≡ k
+pub rank_at : {now t k : ℕ} {more ws : List ℕ} → now ∷ 3 ∷ more ≡ t ∷ k ∷ ws → 3 ≡ k
 rank_at e = cc
 
 kind_at : (s : Scenario) (js : List Happening) (t m now : ℕ) (body : NoteBody) (more : List ℕ) → IsOwnSource s js t m body (now ∷ 3 ∷ more)
@@ -99,7 +99,7 @@ one_outcome {s} {hs} {coming} f {now} {e} {node} {point} is {other} r hears so a
 module _ {s : Scenario} {hs coming : List Happening} (coming2 : List Happening) {now : ℕ} {e : Waiting}
     {node : Node} where
   -- where it is permanent
-  permanent_all : (w : Happening) (verdict : Judgement) → IsRipe s hs coming now e
+  pub permanent_all : (w : Happening) (verdict : Judgement) → IsRipe s hs coming now e
       → Hears s hs e.device now node → IsPermanenceOutcomeAt s.network e.device node e.frame e.point
       (ripe_as verdict) → ((h : Happening) → IsIn h coming2 → IsBefore (place_of h) (now ∷ 3 ∷ ripe_more e) → ⊥)
       → (z : Happening) → IsIn z coming2 → place_of z ≡ now ∷ 3 ∷ ripe_more e
@@ -122,7 +122,7 @@ module _ {s : Scenario} {hs coming : List Happening} (coming2 : List Happening) 
       ]
 
   -- where it is dropped
-  dropped_all : (reason : Reason) → IsRipe s hs coming now e → Hears s hs e.device now node
+  pub dropped_all : (reason : Reason) → IsRipe s hs coming now e → Hears s hs e.device now node
       → IsPermanenceOutcomeAt s.network e.device node e.frame e.point (ripe.Dropped reason)
       → ((h : Happening) → IsIn h coming2 → IsBefore (place_of h) (now ∷ 3 ∷ ripe_more e) → ⊥) → (z : Happening)
       → IsIn z coming2 → place_of z ≡ now ∷ 13 ∷ e.device.0 ∷ e.link.0 ∷ e.cause ∷ []
@@ -139,13 +139,13 @@ place_drop : {t : ℕ} (m : ℕ) {now d l c : ℕ} (body : NoteBody) → now ∷
 place_drop m (kinds.Dropped device link cause reason) e = (device, link, cause, reason, refl, cc, cc, cc)
 place_drop m other e = absurd (grind arith)
 
-same_place : {s : Scenario} {js : List Happening} {t : ℕ} {device : DeviceId} {link : LinkId} {cause : ℕ} {a b : Pcf}
+pub same_place : {s : Scenario} {js : List Happening} {t : ℕ} {device : DeviceId} {link : LinkId} {cause : ℕ} {a b : Pcf}
     {p q : Units} → IsPermanent s js device t link cause a p → IsPermanent s js device t link cause b q
     → (a ≡ b) × (p ≡ q)
 same_place x y = grind (arith, some_same)
 
 -- a drop at the place of this frame's would come from this very source, which is not worked off
-drop_fresh : {s : Scenario} {hs coming : List Happening} {now : ℕ} {e : Waiting}
+pub drop_fresh : {s : Scenario} {hs coming : List Happening} {now : ℕ} {e : Waiting}
     (r : IsRipe s hs coming now e) (permanent : (f : List Happening)
     → IsPermanent s (hs ++ f) e.device now e.link e.cause e.frame e.point) (y : Happening) → IsIn y coming
     → now ∷ 13 ∷ e.device.0 ∷ e.link.0 ∷ e.cause ∷ [] ≡ place_of y → ⊥
@@ -154,7 +154,7 @@ drop_fresh {s} {hs} {coming} {now} {e} r permanent y i at =
 
 -- ---- a frame that waits is permanent: the source is first
 
-ripening_first : {C M : Type 0} {reading : C → ℕ → ℕ} {stands : M → Network → DeviceId → Node → Type 0}
+pub ripening_first : {C M : Type 0} {reading : C → ℕ → ℕ} {stands : M → Network → DeviceId → Node → Type 0}
     {s : Scenario} {world : World C M} {notes : List Note} (e : Waiting) {old : Stands reading stands s world notes}
     → IsIn e world.waiting → e.point.0 ≤ℤ pos (s.reading e.device world.now)
     → ComesFirst reading stands s world notes old (ripe_place world.now e)
@@ -284,7 +284,7 @@ waits_within s hs e it founded range =
     by_way Down v =
         rw v.is at (in_all (IsLinkInRange s.network) s.network.link e.link.0 v.joint range.links v.there).child
 
-in_network : {s : Scenario} {hs coming : List Happening} {now : ℕ} {e : Waiting}
+pub in_network : {s : Scenario} {hs coming : List Happening} {now : ℕ} {e : Waiting}
     → IsRipe s hs coming now e → e.device.0 < length s.network.device
 in_network {s} {hs} {e} r = waits_within s hs e r.it r.run.founded r.range
 
@@ -298,7 +298,7 @@ frame_is {hs} front {e} r =
     r.it.awaited.of_frame
 
 module _ {s : Scenario} {hs coming : List Happening} {now : ℕ} {e : Waiting} where
-  few_cause : IsRipe s hs coming now e → e.cause ≤ length hs
+  pub few_cause : IsRipe s hs coming now e → e.cause ≤ length hs
   few_cause r = let lt = numbered_within hs e.cause r.it.arrival r.it.there in omega arith
 
   permanent_in : (r : IsRipe s hs coming now e) (f : List Happening)
@@ -323,7 +323,7 @@ role_by false judgements.Integrates kind last = absurd cc
 role_by false judgements.Ignored kind last = tt
 role_by by_cm verdict kind last = absurd kind
 
-last_by : (device : DeviceId) (link : LinkId) (cause : ℕ) (point : Units) (verdict : Judgement)
+pub last_by : (device : DeviceId) (link : LinkId) (cause : ℕ) (point : Units) (verdict : Judgement)
     → is_last (kinds.Permanent (record { 0 = 0 }) (record { 0 = 0 }) 0 (record { 0 = pos 0 }) verdict) ≡ true
     → is_last (kinds.Permanent device link cause point verdict) ≡ true
 last_by device link cause point judgements.Integrates e = absurd cc

@@ -89,7 +89,7 @@ behind_it {X} p xs zs w yes_it none =
     ∙ (rw (behind_yes p xs w yes_it))
 
 -- what is mapped of one more
-maps_one : {X Y : Type 0} (f : X → Option Y) (xs : List X) (x : X) → filter_map f (xs ++ x ∷ []) ≡ filter_map f xs ++ option_to_list (f x)
+pub maps_one : {X Y : Type 0} (f : X → Option Y) (xs : List X) (x : X) → filter_map f (xs ++ x ∷ []) ≡ filter_map f xs ++ option_to_list (f x)
 maps_one {X} {Y} f xs x = grind (arith, filter_map-append, filter_map, cons_option, option_to_list)
 
 -- ---- a record that does not move the device
@@ -208,7 +208,7 @@ IsByRole false judgements.Outside = Unit {0}
 IsByRole false judgements.Ignored = Unit {0}
 IsByRole cm other = ⊥
 
-heard_so : (network : Network) (device : DeviceId) (link : LinkId) (cause : ℕ) (point : Units) (w : Happening) (frame : Pcf) (within : Bool)
+pub heard_so : (network : Network) (device : DeviceId) (link : LinkId) (cause : ℕ) (point : Units) (w : Happening) (frame : Pcf) (within : Bool)
     → w.frame ≡ Some frame → hearings (channel_of_link network link) frame.cycle frame.members point within
     ≡ option_to_list (if device.0 == device.0 then option_map (λ channel. heard_by channel w point within) (channel_of_link network link) else None)
 heard_so network device link cause point w frame within of_frame =

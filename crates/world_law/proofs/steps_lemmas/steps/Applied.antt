@@ -35,7 +35,6 @@ use Rattle.world_law.specs.world.{Outcomes.{also_befell, befallen_node, ends_wor
 use Rattle.world_law.specs.world.{World.{AreInOrder, IsCalledBy, IsFromEnd}}
 use Rattle.net_plan.specs.declared.event.What.TheVariants as events
 use Rattle.run_law.specs.declared.note.NoteBody.TheVariants as kinds
-use Rattle.run_law.specs.declared.note.NoteBody.TheVariants as notes
 
 -- ---- an event befalls before all else of its instant: each device then
 
@@ -80,25 +79,25 @@ node_out on other device node out = refl
 -- ---- records of events bear on no device
 
 module _ (device : DeviceId) where
-  event_moves : (body : NoteBody) → IsEventBody body → moves device body ≡ false
-  event_moves (notes.Event line what) is = refl
+  pub event_moves : (body : NoteBody) → IsEventBody body → moves device body ≡ false
+  event_moves (kinds.Event line what) is = refl
   event_moves other is = absurd is
 
   event_bears : (body : NoteBody) → IsEventBody body → bears_on device body ≡ false
-  event_bears (notes.Event line what) is = refl
+  event_bears (kinds.Event line what) is = refl
   event_bears other is = absurd is
 
   event_takes : (body : NoteBody) → IsEventBody body → IsNoTaking device body
-  event_takes (notes.Event line what) is at = refl
+  event_takes (kinds.Event line what) is at = refl
   event_takes other is at = absurd is
 
   event_state : (old : State) (body : NoteBody) → IsEventBody body → state_with device old body ≡ old
-  event_state old (notes.Event line what) is = refl
+  event_state old (kinds.Event line what) is = refl
   event_state old other is = absurd is
 
 event_adjustment : (s : Scenario) (device : DeviceId) (cycle : ℕ) (old : Units) (body : NoteBody) → IsEventBody body
     → adjustment_with s device cycle old body ≡ old
-event_adjustment s device cycle old (notes.Event line what) is = refl
+event_adjustment s device cycle old (kinds.Event line what) is = refl
 event_adjustment s device cycle old other is = absurd is
 
 -- ---- the records with that of the event
@@ -164,7 +163,7 @@ module _ (network : Network) (device : DeviceId) (node : Node) where
   pub itself : HasNoMore network device node node
   itself = grind arith
 
-  no_deed : (deed : ClockTask) → IsDeedOf network device (node_turned_on node) deed
+  pub no_deed : (deed : ClockTask) → IsDeedOf network device (node_turned_on node) deed
       → IsDeedOf network device node deed
   no_deed (sending cycle) own = absurd (let bad = own.1 in cc)
   no_deed (correcting cycle) own = absurd (let bad = own in cc)
@@ -201,7 +200,7 @@ pub record IsApplying (network : Network) (f g : DeviceId → ℕ → ℕ) (past
   pub reads : (device : DeviceId) (x : ℕ) → x ≤ now → f device x ≡ g device x
   pub early : (p : List ℕ) → IsBefore p frontier → IsBefore p (now ∷ 2 ∷ [])
   pub there : numbered (hs ++ ev ∷ []) number ≡ Some ev
-  pub is : ev.note.body ≡ notes.Event (length past + 1) event.what
+  pub is : ev.note.body ≡ kinds.Event (length past + 1) event.what
 
 never_there : {A : Type 0} (now : ℕ) (frontier : List ℕ)
     → ((p : List ℕ) → IsBefore p frontier → IsBefore p (now ∷ 2 ∷ [])) → IsBefore (now ∷ 2 ∷ []) frontier → A
@@ -345,7 +344,7 @@ module _ {M : Type 0} (stands : M → Network → DeviceId → Node → Type 0) 
 
   -- ---- each device
 
-  held_apply : {device : DeviceId} {machine : M} (after : M)
+  pub held_apply : {device : DeviceId} {machine : M} (after : M)
       → IsApplying network f g past event hs frontier now number ev
       → IsHeld stands (scenario network f past) hs [] frontier now device machine
       → ((node : Node) → stands machine network device node
@@ -594,7 +593,7 @@ no_coming hs (z ∷ coming) s frontier now are early =
 -- ---- the step
 
 -- octets are sent by an end system
-sent_by : (s : Scenario) (hs : List Happening) (now : ℕ) (what : What) (link : LinkId) (octets : List ℕ) → FitsWorld s hs now what
+pub sent_by : (s : Scenario) (hs : List Happening) (now : ℕ) (what : What) (link : LinkId) (octets : List ℕ) → FitsWorld s hs now what
     → what ≡ events.Send link octets → IsFromEnd s.network link
 sent_by s hs now what link octets may is = subst (FitsWorld s hs now) is may
 

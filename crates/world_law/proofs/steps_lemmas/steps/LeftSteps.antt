@@ -21,12 +21,12 @@ use Rattle.run_law.specs.declared.note.NoteBody.TheVariants as kinds
 
 -- ---- what becomes of a frame that leaves: the one record of it: the body of the record
 
-body_idle : (e : AtPort) (is : Departure) → IsIdle (departure_body e is)
+pub body_idle : (e : AtPort) (is : Departure) → IsIdle (departure_body e is)
 body_idle e (leaves clock) = tt
 body_idle e too_old = tt
 body_idle e on_cut_way = tt
 
-body_cause : (e : AtPort) (is : Departure) → cause_of (departure_body e is) ≡ e.cause
+pub body_cause : (e : AtPort) (is : Departure) → cause_of (departure_body e is) ≡ e.cause
 body_cause e (leaves clock) = refl
 body_cause e too_old = refl
 body_cause e on_cut_way = refl
@@ -36,13 +36,13 @@ body_key members e (leaves clock) = refl
 body_key members e too_old = refl
 body_key members e on_cut_way = refl
 
-body_caused : {s : Scenario} {js : List Happening} (time : Units) (e : AtPort) (is : Departure)
+pub body_caused : {s : Scenario} {js : List Happening} (time : Units) (e : AtPort) (is : Departure)
     → Departs s js e.device (amount time) e.link e.cause is → IsCaused s js time (departure_body e is)
 body_caused time e (leaves clock) d = d
 body_caused time e too_old d = inr (inr (d, refl))
 body_caused time e on_cut_way d = inl d
 
-body_own : {s : Scenario} {js : List Happening} {t : ℕ} (members : ℕ) (e : AtPort) (is : Departure)
+pub body_own : {s : Scenario} {js : List Happening} {t : ℕ} (members : ℕ) (e : AtPort) (is : Departure)
     → Departs s js e.device t e.link e.cause is → IsOwnSource s js t members (departure_body e is)
     (t ∷ 8 ∷ e.device.0 ∷ e.link.0 ∷ e.cause ∷ [])
 body_own m e (leaves clock) d = refl
@@ -51,12 +51,12 @@ body_own m e on_cut_way d = inl (refl, d)
 
 -- ---- it departs so
 
-departs_now : {s : Scenario} {hs : List Happening} (zs : List Happening) (now : ℕ) {e : AtPort} → IsAtPort s hs e
+pub departs_now : {s : Scenario} {hs : List Happening} (zs : List Happening) (now : ℕ) {e : AtPort} → IsAtPort s hs e
     → e.at ≡ now → is_broken s e.device now ≡ false → Departs s (hs ++ zs) e.device now e.link e.cause
     (departure_now s e now)
 departs_now zs now it at sound = grind (arith, numbered_within, numbered_prefix, nat_lt, amount, is_cut, way_from)
 
-few_cause : {s : Scenario} {hs : List Happening} {e : AtPort} → IsAtPort s hs e → e.cause ≤ length hs
+pub few_cause : {s : Scenario} {hs : List Happening} {e : AtPort} → IsAtPort s hs e → e.cause ≤ length hs
 few_cause {hs} {e} it = let lt = numbered_within hs e.cause it.giving it.there in omega arith
 
 -- what departs by that record at that place departs so
@@ -89,7 +89,7 @@ ranked r other = other
 
 module _ {s : Scenario} {hs : List Happening} (zs : List Happening) {now : ℕ} {e : AtPort} (m : ℕ)
     (it : IsAtPort s hs e) (at : e.at ≡ now) (sound : is_broken s e.device now ≡ false) (t members : ℕ) where
-  outcome_at : (body : NoteBody) {w : List ℕ} → w ≡ now ∷ 8 ∷ e.device.0 ∷ e.link.0 ∷ e.cause ∷ []
+  pub outcome_at : (body : NoteBody) {w : List ℕ} → w ≡ now ∷ 8 ∷ e.device.0 ∷ e.link.0 ∷ e.cause ∷ []
       → IsOwnSource s (hs ++ zs) t members body w → (time : Units) → amount time ≡ t
       → IsCaused s (hs ++ zs) time body → now ∷ rank (departure_body e (departure_now s e now))
       ∷ key m (departure_body e (departure_now s e now)) ≡ t ∷ rank body ∷ key members body
@@ -113,7 +113,7 @@ module _ {s : Scenario} {hs : List Happening} (zs : List Happening) {now : ℕ} 
 
 module _ (s : Scenario) (js : List Happening) (now t members : ℕ) (e : AtPort) where
   -- where the device is broken, nothing comes from it
-  nothing_of_broken : (body : NoteBody) {w : List ℕ} → is_broken s e.device now ≡ true
+  pub nothing_of_broken : (body : NoteBody) {w : List ℕ} → is_broken s e.device now ≡ true
       → w ≡ now ∷ 8 ∷ e.device.0 ∷ e.link.0 ∷ e.cause ∷ [] → IsOwnSource s js t members body w → (time : Units)
       → amount time ≡ t → IsCaused s js time body → ⊥
   nothing_of_broken (kinds.Left device link cause clock) broken here o time is c = grind (arith, same_port, moved)
@@ -189,7 +189,7 @@ other_kind e too_old k r o = o.2 r
 
 module _ {s : Scenario} {hs : List Happening} (zs : List Happening) (now m : ℕ) {e : AtPort} (is : Departure)
     (it : IsAtPort s hs e) (founded : IsFounded place_of (IsDue s) hs) {t : ℕ} (members : ℕ) where
-  own_there : (body : NoteBody) (w : List ℕ) → ((z : Happening) → Rattle.run_law.specs.records.Order.IsIn z zs
+  pub own_there : (body : NoteBody) (w : List ℕ) → ((z : Happening) → Rattle.run_law.specs.records.Order.IsIn z zs
       → t ≤ time_of z) → now ∷ rank (departure_body e is) ∷ key m (departure_body e is) ≡ t ∷ rank body
       ∷ key members body → IsOwnSource s (hs ++ zs) t members body w
       → w ≡ now ∷ 8 ∷ e.device.0 ∷ e.link.0 ∷ e.cause ∷ []

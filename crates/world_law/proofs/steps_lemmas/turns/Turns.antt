@@ -90,11 +90,11 @@ pub data AreThere (network : Network) (hs : List Happening) (now : ℕ) (at : Li
       → AreThere network hs now at bodies
 
 -- a record that is the only one
-one_there : {network : Network} {hs : List Happening} {now : ℕ} {at : List ℕ} (body : NoteBody)
+pub one_there : {network : Network} {hs : List Happening} {now : ℕ} {at : List ℕ} (body : NoteBody)
     → is_at_source body ≡ true → place_of (settled_as network hs now body) ≡ at → AreThere network hs now at (body ∷ [])
 one_there body own place = AreThere.first body [] own place (λ other i. absurd i)
 
-one_later : {network : Network} {hs : List Happening} {now : ℕ} {at : List ℕ} (body : NoteBody)
+pub one_later : {network : Network} {hs : List Happening} {now : ℕ} {at : List ℕ} (body : NoteBody)
     → is_at_source body ≡ false → AreThere network hs now at (body ∷ [])
 one_later body late = AreThere.later (body ∷ []) (λ other i. elim i [
   | inl e ↦ ap is_at_source e ∙ late
@@ -102,7 +102,7 @@ one_later body late = AreThere.later (body ∷ []) (λ other i. elim i [
 ])
 
 -- two, of which the second stands behind the first
-two_there : {network : Network} {hs : List Happening} {now r : ℕ} {more : List ℕ} (body change : NoteBody)
+pub two_there : {network : Network} {hs : List Happening} {now r : ℕ} {more : List ℕ} (body change : NoteBody)
     → is_at_source body ≡ true → place_of (settled_as network hs now body) ≡ now ∷ r ∷ more → r < rank change
     → AreThere network hs now (now ∷ r ∷ more) (body ∷ change ∷ [])
 two_there {r} body change own place less = AreThere.first body (change ∷ []) own place (λ other i. elim i [
@@ -130,7 +130,7 @@ none_starts [] late = refl
 none_starts (body ∷ bodies) late = late body (inl refl)
 
 -- where the first of them is of a higher rank, none stands where the source does
-high_starts : {network : Network} {hs : List Happening} {now r : ℕ} {rest : List ℕ} {bodies : List NoteBody}
+pub high_starts : {network : Network} {hs : List Happening} {now r : ℕ} {rest : List ℕ} {bodies : List NoteBody}
     → AreThere network hs now (now ∷ r ∷ rest) bodies
     → ((body : NoteBody) (others : List NoteBody) → bodies ≡ body ∷ others → r < rank body)
     → starts_there bodies ≡ false
@@ -219,7 +219,7 @@ turn_by {reading} {stands} {s} {world} {notes} old r {rest} kind {bodies} mid {n
     ])))
 
 -- the turn of a source: its own record is the next once the others are put in, and may be given
-turn_of : {C M : Type 0} {reading : C → ℕ → ℕ} {stands : M → Network → DeviceId → Node → Type 0} {s : Scenario}
+pub turn_of : {C M : Type 0} {reading : C → ℕ → ℕ} {stands : M → Network → DeviceId → Node → Type 0} {s : Scenario}
     {world : World C M} {notes : List Note} (old : Stands reading stands s world notes) (r : ℕ) {rest : List ℕ}
     → IsTurnRank r → {bodies : List NoteBody} (mid : World C M) → mid.settled ≡ world.settled
     → NoneBefore place_of world.settled (world.now ∷ r ∷ rest)

@@ -45,11 +45,11 @@ use Rattle.run_law.specs.declared.note.NoteBody.TheVariants as notes
 
 -- ---- what the numbers in the places of records are bounded by: sums
 
-total : {X : Type 0} → (X → ℕ) → List X → ℕ
+pub total : {X : Type 0} → (X → ℕ) → List X → ℕ
 total w [] = 0
 total w (x ∷ xs) = w x + total w xs
 
-in_total : {X : Type 0} (w : X → ℕ) (xs : List X) (x : X) → IsIn x xs → w x ≤ total w xs
+pub in_total : {X : Type 0} (w : X → ℕ) (xs : List X) (x : X) → IsIn x xs → w x ≤ total w xs
 unfolding total
 in_total w [] x i = absurd i
 in_total w (y ∷ xs) x (inl e) = omega (arith, ap w e)
@@ -59,7 +59,7 @@ pub sum_to : (ℕ → ℕ) → ℕ → ℕ
 sum_to f zero = 0
 sum_to f (suc n) = f n + sum_to f n
 
-in_sum : (f : ℕ → ℕ) (n i : ℕ) → i < n → f i ≤ sum_to f n
+pub in_sum : (f : ℕ → ℕ) (n i : ℕ) → i < n → f i ≤ sum_to f n
 unfolding sum_to
 in_sum f zero i lt = absurd (omega arith)
 in_sum f (suc n) i lt =
@@ -71,17 +71,17 @@ in_sum f (suc n) i lt =
     cases : (a b : ℕ) → (a ≡ b) ⊎ (a < b ⊎ (b < a))
     cases a b = grind arith
 
-reach_most : (n m : ℕ) (a : ℤ) → (pos n -ℤ a) ≤ℤ pos m → n ≤ unsigned_abs (pos m +ℤ a)
+pub reach_most : (n m : ℕ) (a : ℤ) → (pos n -ℤ a) ≤ℤ pos m → n ≤ unsigned_abs (pos m +ℤ a)
 reach_most n m a le = amount_least n (pos m +ℤ a) (omega (arith, ints))
 
 -- ---- causes
 
-part : {X : Type 0} (ms more : List X) (n : ℕ) (x : X) → slice_get (ms ++ more) n ≡ Some x → (IsIn x ms × (n < length ms)) ⊎ IsIn x more
+pub part : {X : Type 0} (ms more : List X) (n : ℕ) (x : X) → slice_get (ms ++ more) n ≡ Some x → (IsIn x ms × (n < length ms)) ⊎ IsIn x more
 part [] more n x e = inr (in_at more n x e)
 part (m ∷ ms) more zero x e = (inl (inl cc, omega arith))
 part (m ∷ ms) more (suc n) x e = grind (arith, (part ms more n x e))
 
-numbered_part : (ms more : List Happening) (n : ℕ) (h : Happening) → numbered (ms ++ more) n ≡ Some h → (IsIn h ms × (n < length ms + 1)) ⊎ IsIn h more
+pub numbered_part : (ms more : List Happening) (n : ℕ) (h : Happening) → numbered (ms ++ more) n ≡ Some h → (IsIn h ms × (n < length ms + 1)) ⊎ IsIn h more
 numbered_part ms more zero h e = absurd cc
 numbered_part ms more (suc n) h e = grind (arith, part)
 
@@ -122,10 +122,10 @@ abbrev pub devices_below : Network → ℕ
 devices_below n = length n.device + total ends n.link + 1
 
 -- what the device's clock shows before the records of the time
-clock_at : Scenario → List Happening → ℕ → ℕ → ℕ
+pub clock_at : Scenario → List Happening → ℕ → ℕ → ℕ
 clock_at s ms t i = unsigned_abs (pos (s.reading (record { 0 = i }) t) +ℤ (adjustment_after s (earlier t ms) (record { 0 = i })).0)
 
-at_clock : (s : Scenario) (ms : List Happening) (t i : ℕ)
+pub at_clock : (s : Scenario) (ms : List Happening) (t i : ℕ)
     → clock_at s ms t i ≡ unsigned_abs (pos (s.reading (record { 0 = i }) t) +ℤ (adjustment_after s (earlier t ms) (record { 0 = i })).0)
 unfolding clock_at
 at_clock s ms t i = refl
@@ -166,7 +166,7 @@ unfolding ends
 end_of Up link device e = omega (arith, ap (λ d. d.0) e)
 end_of Down link device e = omega (arith, ap (λ d. d.0) e)
 
-received : (network : Network) (link : LinkId) (way : Way) (device : DeviceId) → receiver_of network link way ≡ Some device → IsOnLink network device link
+pub received : (network : Network) (link : LinkId) (way : Way) (device : DeviceId) → receiver_of network link way ≡ Some device → IsOnLink network device link
 received network link way device e = by (link_at network link) refl e
   where
     by : (o : Option Link) → slice_get network.link link.0 ≡ o → option_map (target_by way) o ≡ Some device → IsOnLink network device link
@@ -185,7 +185,7 @@ pub record IsGiver (network : Network) (body : NoteBody) (device : DeviceId) (li
   pub link_in : link.0 < length network.link
   pub early : rank body ≤ 5
 
-giver : (network : Network) (body : NoteBody) (device : DeviceId) (link : LinkId) → Gives network body device link → IsGiver network body device link
+pub giver : (network : Network) (body : NoteBody) (device : DeviceId) (link : LinkId) → Gives network body device link → IsGiver network body device link
 giver network (notes.Sent master cycle) device link g =
     record { device_is = rw g.0; link_in = link_within network link _ g.1; early = omega arith }
 giver network (notes.Compressed cm opened at cycle members verdict) device link g =
@@ -193,7 +193,7 @@ giver network (notes.Compressed cm opened at cycle members verdict) device link 
 giver network (notes.Arrived relay by cause clock) device link g = grind (arith, link_within)
 giver network other device link g = absurd g
 
-launch_rank : (s : Scenario) (h : Happening) (t : ℕ) (body : NoteBody) (l : Launch) → launched s h t body ≡ Some l
+pub launch_rank : (s : Scenario) (h : Happening) (t : ℕ) (body : NoteBody) (l : Launch) → launched s h t body ≡ Some l
     → (rank body ≡ 1) ⊎ ((rank body ≡ 8) ⊎ (rank body ≡ 10))
 launch_rank s h t (notes.Left device link cause clock) l e = inr (inl refl)
 launch_rank s h t (notes.TtSent device link cause vl cycle) l e = inr (inr refl)
@@ -213,43 +213,43 @@ unfoldable pub IsTouched : DeviceId → List Happening → Type 0
 IsTouched device hs = (h : Happening) × IsIn h hs × (device_in h.note.body ≡ device.0)
 
 -- a device's state is that of its start, or a record names the device
-touched : (device : DeviceId) (hs : List Happening) (old : State)
+pub touched : (device : DeviceId) (hs : List Happening) (old : State)
     → (fold (λ state h. state_with device state h.note.body) old hs ≡ old) ⊎ IsTouched device hs
 unfolding IsTouched
 touched device [] old = inl refl
 touched device (h ∷ hs) old = grind (arith, step, (touched device hs (state_with device old h.note.body)))
 
-never_off : (on : Bool) (st : State) (n c : ℕ) → point_by_state (if on then Integrating else st) n ≡ Some c → st ≡ Off → ⊥
+pub never_off : (on : Bool) (st : State) (n c : ℕ) → point_by_state (if on then Integrating else st) n ≡ Some c → st ≡ Off → ⊥
 never_off true st n c e off = cc
 never_off false Off n c e off = cc
 never_off false st n c e off = cc
 
 -- a device that begins on is one of the tables
-begins : (network : Network) (device : DeviceId) → (state_at_start (start_of network device) ≡ Off → ⊥) → device.0 < length network.device
+pub begins : (network : Network) (device : DeviceId) → (state_at_start (start_of network device) ≡ Off → ⊥) → device.0 < length network.device
 begins network device on = grind (arith, slice_get, option_and_then, length, slice_get_within)
 
 -- what tells a device the time names it, and comes before masters send
-joined_device : (device : DeviceId) (body : NoteBody) → is_joined_by device body ≡ true → device_in body ≡ device.0
+pub joined_device : (device : DeviceId) (body : NoteBody) → is_joined_by device body ≡ true → device_in body ≡ device.0
 joined_device device (notes.Permanent other link cause point judgements.Integrates) e = sym (eqb-true device.0 other.0 e)
 joined_device device (notes.Compressed other opened at cycle members judgements.Integrates) e = sym (eqb-true device.0 other.0 e)
 joined_device device other e = absurd cc
 
-joined_rank : (device : DeviceId) (body : NoteBody) → is_joined_by device body ≡ true → rank body < 5
+pub joined_rank : (device : DeviceId) (body : NoteBody) → is_joined_by device body ≡ true → rank body < 5
 joined_rank device (notes.Permanent other link cause point judgements.Integrates) e = omega arith
 joined_rank device (notes.Compressed other opened at cycle members judgements.Integrates) e = omega arith
 joined_rank device other e = absurd cc
 
-source_end : (way : Way) (link : Link) (device : DeviceId) → source_by way link ≡ device → device.0 ≤ ends link
+pub source_end : (way : Way) (link : Link) (device : DeviceId) → source_by way link ≡ device → device.0 ≤ ends link
 unfolding ends
 source_end Up link device e = omega (arith, ap (λ d. d.0) e)
 source_end Down link device e = omega (arith, ap (λ d. d.0) e)
 
 -- a compressed frame's own record gives no point
-no_point : (device : DeviceId) (h : Happening) (body : NoteBody) → rank body ≡ 4 → point_by device h body ≡ None
+pub no_point : (device : DeviceId) (h : Happening) (body : NoteBody) → rank body ≡ 4 → point_by device h body ≡ None
 no_point device h (notes.Permanent other link cause point verdict) e = absurd (omega arith)
 no_point device h other e = refl
 
-signs : (z : ℤ) → sign z < 2
+pub signs : (z : ℤ) → sign z < 2
 signs (pos n) = omega arith
 signs (negsuc n) = omega arith
 
@@ -286,7 +286,7 @@ module _ (s : Scenario) (t r : ℕ) (ms more : List Happening) (recent : (x : Ha
       let heavy = in_total (weight s) ms d.giving old.0 in
       (omega (arith, by.device_is), (omega (arith, by.link_in), (omega (arith, old.1), tt)))
 
-  arrives : (device : DeviceId) (link : LinkId) (cause : ℕ) (is : Arrival) → (r ≡ 1 → ⊥) → (r ≡ 8 → ⊥) → (r ≡ 10 → ⊥)
+  pub arrives : (device : DeviceId) (link : LinkId) (cause : ℕ) (is : Arrival) → (r ≡ 1 → ⊥) → (r ≡ 8 → ⊥) → (r ≡ 10 → ⊥)
       → ArrivesAs s (ms ++ more) device t link cause is → IsSized 3 limit (device.0 ∷ link.0 ∷ cause ∷ [])
   unfolding bound
   arrives device link cause is one eight ten a =

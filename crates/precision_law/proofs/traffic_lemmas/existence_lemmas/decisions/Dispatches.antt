@@ -123,7 +123,7 @@ left_decided s hs t ks =
 -- ---- a frame ends at its leaving
 
 module _ (s : Scenario) (hs : List Happening) (device : DeviceId) (t : ℕ) (link : LinkId) (cause : ℕ) where
-  old_decided : IsDecided (Departs s hs device t link cause too_old)
+  pub old_decided : IsDecided (Departs s hs device t link cause too_old)
   old_decided =
       decided_within (departs s hs device t link cause) (λ any. by any.0 any.1) (λ d. (too_old, d))
     where
@@ -132,7 +132,7 @@ module _ (s : Scenario) (hs : List Happening) (device : DeviceId) (t : ℕ) (lin
       by (leaves clock) a = inr (λ d. cc)
       by on_cut_way a = inr (λ d. cc)
 
-  cut_decided : IsDecided (Departs s hs device t link cause on_cut_way)
+  pub cut_decided : IsDecided (Departs s hs device t link cause on_cut_way)
   cut_decided =
       decided_within (departs s hs device t link cause) (λ any. by any.0 any.1) (λ d. (on_cut_way, d))
     where
@@ -243,7 +243,7 @@ module _ (s : Scenario) (hs : List Happening) (device : DeviceId) (t : ℕ) (lin
           decided_by (λ c. (entry, is, c)) (λ h. subst IsDispatched (one_entry s.network place h.0 entry h.1 is) h.2)
           (dispatched entry)
 
-  dispatches_decided : IsDecided (Dispatches s hs device t link cause vl cycle)
+  pub dispatches_decided : IsDecided (Dispatches s hs device t link cause vl cycle)
   dispatches_decided = decided_by there back (decided_below IsRowAt row_at (length s.network.row))
     where
       there : (place : ℕ) × (place < length s.network.row) × IsRowAt place → Dispatches s hs device t link cause vl cycle
@@ -294,7 +294,7 @@ tt_sent_decided s hs t ks =
 abbrev SendsOn : LinkId → NoteBody → Type 0
 SendsOn link body = (line : ℕ) × (octets : List ℕ) × (body ≡ notes.Event line (Send link octets))
 
-sends_on : (link : LinkId) (body : NoteBody) → IsDecided (SendsOn link body)
+pub sends_on : (link : LinkId) (body : NoteBody) → IsDecided (SendsOn link body)
 sends_on link (notes.Event line (Send other octets)) =
     decided_by (λ e. (line, octets, rw e)) (λ h. cc) (same_link other link)
 sends_on link other = inr (λ h. cc)
@@ -358,7 +358,7 @@ module _ (s : Scenario) (hs : List Happening) (device : DeviceId) (t : ℕ) (lin
           → (vl : VlId) × (cycle : ℕ) × Dispatches s hs device t link cause vl cycle × (is_cut s link (way_from s.network device link) t ≡ true)
       there h = (h.0.0, h.0.1, h.0.2, h.1)
 
-abbrev HasLost : Scenario → List Happening → ℕ → ℕ → ℕ → ℕ → Type 0
+abbrev pub HasLost : Scenario → List Happening → ℕ → ℕ → ℕ → ℕ → Type 0
 HasLost s hs t d l cause = IsLost s hs (record { 0 = d }) t (record { 0 = l }) cause
 
 pub lost_decided : (s : Scenario) → 1 ≤ amount s.network.cycle → (hs : List Happening) (t : ℕ) (ks : List ℕ) → IsDecided (HasCaused s hs t 9 ks)

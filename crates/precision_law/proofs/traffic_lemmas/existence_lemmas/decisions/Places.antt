@@ -46,7 +46,7 @@ same_int (negsuc m) (pos n) = inr (λ e. cc)
 parts : (x y : ℕ) (xs ys : List ℕ) → x ∷ xs ≡ y ∷ ys → (x ≡ y) × (xs ≡ ys)
 parts x y xs ys e = (cc, cc)
 
-same_list : (xs ys : List ℕ) → IsDecided (xs ≡ ys)
+pub same_list : (xs ys : List ℕ) → IsDecided (xs ≡ ys)
 same_list [] [] = inl refl
 same_list [] (y ∷ ys) = inr (λ e. cc)
 same_list (x ∷ xs) [] = inr (λ e. cc)
@@ -62,7 +62,7 @@ pub same_vl : (a b : VlId) → IsDecided (a ≡ b)
 same_vl a b = decided_by (λ e. rw e) (λ e. rw e) (decided_same a.0 b.0)
 
 -- the option has a value that equals this one
-same_some_by : {X : Type 0} (o : Option X) (y : X) → ((x : X) → IsDecided (x ≡ y)) → IsDecided (o ≡ Some y)
+pub same_some_by : {X : Type 0} (o : Option X) (y : X) → ((x : X) → IsDecided (x ≡ y)) → IsDecided (o ≡ Some y)
 same_some_by None y each = inr (λ e. cc)
 same_some_by (Some x) y each = decided_by (λ e. ap Some e) (λ e. cc) (each x)
 
@@ -137,7 +137,7 @@ caused s hs t body is = (body, record { caused = is; ranked = refl; keyed = refl
 
 -- ---- from bodies to records, and back
 
-due_there : {s : Scenario} {hs : List Happening} {t r : ℕ} {ks : List ℕ} → HasCaused s hs t r ks
+pub due_there : {s : Scenario} {hs : List Happening} {t r : ℕ} {ks : List ℕ} → HasCaused s hs t r ks
     → HasDue place_of (IsDue s) hs (t ∷ r ∷ ks)
 due_there {s} {hs} {t} {r} has =
     let body = has.0 in
@@ -192,7 +192,7 @@ module _ (s : Scenario) (hs : List Happening) (t r : ℕ) where
   abbrev pub Says : (List ℕ → Type 0) → Type 0
   Says Q = (body : NoteBody) → IsCaused s hs (units_of t) body → rank body ≡ r → Q (key (members_by s hs body) body)
 
-  by_keys : (Q : List ℕ → Type 0) → ((ks : List ℕ) → Q ks → HasCaused s hs t r ks) → Says Q → ((ks : List ℕ) → IsDecided (Q ks))
+  pub by_keys : (Q : List ℕ → Type 0) → ((ks : List ℕ) → Q ks → HasCaused s hs t r ks) → Says Q → ((ks : List ℕ) → IsDecided (Q ks))
       → (ks : List ℕ) → IsDecided (HasCaused s hs t r ks)
   by_keys Q there says decide ks = decided_by (there ks) (λ has. subst Q has.1.keyed (says has.0 has.1.caused has.1.ranked)) (decide ks)
 
@@ -290,7 +290,7 @@ not_yet reading from v (suc n) =
           | inr ne ↦ all x (omega arith) begun
         ]
 
-reach_decided : (reading : ℕ → ℕ) (from v : ℤ) (t : ℕ) → IsDecided (IsReach reading from v (pos t))
+pub reach_decided : (reading : ℕ → ℕ) (from v : ℤ) (t : ℕ) → IsDecided (IsReach reading from v (pos t))
 reach_decided reading from v t =
     decided_by
     (λ h. record { from_on = h.0; reached = h.1.0; not_before = λ x begun lt. h.1.1 x (omega (arith, ints)) begun })
@@ -563,7 +563,7 @@ point_from : Scenario → Happening → DeviceId → ℕ → Units
 point_from s g device clock = record { 0 = point_of (pos (s.reading device (time_of g))) clock s.network.dmax.0 }
 
 -- the device waits for the frame, and its reading is first at least the frame's point
-abbrev IsReady : Scenario → Happening → DeviceId → ℕ → LinkId → ℕ → Type 0
+abbrev pub IsReady : Scenario → Happening → DeviceId → ℕ → LinkId → ℕ → Type 0
 IsReady s g device t link clock =
     (waits_for s.network device link ≡ true)
     × (IsReach (s.reading device) (pos (time_of g)) (point_from s g device clock).0 (pos t) × (is_broken s device t ≡ false))

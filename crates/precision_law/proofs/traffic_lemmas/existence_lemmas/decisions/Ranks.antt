@@ -105,7 +105,7 @@ module _ (s : Scenario) (hs : List Happening) (t d cause : ℕ) where
       (decided_or (decided_and (is_joining (state_before s hs device t)) (cause_decided hs t cause (Corrects device) (λ h. corrects device h.note.body)))
       (decided_or (decided_and (decided_same cause 0) sync_clique) (decided_and (decided_same cause 0) async_clique)))))
 
-state_decided : (s : Scenario) (hs : List Happening) (t : ℕ) (ks : List ℕ) → IsDecided (HasCaused s hs t 7 ks)
+pub state_decided : (s : Scenario) (hs : List Happening) (t : ℕ) (ks : List ℕ) → IsDecided (HasCaused s hs t 7 ks)
 state_decided s hs t ks =
     by_two s hs t 7 (HasState s hs t) (λ d cause h. caused s hs t (notes.State (record { 0 = d }) h.0 cause h.1) h.2) says (new_state s hs t) ks
   where

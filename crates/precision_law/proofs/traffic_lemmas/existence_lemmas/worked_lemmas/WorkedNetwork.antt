@@ -40,10 +40,9 @@ use Schedule.{ComesInTime, EndsInCycle, EntersAnew, EntersOn, GoesByBothChannels
 use Schedule.{HasFewRows, HasPeriod, HasSource, IsSwitch, LeavesOn, StandsApart, VlIdIsNew, VlNameIsNew, leaves}
 use Rattle.schedule_tables.specs.declared.{entry.Entry.Entry}
 use Rattle.schedule_tables.specs.declared.rule.Rule.{Rule}
-use Rattle.schedule_tables.specs.declared.rule.Rule.TheVariants
-use TheVariants.{BothChannels, CompressionMasters, Connections, Correction, Delays, DevicesDiffer, Forwarding, Joints}
-use TheVariants.{Limits, LinksDiffer, LinksOnce, Masters, Periods, Precision, RowsOfDevice, ScheduleStart, Senders}
-use TheVariants.{Settling, Sources, Spacing, Targets, VlIdsDiffer, VlNamesDiffer, WindowEnds}
+use Rattle.schedule_tables.specs.declared.rule.Rule.TheVariants.{BothChannels, CompressionMasters, Connections, Correction, Delays, DevicesDiffer, Forwarding, Joints}
+use Rattle.schedule_tables.specs.declared.rule.Rule.TheVariants.{Limits, LinksDiffer, LinksOnce, Masters, Periods, Precision, RowsOfDevice, ScheduleStart, Senders}
+use Rattle.schedule_tables.specs.declared.rule.Rule.TheVariants.{Settling, Sources, Spacing, Targets, VlIdsDiffer, VlNamesDiffer, WindowEnds}
 use Rattle.tte_units.specs.{Amount.{amount, units_of}}
 use Rattle.tte_units.specs.{declared.{frames.channel.Channel.{Channel, TheVariants.{A, B}}, units.Units.Units}}
 use Rattle.net_plan.specs.declared.event.What.TheVariants as events
@@ -55,13 +54,13 @@ abbrev pub AllAt : {X : Type 0} → (ℕ → X → Type 0) → List X → Type 0
 AllAt {X} P [] = Unit {0}
 AllAt {X} P (x ∷ xs) = P 0 x × AllAt (λ k. P (suc k)) xs
 
-at_place : {X : Type 0} (P : ℕ → X → Type 0) (xs : List X) → AllAt P xs → (k : ℕ) (x : X) → slice_get xs k ≡ Some x → P k x
+pub at_place : {X : Type 0} (P : ℕ → X → Type 0) (xs : List X) → AllAt P xs → (k : ℕ) (x : X) → slice_get xs k ≡ Some x → P k x
 at_place {X} P [] all k x e = absurd (let bad = e in cc)
 at_place {X} P (y ∷ xs) all zero x e = subst (P 0) (same_Some y x e) all.0
 at_place {X} P (y ∷ xs) all (suc k) x e = at_place (λ n. P (suc n)) xs all.1 k x e
 
 -- the same, where the entry at the place has a property
-some_place : {X : Type 0} (P : ℕ → Type 0) (Q : X → Type 0) (xs : List X) → AllAt (λ k x. Q x → P k) xs → (k : ℕ) → IsSomeAnd (slice_get xs k) Q → P k
+pub some_place : {X : Type 0} (P : ℕ → Type 0) (Q : X → Type 0) (xs : List X) → AllAt (λ k x. Q x → P k) xs → (k : ℕ) → IsSomeAnd (slice_get xs k) Q → P k
 some_place {X} P Q [] all k it = absurd it
 some_place {X} P Q (y ∷ xs) all zero it = all.0 it
 some_place {X} P Q (y ∷ xs) all (suc k) it = some_place (λ n. P (suc n)) Q xs all.1 k it
@@ -70,7 +69,7 @@ some_place {X} P Q (y ∷ xs) all (suc k) it = some_place (λ n. P (suc n)) Q xs
 abbrev pub AreNumbered : {X : Type 0} → (X → ℕ) → List X → Type 0
 AreNumbered f xs = AllAt (λ k x. f x ≡ k) xs
 
-numbered_apart : {X : Type 0} (f : X → ℕ) (xs : List X) → AreNumbered f xs → (j k : ℕ) (x y : X) → j < k → slice_get xs j ≡ Some x
+pub numbered_apart : {X : Type 0} (f : X → ℕ) (xs : List X) → AreNumbered f xs → (j k : ℕ) (x y : X) → j < k → slice_get xs j ≡ Some x
     → slice_get xs k ≡ Some y → f y ≡ f x → ⊥
 numbered_apart {X} f xs all j k x y lt at_j at_k same = grind (arith, at_place)
 
@@ -84,7 +83,7 @@ abbrev pub AllEach : {X : Type 0} → (X → Type 0) → List X → Type 0
 AllEach {X} P [] = Unit {0}
 AllEach {X} P (x ∷ xs) = P x × AllEach P xs
 
-all_each : {X : Type 0} (P : X → Type 0) (xs : List X) → AllEach P xs → All P xs
+pub all_each : {X : Type 0} (P : X → Type 0) (xs : List X) → AllEach P xs → All P xs
 all_each {X} P [] all = All-nil P
 all_each {X} P (x ∷ xs) all = All-cons P x xs all.0 (all_each P xs all.1)
 
@@ -104,20 +103,20 @@ the_vl = record {
 only_vl : (P : ℕ → VirtualLink → Type 0) → P 0 the_vl → (place : ℕ) (vl : VirtualLink) → slice_get worked.vl place ≡ Some vl → P place vl
 only_vl P own place vl at = at_place P worked.vl (own, tt) place vl at
 
-one_vl : (k place : ℕ) (earlier vl : VirtualLink) → k < place → slice_get worked.vl place ≡ Some vl → ⊥
+pub one_vl : (k place : ℕ) (earlier vl : VirtualLink) → k < place → slice_get worked.vl place ≡ Some vl → ⊥
 one_vl k place earlier vl lt at = only_vl (λ n v. k < n → ⊥) (λ lt. omega arith) place vl at lt
 
-vl_names_differ : (place : ℕ) → VlNameIsNew worked place
+pub vl_names_differ : (place : ℕ) → VlNameIsNew worked place
 vl_names_differ place k earlier vl lt at_k at = absurd (one_vl k place earlier vl lt at)
 
-vl_ids_differ : (place : ℕ) → VlIdIsNew worked place
+pub vl_ids_differ : (place : ℕ) → VlIdIsNew worked place
 vl_ids_differ place k earlier vl lt at_k at = absurd (one_vl k place earlier vl lt at)
 
-has_period : (place : ℕ) → HasPeriod worked place
+pub has_period : (place : ℕ) → HasPeriod worked place
 has_period place vl at =
     only_vl (λ n v. Contains (1 ∷ 2 ∷ 4 ∷ 8 ∷ 16 ∷ 32 ∷ 64 ∷ []) v.period × (v.phase < v.period)) ((0, leb-true 1 7 refl, refl), leb-true 1 1 refl) place vl at
 
-ends_send : (place : ℕ) → HasEndSystemAsSender worked place
+pub ends_send : (place : ℕ) → HasEndSystemAsSender worked place
 ends_send place vl at = only_vl (λ n v. IsEndSystem worked v.sender) refl place vl at
 
 -- ---- the rows with their virtual link and their links
@@ -165,7 +164,7 @@ is_third = record { row = refl; vl = refl; link = refl }
 is_fourth : IsEntry worked 3 fourth
 is_fourth = record { row = refl; vl = refl; link = refl }
 
-windows_end : (place : ℕ) → EndsInCycle worked place
+pub windows_end : (place : ℕ) → EndsInCycle worked place
 windows_end place entry is = grind (arith, entry_case, leb-true)
 
 -- ---- no two rows by one link
@@ -179,16 +178,16 @@ rows_apart k place earlier row lt at_k at same =
     numbered_apart (λ r. place_of_link r.link.0) worked.row (refl, (refl, (refl, (refl, tt)))) k place earlier row lt at_k at
     (rw same)
 
-links_once : (place : ℕ) → GoesOnceByLink worked place
+pub links_once : (place : ℕ) → GoesOnceByLink worked place
 links_once place k earlier row lt at_k at same_vl same = rows_apart k place earlier row lt at_k at same
 
-rows_stand_apart : (place : ℕ) → StandsApart worked place
+pub rows_stand_apart : (place : ℕ) → StandsApart worked place
 rows_stand_apart place k earlier entry lt is_earlier is same_link same_way coincide =
     absurd (rows_apart k place earlier.row entry.row lt is_earlier.row is.row same_link)
 
 -- ---- where rows come from and go to
 
-has_source : (place : ℕ) → HasSource worked place
+pub has_source : (place : ℕ) → HasSource worked place
 has_source place entry is = grind (arith, entry_case, is_first, is_second)
 
 -- where the rows lead
@@ -226,7 +225,7 @@ client_rows : {k place : ℕ} {earlier entry : Entry} (channel : Channel) → k 
     → IsOnChannel worked channel entry → target_of entry ≢ target_of earlier
 client_rows channel lt is_earlier is ends on_earlier on = grind (arith, entry_case, target_is, not_four, no_both)
 
-enters_anew : (place : ℕ) → EntersAnew worked place
+pub enters_anew : (place : ℕ) → EntersAnew worked place
 enters_anew place = grind (arith, entry_case, switch_target, client_rows)
 
 -- ---- both channels
@@ -247,7 +246,7 @@ end_entered : {place : ℕ} {entry : Entry} (device : DeviceId) → IsEntry work
     → IsEndSystem worked device → device ≡ record { 0 = 4 }
 end_entered device is target ends = grind (arith, entry_case, not_end)
 
-both_channels : (place : ℕ) → GoesByBothChannels worked place
+pub both_channels : (place : ℕ) → GoesByBothChannels worked place
 both_channels place = record {
   leaves = λ vl channel at. only_vl (λ n v. LeavesOn worked (record { 0 = n }) channel v.sender) (leaves_on channel) place vl at;
   enters = λ vl at. only_vl
@@ -272,13 +271,13 @@ window_before : {k place : ℕ} {entering entry : Entry} → IsEntry worked k en
     → window_end worked entering < amount entry.row.offset
 window_before is_entering is other same = grind (arith, entry_case, early_window, leb-true)
 
-comes_in_time : (place : ℕ) → ComesInTime worked place
+pub comes_in_time : (place : ℕ) → ComesInTime worked place
 comes_in_time place = grind (arith, entry_case, leb-true, window_before)
 
 few_of : (n : ℕ) → n ≤ 4 → n ≤ 256
 few_of n few = omega arith
 
-few_rows : (place : ℕ) → HasFewRows worked place
+pub few_rows : (place : ℕ) → HasFewRows worked place
 few_rows place =
     let few = count_by-le-length (leaves worked (record { 0 = place })) worked.row in few_of (count_by (leaves worked (record { 0 = place })) worked.row) few
 
@@ -343,7 +342,7 @@ low_delay : (link : LinkId) → delay_of worked link ≤ 1344798720
 low_delay link = grind (arith, each_at_most, delay_low)
 
 module _ (c : Channel) (device : DeviceId) (links : List LinkId) (path : IsPath worked c device links) where
-  delays_at_most : delay_on worked links ≤ 2 * 1344798720
+  pub delays_at_most : delay_on worked links ≤ 2 * 1344798720
   delays_at_most = sum_at_most (delay_of worked) 1344798720 low_delay links (at_most_two c device links path)
 
   jitters_at_most : jitter_on worked links ≤ 2 * 1310720
@@ -357,12 +356,12 @@ greatest_at_most : (measure : List LinkId → ℕ) (b : ℕ) {m : ℕ}
 greatest_at_most measure b low g = grind arith
 
 -- beta is at most that of two links with the greatest jitter
-low_beta : (beta : ℕ) → IsBeta worked (pos beta) → beta ≤ 3276832
+pub low_beta : (beta : ℕ) → IsBeta worked (pos beta) → beta ≤ 3276832
 low_beta beta b = grind (arith, greatest_at_most, jitters_at_most, length, at_most_two, unsigned_abs)
 
 -- ---- the worked network keeps the rules of its times
 
-delays_fit : (place : ℕ) → DelaysFit worked place
+pub delays_fit : (place : ℕ) → DelaysFit worked place
 delays_fit place beta channel links is_beta of path =
     let low = low_beta beta is_beta in
     let delay = delays_at_most channel (record { 0 = place }) links path in
@@ -371,27 +370,27 @@ delays_fit place beta channel links is_beta of path =
 settles : (beta : ℕ) → beta ≤ 3276832 → 8 * beta + 12 * 26214404 + 40 * 1 ≤ 345000000
 settles beta low = omega arith
 
-errors_settle : ErrorsSettle worked
+pub errors_settle : ErrorsSettle worked
 errors_settle beta is = settles beta (low_beta beta is)
 
 precise : (beta : ℕ) → beta ≤ 3276832 → 345000000 + 16 * beta + 24 * 26214404 + 80 * 1 ≤ 1048576000
 precise beta low = omega arith
 
-precision_fits : PrecisionFits worked
+pub precision_fits : PrecisionFits worked
 precision_fits = record { errors = λ beta is. precise beta (low_beta beta is); calc = leb-true 65536000 1048576000 refl }
 
-correction_fits : CorrectionFits worked
+pub correction_fits : CorrectionFits worked
 correction_fits = leb-true 17104896000 18350080000 refl
 
-begins : 26261585920 ≤ 26542080000
+pub begins : 26261585920 ≤ 26542080000
 begins = leb-true 26261585920 26542080000 refl
 
-schedule_fits : ScheduleFits worked
+pub schedule_fits : ScheduleFits worked
 schedule_fits = grind (arith, begins, all_each, leb-true)
 
 -- ---- the worked network keeps the rules of its shape: limits and names
 
-limits_kept : (part : ℕ) → IsWithinLimits worked part
+pub limits_kept : (part : ℕ) → IsWithinLimits worked part
 limits_kept part = grind (arith, leb-true)
 
 abbrev device_names : List (List ℕ)
@@ -407,7 +406,7 @@ abbrev place_of_mac : ℕ → ℕ
 place_of_mac mac = place_in ((0x11 ∷ []) ∷ (0x12 ∷ []) ∷ (0x13 ∷ []) ∷ (0x14 ∷ []) ∷ (0x15 ∷ []) ∷ (0x21 ∷ []) ∷ (0x22 ∷ []) ∷ (0x23 ∷ []) ∷ (0x24 ∷ []) ∷ [])
     ((mac - 0x020000000000) ∷ [])
 
-devices_differ : (i : ℕ) → DeviceIsNew worked i
+pub devices_differ : (i : ℕ) → DeviceIsNew worked i
 devices_differ i k earlier device lt at_k at_i = (
   λ same. numbered_apart (λ d. place_in device_names d.name) worked.device (refl, (refl, (refl, (refl, (refl, (refl, (refl, (refl, (refl, tt))))))))) k i
       earlier device lt at_k
@@ -417,7 +416,7 @@ devices_differ i k earlier device lt at_k at_i = (
       at_i (ap place_of_mac same),
 )
 
-links_differ : (i : ℕ) → LinkIsNew worked i
+pub links_differ : (i : ℕ) → LinkIsNew worked i
 links_differ i k earlier link lt at_k at_i same =
     numbered_apart (λ l. place_in link_names l.name) worked.link
     (refl, (refl, (refl, (refl, (refl, (refl, (refl, (refl, (refl, (refl, (refl, (refl, tt)))))))))))) k i earlier link lt
@@ -435,7 +434,7 @@ abbrev pub relay_of : Channel → ℕ
 relay_of A = 5
 relay_of B = 7
 
-cm_is : (c : Channel) (n : ℕ) → IsCmOf worked c (record { 0 = n }) → n ≡ cm_of c
+pub cm_is : (c : Channel) (n : ℕ) → IsCmOf worked c (record { 0 = n }) → n ≡ cm_of c
 cm_is A n it = grind (arith, some_place)
 cm_is B n it = grind (arith, some_place)
 
@@ -446,15 +445,15 @@ cm_there : (c : Channel) → IsCmOf worked c (record { 0 = cm_of c })
 cm_there A = (refl, refl)
 cm_there B = (refl, refl)
 
-one_cm : (c : Channel) → ExactlyOne (IsCmOf worked c)
+pub one_cm : (c : Channel) → ExactlyOne (IsCmOf worked c)
 one_cm c = (record { 0 = cm_of c }, cm_there c, λ y has. device_is y (cm_of c) (cm_is c y.0 has))
 
-cms_kept : (part : ℕ) → HasOneCm worked part
+pub cms_kept : (part : ℕ) → HasOneCm worked part
 cms_kept part = record { on_a = λ is. one_cm A; on_b = λ is. one_cm B }
 
 -- ---- links
 
-joins_kept : (i : ℕ) → JoinsChildToSwitch worked i
+pub joins_kept : (i : ℕ) → JoinsChildToSwitch worked i
 joins_kept i link at = grind (arith, at_place)
 
 -- the only uplink of the device on the channel
@@ -605,7 +604,7 @@ leads B n it = some_place (λ k. LeadsToCm worked B (record { 0 = k })) (λ d. (
   ),
 ) n it
 
-connected : (i : ℕ) → IsConnected worked i
+pub connected : (i : ℕ) → IsConnected worked i
 connected i = record { ends = λ is c. one_uplink c i (ends_lead i is c); relays = λ c is. one_child c i (relay_is c i is); paths = λ c is. leads c i is }
 
 -- ---- masters
@@ -613,13 +612,13 @@ connected i = record { ends = λ is c. one_uplink c i (ends_lead i is c); relays
 some_start : IsNone (Some (units_of 0)) → ⊥
 some_start none = cc
 
-no_off_switch : (c : Channel) → HasOffSwitch worked c → ⊥
+pub no_off_switch : (c : Channel) → HasOffSwitch worked c → ⊥
 no_off_switch c off = grind (arith, some_place, some_start)
 
 low : pos 0 ≤ℤ pos 345000000
 low = omega (arith, ints)
 
-masters_kept : (part : ℕ) → MastersSuffice worked part
+pub masters_kept : (part : ℕ) → MastersSuffice worked part
 masters_kept part = grind (arith, leb-true, numbered_apart, all_each, low, no_off_switch)
 
 -- ---- the worked network is accepted
@@ -658,11 +657,11 @@ within low high n least most = grind (arith, leb-true, ints)
 name_of : (text : List ℕ) → nat_le 1 (length text) ≡ true → nat_le (length text) 16 ≡ true → list_all is_name_character text ≡ true → IsNameText text
 name_of text some short plain = record { some = leb-true 1 (length text) some; short = leb-true (length text) 16 short; plain = plain }
 
-device_in : (d : Device) → IsNameText d.name → is_some d.member ≡ is_master d.role → IfSome d.member (λ m. m ≤ 31)
+pub device_in : (d : Device) → IsNameText d.name → is_some d.member ≡ is_master d.role → IfSome d.member (λ m. m ≤ 31)
     → is_some d.channel ≡ not (is_end_system d.role) → d.start ≡ Some (units_of 0) → IsDeviceInRange d
 device_in d name masters member switches start = grind (arith, within)
 
-link_in : {text : List ℕ} (child parent : ℕ) → IsNameText text → nat_le (child + 1) 9 ≡ true
+pub link_in : {text : List ℕ} (child parent : ℕ) → IsNameText text → nat_le (child + 1) 9 ≡ true
     → nat_le (parent + 1) 9 ≡ true → IsLinkInRange worked (link_of text child parent)
 link_in child parent name few_child few_parent = grind (arith, leb-true, within)
 
