@@ -45,7 +45,7 @@ pub cluster-same : {xs : List ℤ} (more : List ℤ) {k : KeptCluster} → IsCou
 cluster-same {xs} more {k} is =
     rw (part-same xs more k.from k.count is.within)
 
-pub clusters-same : (xs more : List ℤ) (ks : List KeptCluster) → AllByRecursion (IsCounted xs) ks
+clusters-same : (xs more : List ℤ) (ks : List KeptCluster) → AllByRecursion (IsCounted xs) ks
     → map (cluster_kept (xs ++ more)) ks ≡ map (cluster_kept xs) ks
 clusters-same xs more [] all = refl
 clusters-same xs more (k ∷ ks) all =
@@ -72,7 +72,7 @@ kept-counted {h} {row} all has =
     (all-take (IsCounted h.counted) row.count (drop row.from h.closed)
     (all-drop (IsCounted h.counted) row.from h.closed (recursion_from_All (IsCounted h.counted) h.closed all))) has.last
 
-pub all-kept : (h : History) (r : Option Row) → All (IsCounted h.counted) h.closed → IfSome r (HasRow h) → AllByRecursion (IsCounted h.counted) (kept_in h r)
+all-kept : (h : History) (r : Option Row) → All (IsCounted h.counted) h.closed → IfSome r (HasRow h) → AllByRecursion (IsCounted h.counted) (kept_in h r)
 all-kept h None all held = tt
 all-kept h (Some row) all held = kept-counted all held
 
@@ -110,7 +110,7 @@ gathers-grown old new grows all g points is =
       are = rw grows.ow (subst (AreClusters old.ow points) (sym same.0) is.are);
     }
 
-pub has-ends : {h : History} {row : Row} → EndsWith h row → HasRow h row
+has-ends : {h : History} {row : Row} → EndsWith h row → HasRow h row
 has-ends ends = grind arith
 
 -- ---- where the clusters of points lie
@@ -121,7 +121,7 @@ AreSpaced [] = Unit {0}
 AreSpaced (c ∷ cs) = (c.opened ≤ℤ c.end) × AllByRecursion (λ d. c.end <ℤ d.opened) cs × AreSpaced cs
 
 -- no cluster opens after a reading that no point is beyond
-pub opened-most : (ow x : ℤ) (ps : List Point) (cs : List Cluster) → pos 0 ≤ℤ ow → AreClusters ow ps cs → AllByRecursion (λ q. q.reading ≤ℤ x) ps
+opened-most : (ow x : ℤ) (ps : List Point) (cs : List Cluster) → pos 0 ≤ℤ ow → AreClusters ow ps cs → AllByRecursion (λ q. q.reading ≤ℤ x) ps
     → AllByRecursion (λ c. c.opened ≤ℤ x) cs
 opened-most ow x [] [] some are all = tt
 opened-most ow x [] (c ∷ cs) some are all = absurd are
@@ -134,7 +134,7 @@ opened-most ow x (o ∷ ps) (c ∷ cs) some are all =
     )
 
 -- each ends two observation windows after it opens, or before
-pub ends-most : (ow : ℤ) (ps : List Point) (cs : List Cluster) → pos 0 ≤ℤ ow → AreClusters ow ps cs
+ends-most : (ow : ℤ) (ps : List Point) (cs : List Cluster) → pos 0 ≤ℤ ow → AreClusters ow ps cs
     → AllByRecursion (λ c. c.end ≤ℤ (c.opened +ℤ (pos 2 *ℤ ow))) cs
 ends-most ow [] [] some are = tt
 ends-most ow [] (c ∷ cs) some are = absurd are
@@ -153,7 +153,7 @@ spaced ow (o ∷ ps) (c ∷ cs) some are =
     (first.1, open_beyond ow c.end (beyond c.end ps) cs are.1 (beyond-all c.end ps), spaced ow (beyond c.end ps) cs some are.1)
 
 -- those before a cluster end before it opens
-pub before-last : (front : List Cluster) (c : Cluster) → AreSpaced (front ++ c ∷ []) → AllByRecursion (λ k. k.end <ℤ c.opened) front
+before-last : (front : List Cluster) (c : Cluster) → AreSpaced (front ++ c ∷ []) → AllByRecursion (λ k. k.end <ℤ c.opened) front
 before-last [] c apart = tt
 before-last (k ∷ ks) c apart = (last ks apart.1, before-last ks c apart.2)
   where
@@ -161,12 +161,12 @@ before-last (k ∷ ks) c apart = (last ks apart.1, before-last ks c apart.2)
     last [] all = all.0
     last (m ∷ ms) all = last ms all.1
 
-pub at-last : {X : Type 0} (P : X → Type 0) (front : List X) (c : X) → AllByRecursion P (front ++ c ∷ []) → P c
+at-last : {X : Type 0} (P : X → Type 0) (front : List X) (c : X) → AllByRecursion P (front ++ c ∷ []) → P c
 at-last P [] c all = all.0
 at-last P (k ∷ ks) c all = at-last P ks c all.1
 
 -- so kept clusters rise
-pub rising : (counted : List ℤ) (ks : List KeptCluster) → AreSpaced (map (cluster_kept counted) ks) → IsRising ks
+rising : (counted : List ℤ) (ks : List KeptCluster) → AreSpaced (map (cluster_kept counted) ks) → IsRising ks
 rising counted [] apart i j c d before at also = grind arith
 rising counted (k ∷ ks) apart zero zero c d before at also = absurd (omega arith)
 rising counted (k ∷ ks) apart zero (suc j) c d before at also =
@@ -228,7 +228,7 @@ pub are-opened : (ow : ℤ) (ps : List Point) (cs : List Cluster) (p : Point) �
 are-opened ow ps cs p some are past is =
     AreClusters-opened ow ps cs p some are (ended ow ps cs p.reading some are past (role_in-opened (open_at cs p.reading) p (sym is)))
 
-pub within : {ow : ℤ} (ps : List Point) (front : List Cluster) {c d : Cluster} {p : Point} → pos 0 ≤ℤ ow
+within : {ow : ℤ} (ps : List Point) (front : List Cluster) {c d : Cluster} {p : Point} → pos 0 ≤ℤ ow
     → AreClusters ow ps (front ++ c ∷ []) → AreBefore ps p.reading → p.reading ≤ℤ c.end → c.end ≤ℤ d.end
     → Takes ow c d p → AreClusters ow (ps ++ p ∷ []) (front ++ d ∷ [])
 within {ow} ps front {c} {d} {p} some are past here longer takes =
@@ -414,7 +414,7 @@ each-from P [] each = tt
 each-from P (x ∷ xs) each = (each 0 x refl, each-from P xs (λ i y at. each (suc i) y at))
 
 -- of each emission, by the clusters that are kept
-pub all-emissions : (h : History) (P : Emitted → Type 0) (ks : List KeptCluster)
+all-emissions : (h : History) (P : Emitted → Type 0) (ks : List KeptCluster)
     → ((i : ℕ) (k : KeptCluster) → slice_get ks i ≡ Some k → P (emitted h.ow h.calc (cluster_kept h.counted k)))
     → All P (map (emitted h.ow h.calc) (map (cluster_kept h.counted) ks))
 all-emissions h P ks each =

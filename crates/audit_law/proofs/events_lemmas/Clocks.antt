@@ -70,7 +70,7 @@ value_found v (c ∷ cs) time (suc k) d within h =
     ))
 
 -- the changes behind that place are the later ones
-pub all_later : {V : Type 0} (changes : List (Setting V)) (time : ℕ) → AllWithin (λ c. time < c.from) changes 0 (length changes)
+all_later : {V : Type 0} (changes : List (Setting V)) (time : ℕ) → AllWithin (λ c. time < c.from) changes 0 (length changes)
     → changes ≡ later_than time changes
 all_later [] time late = refl
 all_later {V} (c ∷ cs) time late =
@@ -385,7 +385,7 @@ rounded_rises : (grain a b : ℕ) → a ≤ b → rounded grain a ≤ rounded gr
 rounded_rises zero a b le = omega arith
 rounded_rises (suc g) a b le = rounded-mono (suc g) a b (omega arith) le
 
-pub reads_on : (clock : Segment) (s t : ℕ) → s ≤ t → segment_reading clock s ≤ segment_reading clock t
+reads_on : (clock : Segment) (s t : ℕ) → s ≤ t → segment_reading clock s ≤ segment_reading clock t
 reads_on clock s t le =
     let more : s - clock.at ≤ t - clock.at = omega arith in
     let gained = mul-le-mul_left (gain clock.rate) more in

@@ -200,7 +200,7 @@ by_send {s} {before} cause due founded some sends (notes.Lost device link from) 
 by_send cause due founded some sends other is c e = absurd e
 
 -- two losses of one event are at one place
-pub same_place : {s : Scenario} {hs : List Happening} {t u : ℕ} {device other : DeviceId} {link by : LinkId}
+same_place : {s : Scenario} {hs : List Happening} {t u : ℕ} {device other : DeviceId} {link by : LinkId}
     {cause from : ℕ} → cause ≡ from → IsSendLost s hs device t link cause → IsSendLost s hs other u by from
     → place_at t 0 (notes.Lost device link cause) ≡ place_at u 0 (notes.Lost other by from)
 same_place causes a b = grind (arith, same_some, numbered, slice_get, time_of, place_at)

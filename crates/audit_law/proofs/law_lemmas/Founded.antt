@@ -616,7 +616,7 @@ told s {hs} cause {x} h some (notes.State device state from why) is c e =
 told s cause h some other is c e = absurd e
 
 -- two such records have one place
-pub same_place : {hs : List Happening} {cause : ℕ} {x y : Happening} → IsTold hs cause x → IsTold hs cause y
+same_place : {hs : List Happening} {cause : ℕ} {x y : Happening} → IsTold hs cause x → IsTold hs cause y
     → place_of x ≡ place_of y
 same_place a b = grind (arith, same_some, numbered, time_of, place_at, members_in)
 

@@ -58,10 +58,10 @@ up_by : {s : Scenario} {gs : List Happening} (hs : List Happening) {device : Dev
 up_by hs same h = grind (arith, is_turned_on_at, state_after)
 
 module _ (s : Scenario) (gs hs : List Happening) (device : DeviceId) (t : ℕ) where
-  pub sends_by : {cycle : ℕ} → earlier t gs ≡ earlier t hs → Sends s gs device t cycle → Sends s hs device t cycle
+  sends_by : {cycle : ℕ} → earlier t gs ≡ earlier t hs → Sends s gs device t cycle → Sends s hs device t cycle
   sends_by same h = grind (arith, up_by, reaches_by, amount)
 
-  pub dispatches_by : {link : LinkId} {cause : ℕ} {vl : VlId} {cycle : ℕ} → earlier t gs ≡ earlier t hs
+  dispatches_by : {link : LinkId} {cause : ℕ} {vl : VlId} {cycle : ℕ} → earlier t gs ≡ earlier t hs
       → Dispatches s gs device t link cause vl cycle → Dispatches s hs device t link cause vl cycle
   dispatches_by same h = grind (arith, up_by, reaches_by, amount, at_hand_by)
 
@@ -107,7 +107,7 @@ sending_law s hs until founded = record {
 -- ---- dispatches
 
 -- the record of a dispatch does not show the members of a frame
-pub record_place : (t m : ℕ) (o : Dispatch) (cut : Bool) → place_at t m (dispatch_record o cut) ≡ place_at t 0 (dispatch_record o cut)
+record_place : (t m : ℕ) (o : Dispatch) (cut : Bool) → place_at t m (dispatch_record o cut) ≡ place_at t 0 (dispatch_record o cut)
 record_place t m o true = refl
 record_place t m o false = refl
 
@@ -483,7 +483,7 @@ pub same_time : (x y : Happening) → place_of x ≡ place_of y → time_of x �
 same_time x y same = ap first_of same
 
 -- a debt falls due at one time, however it is owed
-pub one_time : (s : Scenario) (hs : List Happening) (until : ℕ) → IsFounded place_of (IsDue s) hs → (o : Debt)
+one_time : (s : Scenario) (hs : List Happening) (until : ℕ) → IsFounded place_of (IsDue s) hs → (o : Debt)
     (a b : IsOwed s hs until o) → falls_due s hs until o a ≡ falls_due s hs until o b
 one_time s hs until founded o a b =
     let x = is_payable s hs until founded o a in

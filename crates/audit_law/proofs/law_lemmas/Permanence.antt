@@ -94,7 +94,7 @@ abbrev permanent_place : ℕ → DeviceId → LinkId → ℕ → Pcf → Units �
 permanent_place t device link cause frame point = place_at t frame.members.0 (notes.Permanent device link cause point judgements.Ignored)
 
 -- the place of the record of what became of the frame
-abbrev pub record_place : ℕ → DeviceId → LinkId → ℕ → Pcf → Units → Ripe → List ℕ
+abbrev record_place : ℕ → DeviceId → LinkId → ℕ → Pcf → Units → Ripe → List ℕ
 record_place t device link cause frame point is = place_at t frame.members.0 (permanence_record device link cause point is)
 
 -- which is not before that
@@ -327,7 +327,7 @@ module _ (s : Scenario) (hs : List Happening) (t u : ℕ) (device other : Device
       }
 
   -- what became of the frames is one
-  pub same_place : {from : ℕ} {p q : Units} {a b : Ripe} → cause ≡ from
+  same_place : {from : ℕ} {p q : Units} {a b : Ripe} → cause ≡ from
       → (x : BecomesPermanent s hs device t link cause p a) (y : BecomesPermanent s hs other u by from q b)
       → record_place t device link cause x.frame p a ≡ record_place u other by from y.frame q b
   same_place {p} {q} {a} {b} causes x y =

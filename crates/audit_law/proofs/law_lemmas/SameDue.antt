@@ -42,7 +42,7 @@ use Rattle.run_law.specs.runs.DueRecords as runs
 
 -- ---- a record that does not change the adjustment
 
-pub not_joined : (device : DeviceId) (body : NoteBody) → changes_adjustment device body ≡ false → is_joined_by device body ≡ false
+not_joined : (device : DeviceId) (body : NoteBody) → changes_adjustment device body ≡ false → is_joined_by device body ≡ false
 not_joined device (notes.Corrected other cycle by adjustment) e = refl
 not_joined device body e = e
 
@@ -68,13 +68,13 @@ state_or : (b : Bool) (state old : State) → (b ≡ true → state ≡ Integrat
 state_or true state old says = inr (says refl)
 state_or false state old says = inl refl
 
-pub calm : (device : DeviceId) (body : NoteBody) → changes_adjustment device body ≡ false → SaysIntegrating device body → IsCalm device body
+calm : (device : DeviceId) (body : NoteBody) → changes_adjustment device body ≡ false → SaysIntegrating device body → IsCalm device body
 calm device (notes.State other state cause why) e says old = state_or (device.0 == other.0) state old (λ b. says (eqb-true device.0 other.0 b))
 calm device (notes.Corrected other cycle by adjustment) e says old = inl refl
 calm device body e says old = inl (ap (λ b. if b then Joining else old) (not_joined device body e))
 
 -- a change of state that no change of the adjustment brings is to integrating
-pub leaves : (s : Scenario) (front : List Happening) (device : DeviceId) (t : ℕ) (state : State) (cause : ℕ) (why : Why)
+leaves : (s : Scenario) (front : List Happening) (device : DeviceId) (t : ℕ) (state : State) (cause : ℕ) (why : Why)
     → ((h : Happening) → numbered front cause ≡ Some h → time_of h ≡ t → changes_adjustment device h.note.body ≡ false)
     → ChangesState s front device t state cause why → state ≡ Integrating
 leaves s front device t state cause whys.On quiet c = c.0
@@ -93,13 +93,13 @@ after device old h = state_with device old h.note.body
 from_integrating : (device : DeviceId) (h : Happening) → IsCalm device h.note.body → after device Integrating h ≡ Integrating
 from_integrating device h is = elim (is Integrating) [ inl same ↦ same | inr same ↦ same ]
 
-pub stays_integrating : (device : DeviceId) (ys : List Happening) → ((h : Happening) → IsIn h ys → IsCalm device h.note.body)
+stays_integrating : (device : DeviceId) (ys : List Happening) → ((h : Happening) → IsIn h ys → IsCalm device h.note.body)
     → fold (after device) Integrating ys ≡ Integrating
 stays_integrating device [] each = refl
 stays_integrating device (y ∷ ys) each =
     rw (from_integrating device y (each y (inl refl))) (stays_integrating device ys (λ h i. each h (inr i)))
 
-pub stays_or_leaves : (device : DeviceId) (old : State) (ys : List Happening) → ((h : Happening) → IsIn h ys → IsCalm device h.note.body)
+stays_or_leaves : (device : DeviceId) (old : State) (ys : List Happening) → ((h : Happening) → IsIn h ys → IsCalm device h.note.body)
     → (fold (after device) old ys ≡ old) ⊎ (fold (after device) old ys ≡ Integrating)
 stays_or_leaves device old [] each = inl refl
 stays_or_leaves device old (y ∷ ys) each = grind (arith, fold, stays_integrating, (stays_or_leaves device old ys (λ h i. each h (inr i))))
@@ -572,7 +572,7 @@ module _ (s : Scenario) (clocked : IsClocked s) (gs : List Happening) (device : 
           omega arith
 
   -- so it has come to one point where a joiner has cleared, and else to none
-  pub counts : (by : ℕ) → by ≤ until + 1 → come by ≡ (if is_integration_cycle gs device && has_come by then 1 else 0)
+  counts : (by : ℕ) → by ≤ until + 1 → come by ≡ (if is_integration_cycle gs device && has_come by then 1 else 0)
   counts by le = elim (cases_Bool (has_come by)) [
     | inr none ↦
         let not_cleared = and_right (is_integration_cycle gs device) (has_come by) none in
@@ -591,7 +591,7 @@ module _ (s : Scenario) (clocked : IsClocked s) (gs : List Happening) (device : 
   ]
 
 -- before the first time no clock has come to a point
-pub none_at_start : {s : Scenario} (clocked : IsClocked s) (gs : List Happening) (device : DeviceId) (by : ℕ)
+none_at_start : {s : Scenario} (clocked : IsClocked s) (gs : List Happening) (device : DeviceId) (by : ℕ)
     → by ≤ 0 → (first : ℤ) →
     (int_lt (pos (s.reading device (last_changed gs device)) +ℤ (adjustment_after s gs device).0) first && int_le
     first (pos (s.reading device (by - 1)) +ℤ (adjustment_after s gs device).0)) ≡ false
@@ -761,7 +761,7 @@ module _ {s : Scenario} (clocked : IsClocked s) (ps : List Happening) (time : Un
   to_audit body c = caused_in_audit s ps time body tt c
 
 -- behind a run, what is due in one is due in the other
-pub same_due : {s : Scenario} (clocked : IsClocked s) (ps : List Happening) (x : Happening)
+same_due : {s : Scenario} (clocked : IsClocked s) (ps : List Happening) (x : Happening)
     → IsRun place_of (IsDue s) (time_of x ∷ []) (earlier (time_of x) ps)
     → ((h : Happening) → IsIn h ps → time_of h ≤ time_of x)
     → (IsDue s ps x → runs.IsDue s ps x) × (runs.IsDue s ps x → IsDue s ps x)
