@@ -204,7 +204,7 @@ sound_switches_begin_on v device is switch =
 -- the first cut of some events
 data FirstCut (es : List Event) : Type 0 where
   uncut : ((link : LinkId) → Any (Cuts link) es → ⊥) → FirstCut es
-  pub cut_at : (before behind : List Event) (e : Event) (link : LinkId) → es ≡ before ++ e ∷ behind → Cuts link e → ((l : LinkId) → Any (Cuts l) before → ⊥)
+  cut_at : (before behind : List Event) (e : Event) (link : LinkId) → es ≡ before ++ e ∷ behind → Cuts link e → ((l : LinkId) → Any (Cuts l) before → ⊥)
       → FirstCut es
 
 not_cut : (e : Event) {es : List Event} → ((link : LinkId) → Cuts link e → ⊥) → FirstCut es → FirstCut (e ∷ es)

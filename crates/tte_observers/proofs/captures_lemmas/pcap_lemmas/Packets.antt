@@ -67,7 +67,7 @@ at_packet head file at stamp small whole =
 -- what stands at a place
 data Finding (head : CaptureHead) (file : List ℕ) (at : ℕ) : Type 0 where
   ended : at ≡ length file → packet_at head file at ≡ Ok None → Finding head file at
-  pub found : (p : Packet) → IsPacket head file at p → packet_at head file at ≡ Ok (Some p) → Finding head file at
+  found : (p : Packet) → IsPacket head file at p → packet_at head file at ≡ Ok (Some p) → Finding head file at
   refused : (e : CaptureRefusal) → HasPacketFault head file at e → packet_at head file at ≡ Err e → Finding head file at
 
 module _ (head : CaptureHead) (file : List ℕ) where
