@@ -85,7 +85,7 @@ module _ (network : Network) (now : ℕ) where
   all_before (suc (suc at)) (x ∷ (y ∷ old)) z order le behind h (inr rest) =
       all_before (suc at) (y ∷ old) z order.1 (omega arith) (λ k d e. behind (suc k) d (omega arith)) h rest
 
-  pub none_before : (at : ℕ) (old : List Settled) (z : Settled)
+  none_before : (at : ℕ) (old : List Settled) (z : Settled)
       → ((k : ℕ) (d : Settled) → at ≤ k → k < length old → IsBefore (own_place (get_or old k d)) (own_place z) → ⊥)
       → NoneBefore place_of (map shown (drop at old)) (place_of (shown z))
   none_before zero [] z none h there before = absurd there

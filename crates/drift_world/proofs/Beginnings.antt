@@ -53,7 +53,7 @@ last_more d [] (Some v) init = refl
 last_more d (z ∷ zs) o init = last_more (Some z) zs o init
 
 module _ (network : Network) (f g : DeviceId → ℕ → ℕ) (past : List Event) (event : Event) {now : ℕ} (at : amount event.time ≡ now) where
-  pub set_more : {V : Type 0} (setting : What → Option V) (init : V)
+  set_more : {V : Type 0} (setting : What → Option V) (init : V)
       → last_set (scenario network g (past ++ event ∷ [])) setting init now ≡ unwrap_or (setting event.what)
       (last_set (scenario network f past) setting init now)
   set_more setting init =

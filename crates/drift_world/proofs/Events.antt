@@ -40,7 +40,7 @@ abbrev IsSome1 : Option ℕ → Type 0
 IsSome1 None = Unit {0}
 IsSome1 (Some n) = 1 ≤ n
 
-pub wire_is : (network : Network) (link other : LinkId) {l : Link} (way turned : Way) (delay : Units) (before : List Event) (event : Event)
+wire_is : (network : Network) (link other : LinkId) {l : Link} (way turned : Way) (delay : Units) (before : List Event) (event : Event)
     → link_at network link ≡ Some l → pos 1 ≤ℤ l.wire.0 → IsWithinHypothesis network before event → event.what ≡ events.Wire other turned delay
     → (b : Bool) → is_way_of link way other turned ≡ b → IsSome1 (if b then Some (amount delay) else None)
 wire_is network link other way turned delay before event there least within what false e = tt
@@ -233,7 +233,7 @@ on_has_outcome device rest on = absurd (both_ways false refl on)
 module _ {C M : Type 0} (reading : C → ℕ → ℕ) (stands : Meaning M) (s : Scenario) (world : World C M)
     (notes : List Note) (old : Stands reading stands s world notes) (early : world.early ≡ true)
     (begun : (e : Event) → IsIn e s.events → pos 0 ≤ℤ e.time.0) (device : DeviceId) where
-  pub hs : List Happening
+  hs : List Happening
   hs = happenings s.network notes
 
   -- what befell at this instant was an event
@@ -261,7 +261,7 @@ module _ {C M : Type 0} (reading : C → ℕ → ℕ) (stands : Meaning M) (s : 
       ]
 
   -- an event of this instant has its record
-  pub record IsTold (i : ℕ) (e : Event) : Type 0 where
+  record IsTold (i : ℕ) (e : Event) : Type 0 where
     pub number : ℕ
     pub h : Happening
     pub this : IsOfThisTime hs world.now number h

@@ -193,7 +193,7 @@ module _ {C M : Type 0} {last_step : C → ℕ} {reading : C → ℕ → ℕ} {s
       (subst (λ l. IsBefore l (act ∷ part_rank part ∷ device.0 ∷ [])) q.1 b)
 
   -- nor is it before the place
-  pub acts_by : (due : Option SlotTimer) → IfSome due (λ d. IsFirstDue state.timers d) → IfNone due (AreFrom never state.timers)
+  acts_by : (due : Option SlotTimer) → IfSome due (λ d. IsFirstDue state.timers d) → IfNone due (AreFrom never state.timers)
       → IfSome due (λ d. (IsBefore (due_place (length network.device) d) p → ⊥) ⊎ IsRipePlace reading network state d p)
       → {device : DeviceId} (node : Node) (task : Task) (t : ℕ) → state.time ≤ t → t ≤ 2 ^ 60
       → (timed : IsActTimed reading stands network state.timers state device) → keeps stands timed.machine network device node

@@ -43,7 +43,7 @@ pub record IsOnWire (network : Network) (number : ℕ) (e : Entry Content) : Typ
   pub cause : e.place.cause ≡ number
 
 module _ {network : Network} (ups downs : List WayState) (range : IsInRange network) (number : ℕ) where
-  pub placed : (f : DueAt → Entry Content) → ((p : DueAt) → (f p).place ≡ p) → ((p : DueAt) → rank_of (f p).content ≡ 2)
+  placed : (f : DueAt → Entry Content) → ((p : DueAt) → (f p).place ≡ p) → ((p : DueAt) → rank_of (f p).content ≡ 2)
       → (device : DeviceId) (link : LinkId) (time on_port : ℕ)
       → IfSome (option_map f (place_on_wire network ups downs device link time on_port number)) (IsOnWire network number)
   placed f same kind device link time on_port = by_receiver (receiver_of network link (way_from network device link)) refl
@@ -153,7 +153,7 @@ pub waits_more : {C M : Type 0} {reading : C → ℕ → ℕ} {network : Network
 waits_more None out = inl out.no_wait
 waits_more (Some g) out = grind (arith, one_more, awaited_so)
 
-pub waits_at : (number : ℕ) {xs ys : List Waits} → ys ≡ xs → All (λ w. w.cause < number) xs → All (λ w. w.cause < number + 1) ys
+waits_at : (number : ℕ) {xs ys : List Waits} → ys ≡ xs → All (λ w. w.cause < number) xs → All (λ w. w.cause < number + 1) ys
 waits_at number {xs} is all = rw is (All-weaker (λ w. w.cause < number) (λ w. w.cause < number + 1)
     (λ w lt. omega arith) xs all)
 

@@ -59,7 +59,7 @@ ahead : (seen rho grain d t : ℕ) → grain ≤ 2 ^ 20 → t ≤ 2 ^ 60 → rho
     → 10 ^ 9 * d ≤ rho * t + 2 * grain * 10 ^ 9 → seen ≤ 2 ^ 60 + 2 ^ 51
 ahead seen rho grain d t fine early slow at measures = omega arith
 
-pub low : {rho grain : ℕ} {reading : ℕ → ℕ} → rho ≤ 1000000 → grain ≤ 2 ^ 20 → KeepsClockLaws rho grain reading
+low : {rho grain : ℕ} {reading : ℕ → ℕ} → rho ≤ 1000000 → grain ≤ 2 ^ 20 → KeepsClockLaws rho grain reading
     → reading 0 ≡ 0 → (t : ℕ) → t ≤ 2 ^ 60 → reading t ≤ 2 ^ 60 + 2 ^ 51
 low {rho} {grain} {reading} slow fine laws zero_first t early =
     let since : t - 0 ≡ t = omega arith in
@@ -104,7 +104,7 @@ none_within network before behind e order = absurd (from before order)
 
 module _ {C M : Type 0} {fresh : ℕ → C} {last_step : C → ℕ} {network : Network} {machines : List M} {state : State C M}
     (first : IsFirstState fresh last_step network machines state) where
-  pub ways_short : IsInRange network → All IsShort (map first_way network.link)
+  ways_short : IsInRange network → All IsShort (map first_way network.link)
   ways_short range k d lt =
       let n : length (map first_way network.link) ≡ length network.link = length-map _ _ in
       let it = found network.link k (omega (arith, lt, n)) in
@@ -188,7 +188,7 @@ module _ {C M : Type 0} {fresh : ℕ → C} {last_step : C → ℕ} {network : N
 -- ---- a world goes on by an event
 
 -- an event of a time from 0 on, with a hold from 0 on, is in range
-pub in_range : (event : Event) (time : ℕ) → event.time.0 ≡ pos time → HoldsATime event.what → IsEventInRange event
+in_range : (event : Event) (time : ℕ) → event.time.0 ≡ pos time → HoldsATime event.what → IsEventInRange event
 in_range event time at hold = grind (arith, ints)
 
 module _ {C M : Type 0} {fresh : ℕ → C} {after_step : C → ℕ → ℤ → C} {reading : C → ℕ → ℕ} {grain : C → ℕ} {count : C → ℕ → ℕ}

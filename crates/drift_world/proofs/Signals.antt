@@ -514,7 +514,7 @@ module _ {C M : Type 0} (reading : C → ℕ → ℕ) (stands : Meaning (Kept M)
     called node m = MayCall s.network e.device node m arriving
 
     -- the machine stands for a node that may be called
-    pub node_of : (node : Node) × stands machine s.network e.device node × MayCall s.network e.device node moment arriving
+    node_of : (node : Node) × stands machine s.network e.device node × MayCall s.network e.device node moment arriving
     node_of =
         elim held [
           | inl k ↦ (

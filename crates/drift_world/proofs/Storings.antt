@@ -68,7 +68,7 @@ none_awaited s x number old none = record { real = λ e there. inl there; kept =
 module _ (s : Scenario) {now : ℕ} (x : Happening) {number : ℕ} (giving : Giving) (at : time_of x ≡ now) (by : giver_of x.note.body ≡ Some giving.device)
     (numbered : giving.number ≡ number) (frame : x.frame ≡ Some giving.frame) (read : giving.reading ≡ s.reading giving.device now)
     (broken : giving.broken ≡ is_broken s giving.device now) (old new : List Waits) where
-  pub reads_so : giving.reading ≡ s.reading giving.device (time_of x)
+  reads_so : giving.reading ≡ s.reading giving.device (time_of x)
   reads_so = read ∙ ap (s.reading giving.device) (sym at)
 
   broken_so : giving.broken ≡ is_broken s giving.device (time_of x)
@@ -261,7 +261,7 @@ none_joined : (device : DeviceId) (t : ℕ) (hs : List Happening) → ((h : Happ
 none_joined device t [] still = refl
 none_joined device t (h ∷ hs) still = grind (arith, time_of, joins_no_other, (none_joined device t hs (λ g i. still g (inr i))))
 
-pub unmoved : (device : DeviceId) (first : State) (hs : List Happening) → ((h : Happening) → IsIn h hs → moves device h.note.body ≡ false)
+unmoved : (device : DeviceId) (first : State) (hs : List Happening) → ((h : Happening) → IsIn h hs → moves device h.note.body ≡ false)
     → fold (λ state h. state_with device state h.note.body) first hs ≡ first
 unmoved device first [] still = refl
 unmoved device first (h ∷ hs) still =
@@ -322,7 +322,7 @@ module _ (s : Scenario) (device : DeviceId) (begins : state_at_start (start_of s
           collected (Some reason) it = cc
 
   -- nor does the next
-  pub no_change : (hs : List Happening) (t : ℕ) (state : State) (cause : ℕ) (why : Why) → ((h : Happening) → IsIn h hs → moves device h.note.body ≡ false)
+  no_change : (hs : List Happening) (t : ℕ) (state : State) (cause : ℕ) (why : Why) → ((h : Happening) → IsIn h hs → moves device h.note.body ≡ false)
       → ((h : Happening) → IsIn h hs → (line : ℕ) → h.note.body ≡ notes.Event line (On device) → ⊥) → ChangesState s hs device t state cause why → ⊥
   no_change hs t state cause whys.On still untold c = untold c.2.1 (numbered_in hs cause c.2.1 c.2.2.there) c.2.0 c.2.3
   no_change hs t state cause whys.Frame still untold c =

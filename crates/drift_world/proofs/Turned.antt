@@ -244,7 +244,7 @@ module _ {s : Scenario} {now : ℕ} (ups downs : List WayState) (ways : AreWays 
   module _ (device : DeviceId) (link : LinkId) (signal : Signal) (sent : SignalSent)
       (put : launched s x (time_of x) x.note.body ≡ Some (record { link = link; way = way_from s.network device link; signal = signal }))
       (as_signal : signal_as s.network sent ≡ signal) where
-    abbrev pub placed : DeviceId → DueAt
+    abbrev placed : DeviceId → DueAt
     placed receiver = record {
       at = now + time_on_port s.network link signal + delay_by s.network ups downs device link;
       rank = 2;

@@ -157,7 +157,7 @@ none_settled [] time first = refl
 none_settled (z ∷ zs) time first = let above = first z zs refl in let most = rank_most z.body in absurd (omega (arith, above, most))
 
 -- nothing that is settled is before what the first of it is not before
-pub none_sooner : (network : Network) (now : ℕ) (settled : List Settled) (w : List ℕ) → InOrder (map (settled_at network now) settled)
+none_sooner : (network : Network) (now : ℕ) (settled : List Settled) (w : List ℕ) → InOrder (map (settled_at network now) settled)
     → ((first : Settled) (others : List Settled) → settled ≡ first ∷ others → IsBefore (place_of (settled_at network now first)) w → ⊥)
     → (z : Happening) → IsIn z (map (settled_at network now) settled) → IsBefore (place_of z) w → ⊥
 none_sooner network now [] w order not z there before = absurd there

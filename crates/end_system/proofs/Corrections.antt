@@ -450,13 +450,13 @@ corrected_number {network} {s} new {heard} silent by reading next is at verdict 
       };
     })
 
-pub joined_number : (o : Option ℕ) (n : ℕ) → o ≡ Some n → IfSome o (λ k. k ≤ 2 ^ 20 + 2 ^ 17) → n ≤ 2 ^ 20 + 2 ^ 17
+joined_number : (o : Option ℕ) (n : ℕ) → o ≡ Some n → IfSome o (λ k. k ≤ 2 ^ 20 + 2 ^ 17) → n ≤ 2 ^ 20 + 2 ^ 17
 joined_number o n e h = subst (λ (x : Option ℕ). IfSome x (λ k. k ≤ 2 ^ 20 + 2 ^ 17)) e h
 
 after_joined : (n : ℕ) → n ≤ 2 ^ 20 + 2 ^ 17 → n + 1 ≤ 2 ^ 20 + 2 ^ 17 + 2
 after_joined n h = omega arith
 
-pub not_the_end : (n : ℕ) → n ≤ 2 ^ 20 + 2 ^ 17 → n + 1 ≡ 2 ^ 20 + 2 ^ 17 + 2 → ⊥
+not_the_end : (n : ℕ) → n ≤ 2 ^ 20 + 2 ^ 17 → n + 1 ≡ 2 ^ 20 + 2 ^ 17 + 2 → ⊥
 not_the_end n h e = omega arith
 
 -- ---- a joiner that has cleared what it heard

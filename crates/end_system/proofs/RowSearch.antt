@@ -169,7 +169,7 @@ module _ (network : Network) (device : DeviceId) where
   }
 
   -- the row's place is that of its slot
-  pub place_is : {slot : Slot} → IsSlotOf network (SentBy device) slot
+  place_is : {slot : Slot} → IsSlotOf network (SentBy device) slot
       → dispatch_order network slot.place.row ≡ numbers_of slot.place
   place_is {slot} of = row_place_is slot.place.row of.is ∙ ap numbers_of (sym of.place)
 

@@ -28,7 +28,7 @@ use Rattle.run_law.specs.declared.note.NoteBody.TheVariants as notes
 
 -- ---- nothing that is owed is missing
 
-pub none_counted : (IsSo : ℕ → Type 0) (n : ℕ) → ((t : ℕ) → IsSo t → ⊥) → IsCountOf IsSo n → n ≡ 0
+none_counted : (IsSo : ℕ → Type 0) (n : ℕ) → ((t : ℕ) → IsSo t → ⊥) → IsCountOf IsSo n → n ≡ 0
 none_counted IsSo n none ([], are, is) = is
 none_counted IsSo n none (t ∷ ts, are, is) = absurd (none t (are.each t (inl refl)))
 

@@ -44,7 +44,7 @@ module _ (network : Network) (ns : List Note) (flow : Flow) where
   abbrev hs : List Happening
   hs = happenings network ns
 
-  abbrev pub all : List News
+  abbrev all : List News
   all = news_by network ns ns
 
   -- the cell of a column, and the shade of the frame of a cycle

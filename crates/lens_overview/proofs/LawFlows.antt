@@ -575,7 +575,7 @@ other_filled told label other =
     other_if (is_any cells) (record { label = label; cells = cells } ∷ []) [] (other_one (record { label = label; cells = cells }) other) other_none
 
 -- the lane of a device at the place
-abbrev pub lane_of : ToldSoFar → ℕ → Device → List Row
+abbrev lane_of : ToldSoFar → ℕ → Device → List Row
 lane_of told k d =
     if is_turned told.news (record { 0 = k })
     then record { label = labels.Lane (record { 0 = k }); cells = cells_of told.grid told.news (labels.Lane (record { 0 = k })) (start_of d.start) } ∷ []
@@ -633,7 +633,7 @@ alike_same (x ∷ xs) (y ∷ ys) e = by (is_same x y) refl e (alike_same xs ys)
     by true same rest more = ap (λ (z : Shade). z ∷ xs) (same_shade x y same) ∙ ap (λ (zs : List Shade). y ∷ zs) (more rest)
     by false same rest more = absurd (false≢true rest)
 
-pub flow_row : (label : Label) (flow : Flow) → IsRowOf label flow → is_flow label ≡ true
+flow_row : (label : Label) (flow : Flow) → IsRowOf label flow → is_flow label ≡ true
 flow_row label flow (inl is) = ap is_flow is
 flow_row label flow (inr (count, is)) = ap is_flow is
 
@@ -776,7 +776,7 @@ module _ (network : Network) (told : ToldSoFar) (missed : List Missed) (flows : 
   abbrev pub cells_in : Flow → List Shade
   cells_in flow = flow_cells told.grid told.news told.last missed flow.vl flow.device
 
-  abbrev pub rows : List Row
+  abbrev rows : List Row
   rows = rows_of network told missed flows
 
   pub flow_has : (flow : Flow) → IsIn flow flows → IsRowIn cells_in rows flow

@@ -463,10 +463,10 @@ last_most (x ∷ all) most news (inl is) =
 last_most (x ∷ all) most news (inr i) = last_most all (max (max most x.cycle) (named_cycle x.change)) news i
 
 module _ (all : List News) (vl : VlId) (device : DeviceId) where
-  abbrev pub grid : Grid
+  abbrev grid : Grid
   grid = grid_of (last_cycle all)
 
-  abbrev pub cells : List Shade
+  abbrev cells : List Shade
   cells = flow_cells grid all (last_cycle all) [] vl device
 
   abbrev each : List Shade
@@ -672,7 +672,7 @@ module _ (network : Network) (s : Scenario) (hs : List Happening) where
   -- ---- deliveries
 
   module _ (ns : List Note) (flow : Flow) (cycle : ℕ) where
-    abbrev pub all : List News
+    abbrev all : List News
     all = news_in network s hs ns
 
     -- a record that tells of a delivery is one of it

@@ -398,7 +398,7 @@ module _ (grid : Grid) (k : ℕ) where
 
 -- ---- the strokes of a row, and its cells: shades of one code are one
 
-pub shade_by : ℕ → Shade
+shade_by : ℕ → Shade
 shade_by n =
     if n == 0 then shades.Blank else if n == 1 then shades.Both else if n == 2 then shades.AloneB else if n == 3 then shades.AloneA
     else if n == 4 then shades.Missing else if n == 5 then shades.Off else if n == 6 then shades.Integrating

@@ -518,7 +518,7 @@ none_askable network = record {
   ids = λ i j m n x y less at there gives too. absurd (grind (arith, at));
 }
 
-pub one_more : {network : Network} {ms : List Message} {m : Message} → AreAskable network ms
+one_more : {network : Network} {ms : List Message} {m : Message} → AreAskable network ms
     → IsAskable network m × IsOther ms m → AreAskable network (ms ++ m ∷ [])
 one_more {network} {ms} {m} all own = record {
   each = λ j n at. elim (pushed ms m n j at) [

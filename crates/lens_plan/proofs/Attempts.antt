@@ -170,7 +170,7 @@ at_not k n at = grind (arith, nat_tests, at)
 -- what is found for numbers, each an element of its own among these
 module _ {H R : Type 0} (test : H → Bool) (passes : R → Bool) (key : R → ℕ) (found : ℕ → Option H) (rs : List R)
     (has : (k : ℕ) (h : H) → found k ≡ Some h → test h ≡ true → (i : ℕ) × (r : R) × (slice_get rs i ≡ Some r) × (passes r ≡ true) × (key r ≡ k)) where
-  abbrev pub below : ℕ → R → Bool
+  abbrev below : ℕ → R → Bool
   below n r = passes r && nat_lt (key r) n
 
   lets_more : (n : ℕ) (r : R) → below n r ≡ true → below (n + 1) r ≡ true

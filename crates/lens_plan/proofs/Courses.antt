@@ -200,7 +200,7 @@ module _ (network : Network) (trees : HasTrees network) (channel : Channel) wher
         pub kind : ((p.hop.way ≡ Up) × (is_on from p.hop.link ≡ true)) ⊎ ((p.hop.way ≡ Down) × (is_on from p.hop.link ≡ false))
 
       module _ (end_no_switch : IsSwitchOf network channel sender → ⊥) where
-        pub source_is : (to : List LinkId) (s : IsStep to) (p : Placed) → p.hop ≡ s.hop → source_by p.hop.way s.link ≡ source_by s.hop.way s.link
+        source_is : (to : List LinkId) (s : IsStep to) (p : Placed) → p.hop ≡ s.hop → source_by p.hop.way s.link ≡ source_by s.hop.way s.link
         source_is to s p is = ap (λ (h : Hop). source_by h.way s.link) is
 
         -- the device that a step leaves from a row is a switch

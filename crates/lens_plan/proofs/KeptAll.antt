@@ -129,7 +129,7 @@ module _ (network : Network) (vls : List VirtualLink) (rows : List Row) where
   other = record network { vl = vls; row = rows }
 
   -- its paths are the same
-  pub path_there : (channel : Channel) (d : DeviceId) (links : List LinkId) → IsPath network channel d links → IsPath other channel d links
+  path_there : (channel : Channel) (d : DeviceId) (links : List LinkId) → IsPath network channel d links → IsPath other channel d links
   path_there channel d [] cm = cm
   path_there channel d (link ∷ links) h =
       let o = opened (λ (l : Link). (l.child ≡ d) × IsSwitchOf network channel l.parent × IsPath network channel l.parent links) (link_at network link) h in
@@ -244,7 +244,7 @@ none_leaves {network} d range past row =
 
 module _ (network : Network) (ms : List Message) (ids : List ℕ) (attempts : List Attempt) (s : IsSound network ms ids attempts)
     (limits : IsWithinLimits network ms) (long : length attempts ≡ length ms) where
-  abbrev pub planned : Network
+  abbrev planned : Network
   planned = planned_network network ms ids attempts
 
   abbrev new_rows : List Row

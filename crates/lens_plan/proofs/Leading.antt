@@ -331,7 +331,7 @@ module _ (network : Network) (vl : VlId) (of_vl : VirtualLink) (start : ℕ) (go
         | inr (inr more) ↦ once_by other place f e more there is also own (sym link)
       ]
 
-  pub vl_is : (place : ℕ) (e : Entry) → IsEntry network place e → e.row.vl ≡ vl → e.vl ≡ of_vl
+  vl_is : (place : ℕ) (e : Entry) → IsEntry network place e → e.row.vl ≡ vl → e.vl ≡ of_vl
   vl_is place e is own =
       some_same e.vl of_vl (slice_get network.vl vl.0) (subst (λ (v : VlId). slice_get network.vl v.0 ≡ Some e.vl) own is.vl) goes.there
 
@@ -393,7 +393,7 @@ module _ (network : Network) (vl : VlId) (of_vl : VirtualLink) (start : ℕ) (go
 
   module _ (channel : Channel) (from : List LinkId) (path : IsPath network channel of_vl.sender from) where
     -- the way from the sender to a device with this path
-    abbrev pub way_to : List LinkId → List Hop
+    abbrev way_to : List LinkId → List Hop
     way_to to = up_hops to from ++ down_hops from to
 
     -- a link with its switch is the uplink of its child

@@ -118,7 +118,7 @@ ids_next {taken} {ms} {n} {ids} more {now} new m id first within at same is boun
 status_is : (l : List ℕ) (b : Answer) → line_answer PlanRefused l ≡ b → b.status ≡ PlanRefused
 status_is l b same = sym (ap (λ (x : Answer). x.status) same)
 
-pub not_too_long : TooLong ≡ PlanRefused → ⊥
+not_too_long : TooLong ≡ PlanRefused → ⊥
 not_too_long e = absurd cc
 
 not_refused : NetworkRefused ≡ PlanRefused → ⊥

@@ -449,7 +449,7 @@ module _ (trial : Trial) (are : AreThere trial.network.now trial.rows.now) (plan
     delay_is : delay_on network hop.link ≡ amount row.entry.link.wire + amount row.entry.link.jitter
     delay_is = ap (λ (o : Option Link). option_map_or (λ l. amount l.wire + amount l.jitter) o 0) link_is
 
-    pub end_is : p.end ≡ end_of so hop p.offset
+    end_is : p.end ≡ end_of so hop p.offset
     end_is =
         let port = port_is in
         let delay = delay_is in

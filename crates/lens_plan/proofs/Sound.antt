@@ -134,12 +134,12 @@ first_in [] some = absurd (omega (arith, some))
 first_in (x ∷ xs) some = (x, (0, omega arith, refl))
 
 -- the trees of an accepted network, and the paths of an end system
-pub one_cm : (network : Network) → KeepsRules network → (channel : Channel) (cm other : DeviceId) → IsCmOf network channel cm → IsCmOf network channel other
+one_cm : (network : Network) → KeepsRules network → (channel : Channel) (cm other : DeviceId) → IsCmOf network channel cm → IsCmOf network channel other
     → cm ≡ other
 one_cm network keeps A cm other one two = let own = (keeps CompressionMasters 0).on_a refl in own.2 cm one ∙ sym (own.2 other two)
 one_cm network keeps B cm other one two = let own = (keeps CompressionMasters 1).on_b refl in own.2 cm one ∙ sym (own.2 other two)
 
-pub ground_of : {network : Network} (sender : DeviceId) → IsInRange network → KeepsRules network
+ground_of : {network : Network} (sender : DeviceId) → IsInRange network → KeepsRules network
     → IsEndSystem network sender → HasGround network sender
 ground_of {network} sender range keeps end =
     let tree = tree_kept network keeps in

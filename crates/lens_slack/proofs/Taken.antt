@@ -269,14 +269,14 @@ module _ (network : Network) where
   spot_within measures.Comings n within = within
 
   -- the tightest at a spot, where there is one
-  pub some_at : (spot : BoundedNumber) (f : Option Finding) → IsSpotOf network spot → IsTightestAt network spot f
+  some_at : (spot : BoundedNumber) (f : Option Finding) → IsSpotOf network spot → IsTightestAt network spot f
       → All (IsWritable network) (some_found f)
   some_at spot None of_network tightest = All-nil (IsWritable network)
   some_at spot (Some f) of_network (n, is, first) =
       All-cons (IsWritable network) f [] (bound_writable spot n f of_network is) (All-nil (IsWritable network))
 
   -- the tightest of a measure
-  pub some_of : (measure : Measure) (f : Option Finding) → IsTightestOf network measure f
+  some_of : (measure : Measure) (f : Option Finding) → IsTightestOf network measure f
       → All (IsWritable network) (some_found f)
   some_of measure None tightest = All-nil (IsWritable network)
   some_of measure (Some f) (n, (within, is), first) =

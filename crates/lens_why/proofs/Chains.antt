@@ -299,7 +299,7 @@ module _ (network : Network) (octets : List ℕ) (ns : List Note) (end : Units) 
       (of.run.founded p.before p.later h p.parts).1.cause in
       cut_before network octets ns end of number h there link (way_from network device link) (omega (arith, nine)) (way_is_cut device link cause lost)
 
-  pub by_body : (body : NoteBody) → h.note.body ≡ body → IsDecidedBy own all_decided h body (ground_by own all_decided h body)
+  by_body : (body : NoteBody) → h.note.body ≡ body → IsDecidedBy own all_decided h body (ground_by own all_decided h body)
   by_body (notes.Left device link cause clock) is = left_by of number h there device link cause clock is
   by_body (notes.Corrected device cycle by adjustment) is = corrected_by network octets ns end rules of number h there device cycle by adjustment is
   by_body (notes.State device state cause whys.SyncClique) is = clique_by network octets ns end rules of number h there device state cause is

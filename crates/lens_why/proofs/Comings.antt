@@ -261,7 +261,7 @@ module _ (network : Network) (octets : List ℕ) (ns : List Note) (end : Units) 
         ap (filter (sought device (time_of h))) (parted_there of number h there).are
         ∙ same_kept device (time_of h) before only_early
 
-    abbrev pub number_of : List Happening → ℕ
+    abbrev number_of : List Happening → ℕ
     number_of gs = option_map_or (λ (g : Happening). g.note.number) (last_or None gs) 0
 
     since_off : LeavesIn device start (filter (turning device) (earlier (time_of h) before)) (after device start (earlier (time_of h) before))

@@ -250,7 +250,7 @@ module _ (network : Network) (octets : List ℕ) (ns : List Note) (end : Units) 
   parts : all ≡ before ++ h ∷ later
   parts = (parted_there of number h there).parts
 
-  pub none_later : (g : Happening) → IsIn g before → nat_le (time_of g) (time_of h) ≡ true
+  none_later : (g : Happening) → IsIn g before → nat_le (time_of g) (time_of h) ≡ true
   none_later g i =
       le-leb (time_of g) (time_of h)
       (time_before (time_of g) (time_of h) (rank g.note.body ∷ key (members_in g) g.note.body) (rank h.note.body ∷ key (members_in h) h.note.body)

@@ -129,7 +129,7 @@ module _ (network : Network) (octets : List ℕ) (ns : List Note) (end : Units) 
       let p = parted_there of number h there in caused network octets ns end of named p.before p.later h p.parts device body is
 
   -- what it had heard is what is told
-  pub heard_is : 6 ≤ rank h.note.body → (cycle : ℕ) (v : Verdict) (comes : ComesToPoint own before device (time_of h) cycle v)
+  heard_is : 6 ≤ rank h.note.body → (cycle : ℕ) (v : Verdict) (comes : ComesToPoint own before device (time_of h) cycle v)
       → comes.summary ≡ heard_at_point own all device (time_of h)
   heard_is high cycle v comes =
       let p = parted_there of number h there in

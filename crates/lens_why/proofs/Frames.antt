@@ -219,7 +219,7 @@ module _ (network : Network) (octets : List ℕ) (ns : List Note) (end : Units) 
   abbrev before : List Happening
   before = (parted_there of number h there).before
 
-  pub caused : (body : NoteBody) → h.note.body ≡ body → IsCaused own before h.note.time body
+  caused : (body : NoteBody) → h.note.body ≡ body → IsCaused own before h.note.time body
   caused body is =
       let p = parted_there of number h there in
       subst (λ b. IsCaused own p.before h.note.time b) is (of.run.founded p.before p.later h p.parts).1.cause

@@ -401,7 +401,7 @@ module _ {s : Switch} {network : Network} {device : DeviceId} {node : Node} {mem
 
 -- ---- each collection to come is later than the point less the window
 
-pub later_by : (point reading at em prec ow : ℤ) → at ≡ em → ow ≡ prec → point ≤ℤ reading → reading <ℤ (em +ℤ prec) → (point -ℤ ow) <ℤ at
+later_by : (point reading at em prec ow : ℤ) → at ≡ em → ow ≡ prec → point ≤ℤ reading → reading <ℤ (em +ℤ prec) → (point -ℤ ow) <ℤ at
 later_by point reading at em prec ow a b c d = omega (arith, ints, a, b, c, d)
 
 pub all_later : {s : Switch} {network : Network} {device : DeviceId} {node : Node} {moment : Moment} {phase : Phase}

@@ -376,7 +376,7 @@ least_time keys key least slot d lt =
     omega arith
 
 -- no slot is before that of the least key
-pub not_before : (key other : ℕ) {slot : ℕ} (below : ℕ) → key ≤ other → key % 2 ^ 56 ≡ slot → (key / 2 ^ 64 ≡ never → ⊥)
+not_before : (key other : ℕ) {slot : ℕ} (below : ℕ) → key ≤ other → key % 2 ^ 56 ≡ slot → (key / 2 ^ 64 ≡ never → ⊥)
     → (other ≡ no_key) ⊎ (other % 2 ^ 56 ≡ below)
     → IsBefore (other / 2 ^ 64 ∷ other % 2 ^ 64 / 2 ^ 56 ∷ below ∷ []) (key / 2 ^ 64 ∷ key % 2 ^ 64 / 2 ^ 56 ∷ slot ∷ []) → ⊥
 not_before key other below le here some either (inl lt) = omega arith

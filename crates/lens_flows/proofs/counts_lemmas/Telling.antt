@@ -254,7 +254,7 @@ module _ (s : Scenario) (hs : List Happening) (until : ℕ) (ds : List Delivery)
 
 -- ---- what is counted of the deliveries of a flow, one delivery after another
 
-pub counted_on : {X : Type 0} (p : X → Bool) (xs : List X) (x : X) → length (filter p (xs ++ x ∷ [])) ≡ length (filter p xs) + one_if (p x)
+counted_on : {X : Type 0} (p : X → Bool) (xs : List X) (x : X) → length (filter p (xs ++ x ∷ [])) ≡ length (filter p xs) + one_if (p x)
 counted_on {X} p xs x = by (p x) refl
   where
     by : (b : Bool) → p x ≡ b → length (filter p (xs ++ x ∷ [])) ≡ length (filter p xs) + one_if (p x)

@@ -146,7 +146,7 @@ module _ (goes : BlocksGoSo) (v : View) (n : ℕ) (over : BlockIsOver v n) (is :
       }
 
   -- that of a synchronised end system has been set by the frame that all share
-  pub shared_by : (hull : Hull) (share : PointsShare v n hull) (b : Bool) → is_correction h.note.body ≡ b → IsGoodEnd v device
+  shared_by : (hull : Hull) (share : PointsShare v n hull) (b : Bool) → is_correction h.note.body ≡ b → IsGoodEnd v device
       → state_left v device over.next ≡ Synchronised → IsSharedBy v (suc n) hull over.next share.shared device
   shared_by hull share false joined end synchronised =
       let waits = joiner_waits device over.next h is by.last (joining_of_setting device h.note.body by.sets joined) in

@@ -552,7 +552,7 @@ module _ (goes : BlocksGoSo) (v : View) (channel : Channel) (n t : ℕ) (block :
   u = comes_to.0
 
   -- which is in the block
-  pub begun : block.before.next ≤ u
+  begun : block.before.next ≤ u
   begun =
       let near = emerges.0 in
       let e = emerges.1 in

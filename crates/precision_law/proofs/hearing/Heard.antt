@@ -218,7 +218,7 @@ hearer_down {v} device link is cm waits =
 
 -- ---- what is heard
 
-pub expected_is : {v : View} (device : DeviceId) (b : Bool) → IsView v → is_cm v.scenario.network device ≡ b
+expected_is : {v : View} (device : DeviceId) (b : Bool) → IsView v → is_cm v.scenario.network device ≡ b
     → expected_by v.scenario.network device ≡ (if b then v.sizes.dmax + v.sizes.compression else expectation v.sizes)
 expected_is device b is cm = grind (arith, amount, compression_time, expectation)
 

@@ -121,7 +121,7 @@ module _ (v : View) (is : IsView v) (n value t : ℕ) (within : IsInCycle v valu
       )
 
   -- nor in a later one
-  pub same_cycle : (k : ℕ) (block : IsInBlock v k t) → ShowsIn v.sizes shown k block.before.hull t → k ≡ n
+  same_cycle : (k : ℕ) (block : IsInBlock v k t) → ShowsIn v.sizes shown k block.before.hull t → k ≡ n
   same_cycle k block shows = elim (cases_lt k n) [
     | inl lt ↦
         let space = room is in

@@ -218,7 +218,7 @@ shows_one {v} {n} {t} {u} {d} block goes is le most has =
     inr (set.hull, set.is_hull, set_shows block is set))
 
 -- two values are near the other way round
-pub turned : (v : View) {x y : ℤ} → AreNear v.sizes x y → AreNear v.sizes y x
+turned : (v : View) {x y : ℤ} → AreNear v.sizes x y → AreNear v.sizes y x
 turned v near = record { one = near.other; other = near.one }
 
 near_each : {v : View} {n t : ℕ} {x y : ℤ} (before : Stands v n) → HullsAreNarrow → IsView v

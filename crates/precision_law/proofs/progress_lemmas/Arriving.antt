@@ -102,7 +102,7 @@ module _ (known : AreBlocksKnown) (v : View) (device : DeviceId) (is : IsView v)
       (synchronised_by v device is 0 never known.come (suc n) next (omega arith) has)
 
   -- an end system that is on has come in so long behind it
-  pub arrives : (t : ℕ) → IsOn (state_left v device (t + 1)) → t + coming v.sizes ≤ v.until
+  arrives : (t : ℕ) → IsOn (state_left v device (t + 1)) → t + coming v.sizes ≤ v.until
       → IsSynchronised (state_left v device (v.until + 1))
   arrives t on long =
       let found = known.cover v t is (omega arith) in
@@ -180,7 +180,7 @@ behind_block {s} {before} {hull} next space narrow follows more ends =
 le_self : (n : ℕ) → n ≤ n
 le_self n = omega arith
 
-pub through : (x y : ℕ) (z : ℤ) → x ≤ y → pos y ≤ℤ z → pos x ≤ℤ z
+through : (x y : ℕ) (z : ℤ) → x ≤ y → pos y ≤ℤ z → pos x ≤ℤ z
 through x y z le at = omega (arith, ints)
 
 one_above : (a z : ℤ) → a ≤ℤ z → a ≤ℤ (z +ℤ pos 1)
@@ -299,7 +299,7 @@ module _ (laws : FramesGoSo) (known : AreBlocksKnown) (v : View) (channel : Chan
       (synchronised_by v device is z never known.come (suc k) next behind has)
 
   -- so a switch that is on comes in
-  pub comes : (t : ℕ) → t < x → x ≤ t + 1 → IsOn (state_left v device x) → t + coming v.sizes ≤ v.until
+  comes : (t : ℕ) → t < x → x ≤ t + 1 → IsOn (state_left v device x) → t + coming v.sizes ≤ v.until
       → IsSynchronised (state_left v device (v.until + 1))
   comes t lt le on long =
       let found = known.cover v t is (omega arith) in

@@ -386,7 +386,7 @@ looks_by Integrating on untimed = refl
 looks_by state on untimed = absurd cc
 
 -- such a device integrates by a frame of enough members, and of a cycle that frames may name
-pub integrates_by : (plan : SyncPlan) (precision : ℤ) (state : State) (adjustment point : ℤ) (cycle : ℕ) (members : Members)
+integrates_by : (plan : SyncPlan) (precision : ℤ) (state : State) (adjustment point : ℤ) (cycle : ℕ) (members : Members)
     → state ≡ Integrating → plan.threshold ≤ count_of members → cycle ≤ last_cycle
     → heard_as plan precision state adjustment point cycle members ≡ Integrates
 integrates_by plan precision Integrating adjustment point cycle members looks enough few =

@@ -19,7 +19,7 @@ AreSorted [] = Unit {0}
 AreSorted (h ∷ hs) = ((g : Happening) → IsIn g hs → time_of h ≤ time_of g) × AreSorted hs
 
 -- what is founded behind some records is sorted
-pub sorted_behind : (s : Scenario) (ps qs : List Happening) → IsFounded place_of (IsDue s) (ps ++ qs) → AreSorted qs
+sorted_behind : (s : Scenario) (ps qs : List Happening) → IsFounded place_of (IsDue s) (ps ++ qs) → AreSorted qs
 sorted_behind s ps [] founded = tt
 sorted_behind s ps (q ∷ qs) founded = (
   λ g i. time_before (time_of q) (time_of g) (rank q.note.body ∷ key (members_in q) q.note.body) (rank g.note.body ∷ key (members_in g) g.note.body)
@@ -122,7 +122,7 @@ pub record IsCutAt (s : Scenario) (hs : List Happening) (t : ℕ) : Type 0 where
   pub early : (u : ℕ) → u ≤ t + 1 → earlier u front ≡ earlier u hs
 
 -- a record of an earlier time is before the time
-pub sooner : (h : Happening) (u : ℕ) → time_of h < u → IsBefore (place_of h) (u ∷ [])
+sooner : (h : Happening) (u : ℕ) → time_of h < u → IsBefore (place_of h) (u ∷ [])
 sooner h u lt = inl lt
 
 pub cut_at : (s : Scenario) {mark : List ℕ} {hs : List Happening} (until t : ℕ) → IsRun place_of (IsDue s) mark hs

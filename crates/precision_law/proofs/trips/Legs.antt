@@ -369,7 +369,7 @@ decoded_as v ps t device link cause octets taken takes =
     ] takes
 
 -- what is taken from a way left its sender, or an event sent it up
-pub put_on : {v : View} {ps : List Happening} {t : ℕ} {device : DeviceId} {link : LinkId} {cause : ℕ} {a : Arrival}
+put_on : {v : View} {ps : List Happening} {t : ℕ} {device : DeviceId} {link : LinkId} {cause : ℕ} {a : Arrival}
     (taken : Pcf) (way : Way) → IsView v → ArrivesAs v.scenario ps device t link cause a → TakesWith a taken
     → way_to v.scenario.network device link ≡ way → (IsPutAs v ps device link cause way
     ⊎ ((way ≡ Up) × IsSentUp v ps device link cause)) × (receiver_of v.scenario.network link way ≡ Some device)

@@ -364,7 +364,7 @@ sound_frames_go_up v h master cm cycle is d one opens in_run =
 -- ---- the sound channel brings compressed frames down to its devices: one link down
 
 -- a frame of the sound channel has come down to the device
-pub record ComesDown (v : View) (channel : Channel) (first : Happening) (cm device : DeviceId) (d k : ℕ) : Type 0 where
+record ComesDown (v : View) (channel : Channel) (first : Happening) (cm device : DeviceId) (d k : ℕ) : Type 0 where
   pub legs : List Leg
   pub last : Happening
   pub trip : IsTrip v Down first legs last

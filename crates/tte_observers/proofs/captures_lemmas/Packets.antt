@@ -226,7 +226,7 @@ unopened : (file : List ℕ) (e : CaptureRefusal) → IsFile file → HasHeadFau
 unopened file e f h = capture_answer-fits file f.short
     ∙ ap (opened_answer file) ((finds_head.refused file e f.octets).1 h)
 
-pub whole : (file : List ℕ) (head : CaptureHead) (ps : List Packet) → IsFile file → IsHead file head
+whole : (file : List ℕ) (head : CaptureHead) (ps : List Packet) → IsFile file → IsHead file head
     → StandFrom head file head_length ps (length file) → capture_answer file ≡ whole_answer file ps
 whole file head ps f h s =
     let within : length file ≤ length file = omega arith in

@@ -34,7 +34,7 @@ module _ (granule : ℕ) (network : Network) (octets : List ℕ) (events : List 
       (λ p before. up p (up_to_mark (amount (last_time events)) (amount (last_time (events ++ more))) [] (last_grows network octets events more all) p before))
 
   -- an answer of these and further events
-  pub begins : (more : List Event) (a : Answer) → AreAdmitted network octets events → AreAdmitted network octets (events ++ more)
+  begins : (more : List Event) (a : Answer) → AreAdmitted network octets events → AreAdmitted network octets (events ++ more)
       → AnswersEither (stamp_lines granule) network octets (events ++ more) a → BeginWith a.lines (stamp_lines granule network events notes)
   begins more a own all (inl w) =
       let last = (admitted_in_order network octets (events ++ more) all).last w.records.0 w.records.1 in

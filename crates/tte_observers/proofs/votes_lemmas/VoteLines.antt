@@ -702,7 +702,7 @@ taken_still hs h vl cycle device e =
     ap (λ (o : Option Happening). option_map payload_in (option_and_then record_octets o))
     (find_still (λ (g : Happening). is_delivery vl cycle device g.note.body) hs h e)
 
-abbrev pub the_ballot : Option (List ℕ) → Option (List ℕ) → Option (List ℕ) → Votes
+abbrev the_ballot : Option (List ℕ) → Option (List ℕ) → Option (List ℕ) → Votes
 the_ballot a b c = record { first = a; second = b; third = c }
 
 ballot_still : (hs : List Happening) (h : Happening) (voters : Voters) (cycle : ℕ) (device : DeviceId)

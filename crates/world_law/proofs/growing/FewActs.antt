@@ -87,7 +87,7 @@ record IsSentBy (ow calc : ℤ) (c : Cluster) (at : ℤ) : Type 0 where
   pub low : ((c.opened +ℤ (pos 2 *ℤ ow)) +ℤ calc) ≤ℤ at
   pub high : at ≤ℤ ((c.end +ℤ (pos 2 *ℤ ow)) +ℤ calc)
 
-pub sent_by : {ow : ℤ} (calc : ℤ) {c : Cluster} (at : ℤ) → IsSpan ow c → at ≡ emission ow calc c → IsSentBy ow calc c at
+sent_by : {ow : ℤ} (calc : ℤ) {c : Cluster} (at : ℤ) → IsSpan ow c → at ≡ emission ow calc c → IsSentBy ow calc c at
 sent_by {ow} calc {c} at span is = by (middle_of (relative c.points)) span.low span.high is
   where
     by : (m : ℤ) → pos 0 ≤ℤ m → (c.opened +ℤ m) ≤ℤ c.end → at ≡ (((c.opened +ℤ (pos 2 *ℤ ow)) +ℤ calc) +ℤ m) → IsSentBy ow calc c at
@@ -226,7 +226,7 @@ kind_of (doing (correcting n)) = 2
 kind_of (doing (dispatching row n)) = 3
 
 -- what is due is of this kind or of one behind it
-abbrev pub AreFrom : Network → DeviceId → Moment → ℕ → Node → Type 0
+abbrev AreFrom : Network → DeviceId → Moment → ℕ → Node → Type 0
 AreFrom network device moment k node = (task : Task) → IsPending network device node task → reading_for network node task ≤ℤ moment.reading.0 → k ≤ kind_of task
 
 by_kind : (network : Network) (a b : Task) → kind_of a < kind_of b → IsBefore (order_of network a) (order_of network b)

@@ -222,7 +222,7 @@ due_shows v a reading precision whole reached late = record {
 not_less : (k m n : ℕ) → (IsBefore (k ∷ m ∷ []) (k ∷ n ∷ []) → ⊥) → n ≤ m
 not_less k m n none = elim (cases_lt m n) [ inl lt ↦ absurd (none (inr (refl, inl lt))) | inr ge ↦ ge ]
 
-pub row_order : {network : Network} (row : RowId) {entry : Entry} → IsEntry network row.0 entry
+row_order : {network : Network} (row : RowId) {entry : Entry} → IsEntry network row.0 entry
     → dispatch_order network row ≡ amount entry.row.offset ∷ entry.row.link.0 ∷ row.0 ∷ []
 row_order row is =
     rw is.row

@@ -253,7 +253,7 @@ pub record IsShownPair (network : Network) (hs : List Happening) (now : ℕ) (bo
       → ⊥
   pub shows : settled ≡ pair_put network hs now body mid device state why back
 
-pub first_of : (front back : List Happening) (p : List ℕ) → AllBefore place_of front p → ((z : Happening) → IsIn z (front ++ back) → IsBefore (place_of z) p → ⊥)
+first_of : (front back : List Happening) (p : List ℕ) → AllBefore place_of front p → ((z : Happening) → IsIn z (front ++ back) → IsBefore (place_of z) p → ⊥)
     → front ≡ []
 first_of [] back p before above = refl
 first_of (x ∷ front) back p before above = absurd (above x (inl refl) (before x (inl refl)))

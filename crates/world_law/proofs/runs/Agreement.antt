@@ -260,7 +260,7 @@ module _ (n : Network) (f g : DeviceId → ℕ → ℕ) (events more : List Even
       → Departs (scenario n g more) hs device u link cause is
   departs_same a le all x = grind (arith, sooner, time_of, hold_same, way_from, broken_same, departure_same)
 
-  pub dispatches_same : {link : LinkId} {cause : ℕ} {vl : VlId} {cycle : ℕ} → Agree n f g events more t → u ≤ t
+  dispatches_same : {link : LinkId} {cause : ℕ} {vl : VlId} {cycle : ℕ} → Agree n f g events more t → u ≤ t
       → Dispatches (scenario n f events) hs device u link cause vl cycle
       → Dispatches (scenario n g more) hs device u link cause vl cycle
   dispatches_same a le x = grind (arith, state_same, broken_same, reaches_same)

@@ -156,7 +156,7 @@ no_clock events others event time running order ends lt =
 module _ {n : Network} {f g : DeviceId → ℕ → ℕ} {events others : List Event} {event : Event} {mark : List ℕ}
     (may : MayFollow n f g events event others mark) {ps : List Happening} {y : Happening}
     (here : IsBefore (place_of y) mark) where
-  pub due_on : AllBefore place_of ps (place_of y) → IsDue (scenario n f events) ps y
+  due_on : AllBefore place_of ps (place_of y) → IsDue (scenario n f events) ps y
       → IsDue (scenario n g (events ++ event ∷ others)) ps y
   due_on before due = record {
     number = due.number;

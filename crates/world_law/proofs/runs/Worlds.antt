@@ -107,7 +107,7 @@ not_both other e o = e
 module _ {n : Network} {f g : DeviceId → ℕ → ℕ} {events : List Event} {event : Event} {mark : List ℕ}
     {ns : List Note} (may : MayBefall n f g events event mark ns) {ps : List Happening} {y : Happening} where
   -- what was due is due still
-  pub due_on : IsIn y (happenings n ns) → AllBefore place_of ps (place_of y) → IsDue (scenario n f events) ps y
+  due_on : IsIn y (happenings n ns) → AllBefore place_of ps (place_of y) → IsDue (scenario n f events) ps y
       → IsDue (scenario n g (events ++ event ∷ [])) ps y
   due_on there before due = record {
     number = due.number;

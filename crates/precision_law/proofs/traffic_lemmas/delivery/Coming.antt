@@ -284,7 +284,7 @@ record PutByRow (v : View) (h : Happening) (device : DeviceId) (link : LinkId) (
 module _ (a b : LinkId) (way turned : Way) (one two : Signal)
     (e : Some (put_on a way one) ≡ Some (put_on b turned two)) where
   -- the link of what is put
-  pub same_link : a ≡ b
+  same_link : a ≡ b
   same_link = ap (λ l. l.link) (same_some (Some (put_on a way one)) (put_on a way one)
       (put_on b turned two) refl e)
 

@@ -314,7 +314,7 @@ record ComesInTime (v : View) (vl : VlId) (cycle : ℕ) (device : DeviceId) : Ty
   pub is : delivery.note.body ≡ notes.Delivered device link cause vl cycle
 
 -- the frame that is owed comes
-pub comes_in_time : Brings → {v : View} {vl : VlId} {of_vl : VirtualLink} {cycle : ℕ} {device : DeviceId} {from last : ℕ}
+comes_in_time : Brings → {v : View} {vl : VlId} {of_vl : VirtualLink} {cycle : ℕ} {device : DeviceId} {from last : ℕ}
     → IsView v → FieldsFit v.scenario.network → HasGoodSources v vl → IsOwedIn v vl of_vl cycle device from last
     → ComesInTime v vl cycle device
 comes_in_time brings {v} {vl} {of_vl} {cycle} {device} {last} is fit sources owed =
@@ -461,7 +461,7 @@ reaches_in {v} {hs} {device} cycle place {t} is front le reaches =
     rw (cycle_is is) (reaches_by v.records (front.early t (omega arith)) reaches)
 
 -- the frame is sent in the view
-pub sent_in : Brings → {v : View} {hs : List Happening} {until : ℕ} {vl : VlId} {of_vl : VirtualLink} {cycle : ℕ}
+sent_in : Brings → {v : View} {hs : List Happening} {until : ℕ} {vl : VlId} {of_vl : VirtualLink} {cycle : ℕ}
     {device : DeviceId} → IsView v → IsFrontOf v hs → (owed : IsOwed v.scenario hs until vl of_vl cycle device)
     → owed.to ≡ v.until → IsReachedInSpan v cycle owed.last v.until → IsSentIn v vl of_vl cycle owed.last
 sent_in brings {v} {hs} {of_vl} {cycle} {device} is front owed end reached = record {

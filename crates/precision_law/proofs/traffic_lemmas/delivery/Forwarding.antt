@@ -167,7 +167,7 @@ pub record SaysSo (device : DeviceId) (vl : VlId) (cycle t : ℕ) (g : Happening
   pub by_then : time_of g ≤ t
 
 -- what was taken before is no later
-pub sooner : (at t : ℕ) (more : Bool) → (nat_lt at t || (at == t && more)) ≡ true → at ≤ t
+sooner : (at t : ℕ) (more : Bool) → (nat_lt at t || (at == t && more)) ≡ true → at ≤ t
 sooner at t more e = grind (arith, or_cases, nat_lt, ltb-true, eqb-true, and_parts)
 
 -- the id of a virtual link

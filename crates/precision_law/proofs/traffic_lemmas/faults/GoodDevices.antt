@@ -310,7 +310,7 @@ sorted_behind s ps (e ∷ es) within =
         ]
 
 -- an event before another is no later
-pub sorted_parts : (ps qs : List Event) (e f : Event) → AreSorted (ps ++ e ∷ qs) → IsIn f ps → f.time.0 ≤ℤ e.time.0
+sorted_parts : (ps qs : List Event) (e f : Event) → AreSorted (ps ++ e ∷ qs) → IsIn f ps → f.time.0 ≤ℤ e.time.0
 sorted_parts [] qs e f order i = absurd i
 sorted_parts (p ∷ ps) qs e f order (inl same) = rw same (order.0 e (in_middle ps))
   where

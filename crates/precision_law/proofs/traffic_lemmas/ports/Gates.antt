@@ -143,7 +143,7 @@ record IsPermanentRecord (device : DeviceId) (h : Happening) (reading : ℤ) : T
   pub reads : reading ≡ point.0
 
 -- the point that a test lets through
-pub made_of : (b : Bool) (point : Point) (o : Point) → (if b then Some point else None) ≡ Some o → (b ≡ true) × (point ≡ o)
+made_of : (b : Bool) (point : Point) (o : Point) → (if b then Some point else None) ≡ Some o → (b ≡ true) × (point ≡ o)
 made_of true point o e = (refl, cc)
 made_of false point o e = absurd cc
 
@@ -224,7 +224,7 @@ never_dropped reason judgements.Opened e = cc
 never_dropped reason other e = cc
 
 -- so a compression master has found no fault of it
-pub no_fault : (network : Network) (points : List Point) (point : Point) (o : Option Reason) (j : Judgement)
+no_fault : (network : Network) (points : List Point) (point : Point) (o : Option Reason) (j : Judgement)
     → IsCollectedOrDropped network points point o (ripe_as j) → o ≡ None
 no_fault network points point (Some reason) j c = absurd (never_dropped reason j c)
 no_fault network points point None j c = refl

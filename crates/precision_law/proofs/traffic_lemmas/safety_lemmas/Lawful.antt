@@ -87,7 +87,7 @@ lowest (notes.Event line what) lt = (line, what, refl)
 lowest other lt = absurd (omega arith)
 
 -- a place that is not before a time, but before the place behind its events, is of this time and of the lowest rank
-pub between : (at kind time : ℕ) (rest : List ℕ) → (IsBefore (at ∷ kind ∷ rest) (time ∷ []) → ⊥) → IsBefore (at ∷ kind ∷ rest) (time ∷ 2 ∷ [])
+between : (at kind time : ℕ) (rest : List ℕ) → (IsBefore (at ∷ kind ∷ rest) (time ∷ []) → ⊥) → IsBefore (at ∷ kind ∷ rest) (time ∷ 2 ∷ [])
     → (at ≡ time) × (kind < 2)
 between at kind time rest not (inl lt) = absurd (not (inl lt))
 between at kind time rest not (inr (same, inl lt)) = (same, lt)
@@ -165,7 +165,7 @@ in_order_behind network all front (e ∷ rest) last same within begun =
       in_order_behind network all (front ++ last ∷ []) rest e (same ∙ sym (append_assoc (front ++ last ∷ []) (e ∷ []) rest)) within begun,
     )
 
-pub in_order : (network : Network) (all : List Event) → AreWithinHypothesis network all → ((e : Event) → IsIn e all → pos 0 ≤ℤ e.time.0)
+in_order : (network : Network) (all : List Event) → AreWithinHypothesis network all → ((e : Event) → IsIn e all → pos 0 ≤ℤ e.time.0)
     → AreSlowInOrder network.rho 0 all
 in_order network [] within begun = tt
 in_order network (e ∷ es) within begun = (

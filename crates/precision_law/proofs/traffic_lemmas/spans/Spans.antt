@@ -165,7 +165,7 @@ synchronised_keep_time brings v n t span device is timed =
 -- ---- reaching
 
 -- a clock that was set before the block reaches the value in no other cycle
-pub same_cycle : {v : View} (n : ℕ) {k value t : ℕ} (block : IsInBlock v k t) {shown : ℤ} → IsView v → 1 ≤ n
+same_cycle : {v : View} (n : ℕ) {k value t : ℕ} (block : IsInBlock v k t) {shown : ℤ} → IsView v → 1 ≤ n
     → IsInSchedule v.sizes value → ShowsIn v.sizes shown k block.before.hull t
     → pos (n * v.sizes.cycle + value) ≤ℤ shown → shown ≤ℤ
     (pos (n * v.sizes.cycle + value) +ℤ pos (2 * v.sizes.grain)) → k ≡ n

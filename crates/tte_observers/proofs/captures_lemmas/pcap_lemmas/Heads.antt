@@ -28,7 +28,7 @@ judged_link big file v wrong = elim (eqb_tells (number big 4 20 file % 65536) et
   | inr e ↦ rw (v.0, v.1, e.0) refl
 ]
 
-opened_short : (file : List ℕ) → length file < head_length → opened file ≡ Err (Header (length file))
+pub opened_short : (file : List ℕ) → length file < head_length → opened file ≡ Err (Header (length file))
 unfolding opened
 opened_short file short = rw (lt-ltb (length file) head_length short) refl
 

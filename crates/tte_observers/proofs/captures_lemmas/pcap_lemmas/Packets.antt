@@ -102,7 +102,7 @@ module _ (head : CaptureHead) (file : List ℕ) where
   ]
 
   -- the octets fix the packet
-  pub packet_is : (at : ℕ) (p : Packet) → IsPacket head file at p → packet_of head file at (captured head file at) ≡ p
+  packet_is : (at : ℕ) (p : Packet) → IsPacket head file at p → packet_of head file at (captured head file at) ≡ p
   packet_is at p i =
       let behind : at + stamp_length + captured head file at ≡ p.to =
       ap (λ n. n + captured head file at) i.from ∙ i.to in

@@ -293,7 +293,7 @@ module _ (s : Scenario) (link : LinkId) where
 abbrev put_of : Option Launch → Option Signal
 put_of launch = option_map (λ (l : Launch). l.signal) launch
 
-abbrev pub line_of : ℕ → Option (List ℕ) → List (List ℕ)
+abbrev line_of : ℕ → Option (List ℕ) → List (List ℕ)
 line_of t octets = cons_option (option_map (packet_at t) octets) []
 
 -- the lines of what is found on the wire: none, or that of octets as they are spelt

@@ -83,7 +83,7 @@ of_locals granule network line device (Some l) shown =
 -- ---- what the events of a run tell at a line of its trace: the times of events
 
 -- none is before time 0
-pub begun : (s : Scenario) → IsLawful s → (event : Event) → IsIn event s.events → pos 0 ≤ℤ event.time.0
+begun : (s : Scenario) → IsLawful s → (event : Event) → IsIn event s.events → pos 0 ≤ℤ event.time.0
 begun s lawful event i = (All-contains IsEventInRange s.events event lawful.events (contains s.events event i)).time
 
 -- none is behind the last cycle

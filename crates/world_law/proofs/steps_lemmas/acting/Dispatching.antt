@@ -84,7 +84,7 @@ dispatches_it {s} {hs} {coming} other {now} {device} row {entry} {cause} {cycle}
 
 -- ---- its record
 
-pub second : List ℕ → ℕ
+second : List ℕ → ℕ
 second (a ∷ b ∷ more) = b
 second other = 0
 

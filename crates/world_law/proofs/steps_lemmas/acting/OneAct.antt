@@ -611,7 +611,7 @@ none_joined_by : (n : ℕ) (device : DeviceId) (heard : Ripe) → KeepsBy heard 
 none_joined_by n device ripe.Integrates k = absurd k
 none_joined_by n device other k = refl
 
-pub last_by : (device : DeviceId) (c : Compressed) (v : Judgement) → StaysBy v → is_last (kinds.Compressed device c.opened c.at c.cycle c.members v) ≡ true
+last_by : (device : DeviceId) (c : Compressed) (v : Judgement) → StaysBy v → is_last (kinds.Compressed device c.opened c.at c.cycle c.members v) ≡ true
 last_by device c judgements.Integrates s = absurd s
 last_by device c other s = refl
 

@@ -72,7 +72,7 @@ heard_anew s hs device u h lt it = grind (arith, nat_lt, time_of, changes_adjust
 
 -- ---- a correction
 
-pub beyond : (o : Option ℕ) (least cycle : ℕ) → least ≤ cycle → IfSome o (λ c. c ≤ least) → option_map_or (λ c. (cycle + 1) == c) o false ≡ false
+beyond : (o : Option ℕ) (least cycle : ℕ) → least ≤ cycle → IfSome o (λ c. c ≤ least) → option_map_or (λ c. (cycle + 1) == c) o false ≡ false
 beyond None least cycle le h = refl
 beyond (Some c) least cycle le h = ne_eqb (cycle + 1) c (λ e. omega arith)
 

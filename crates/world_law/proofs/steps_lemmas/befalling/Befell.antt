@@ -520,7 +520,7 @@ module _ {s : Scenario} {hs : List Happening} {now : ℕ} where
   late_body (IsOutcome.turning d n line h sound it is) = (7, d.0 ∷ n ∷ [], refl, omega arith)
   late_body (IsOutcome.losing d link n it) = (9, d.0 ∷ link.0 ∷ n ∷ [], refl, omega arith)
 
-  pub not_at_source : {body : NoteBody} → IsOutcome s hs now body → is_at_source body ≡ false
+  not_at_source : {body : NoteBody} → IsOutcome s hs now body → is_at_source body ≡ false
   not_at_source (IsOutcome.turning d n line h sound it is) = refl
   not_at_source (IsOutcome.losing d link n it) = refl
 
@@ -539,7 +539,7 @@ behind_two : (now r : ℕ) (more : List ℕ) → 7 ≤ r → IsBefore (behind (n
 behind_two now r more high = inr (refl, inl (omega arith))
 
 -- none of them is before the place behind the events
-pub not_yet : (s : Scenario) {hs : List Happening} {now : ℕ} {z : Happening} → IsOne s hs now z
+not_yet : (s : Scenario) {hs : List Happening} {now : ℕ} {z : Happening} → IsOne s hs now z
     → IsBefore (place_of z) (behind (now ∷ 2 ∷ [])) → ⊥
 not_yet s {hs} {now} {z} it b =
     search (arith, late_place, behind, never_self, chain, behind_two)

@@ -40,7 +40,7 @@ at_two : (device : DeviceId) (link : LinkId) (cause : ℕ) (is : Arrival) → 2 
 at_two device link cause (arrivals.Dropped reason) = omega arith
 at_two device link cause other = omega arith
 
-pub low_rank : (b : Bool) → (if b then 12 else 11) ≤ 13
+low_rank : (b : Bool) → (if b then 12 else 11) ≤ 13
 low_rank true = omega arith
 low_rank false = omega arith
 
@@ -274,7 +274,7 @@ at_least_low : (b : Bool) (r : ℕ) → (if b then 12 else 11) ≤ r → 11 ≤ 
 at_least_low true r le = omega arith
 at_least_low false r le = le
 
-abbrev pub IsApart : DeviceId → NoteBody → Type 0
+abbrev IsApart : DeviceId → NoteBody → Type 0
 IsApart device (notes.Accepted other by from vl cycle) = (device.0 == other.0) ≡ false
 IsApart device (notes.Delivered other by from vl cycle) = (device.0 == other.0) ≡ false
 IsApart device other = Unit {0}
@@ -554,7 +554,7 @@ plain_there {stands} {s} {hs} {front} {back} {now} e heard {w} quiet at none k i
     (inl (kept_called stands heard arriving on (after_here s now e)))
 
 -- no place behind it, and before what acts, is before the frontier
-pub not_over : (now d : ℕ) (more : List ℕ) → IsBefore (now ∷ 2 ∷ (d + 1) ∷ []) (now ∷ 2 ∷ d ∷ more) → ⊥
+not_over : (now d : ℕ) (more : List ℕ) → IsBefore (now ∷ 2 ∷ (d + 1) ∷ []) (now ∷ 2 ∷ d ∷ more) → ⊥
 not_over now d more (inl lt) = omega arith
 not_over now d more (inr (e, inl lt)) = omega arith
 not_over now d more (inr (e, inr (f, inl lt))) = omega arith

@@ -130,7 +130,7 @@ pub record ComesAs (s : Scenario) (js : List Happening) (now : ℕ) (e : OnWire)
 
 module _ (s : Scenario) (js : List Happening) {now : ℕ} (e : OnWire) {t : ℕ} (members : ℕ) (device : DeviceId)
     (link : LinkId) {cause : ℕ} where
-  pub comes : (body : NoteBody) {is : Arrival} → now ∷ 2 ∷ e.device.0 ∷ e.link.0 ∷ e.cause ∷ [] ≡ t ∷ 2 ∷ device.0
+  comes : (body : NoteBody) {is : Arrival} → now ∷ 2 ∷ e.device.0 ∷ e.link.0 ∷ e.cause ∷ [] ≡ t ∷ 2 ∷ device.0
       ∷ link.0 ∷ cause ∷ [] → ArrivesAs s js device t link cause is
       → rank (arrival_body e.device e.link e.cause is) ≡ rank body
       → device.0 ∷ link.0 ∷ cause ∷ [] ≡ key members body → ComesAs s js now e t members body
@@ -190,7 +190,7 @@ behind_here : {now t r : ℕ} (more : List ℕ) {ws w : List ℕ} → now ≡ t 
     (now ∷ 2 ∷ more) w
 behind_here more e lt is = rw is (inr (e, inl lt))
 
-abbrev pub first_of : List ℕ → ℕ
+abbrev first_of : List ℕ → ℕ
 first_of [] = 0
 first_of (a ∷ more) = a
 
@@ -459,7 +459,7 @@ timed_off : (network : Network) (device : DeviceId) (link : LinkId) (p : Standpo
     → timed_arrival network device link p octets last ≡ arrivals.Dropped reasons.Off
 timed_off network device link p octets last e = grind (arith, octets_or_fault, octets_fault, first_off, nat_lt, field, not, is_synchronised)
 
-pub no_part : (a b : Bool) → b ≡ true → (a && not b) ≡ false
+no_part : (a b : Bool) → b ≡ true → (a && not b) ≡ false
 no_part true b e = ap not e
 no_part false b e = refl
 
@@ -518,7 +518,7 @@ last_step device vl at o p h (kinds.Delivered other by from of_vl cycle) is same
     (flips of_vl.0 vl.0)
 last_step device vl at o p h other is same = same
 
-pub last_by : (device : DeviceId) (vl : VlId) (at : ℕ → ℤ) (hs : List Happening) (o : Option TakenFrame) (p : Option Happening) → cycle_of o ≡ cycle_by p
+last_by : (device : DeviceId) (vl : VlId) (at : ℕ → ℤ) (hs : List Happening) (o : Option TakenFrame) (p : Option Happening) → cycle_of o ≡ cycle_by p
     → cycle_of (last_or o (filter (λ taking. taking.vl.0 == vl.0) (taken_by device at hs)))
     ≡ cycle_by (last_or p (filter (λ h. is_taking device vl h.note.body) hs))
 last_by device vl at [] o p same = same

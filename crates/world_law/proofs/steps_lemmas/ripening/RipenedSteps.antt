@@ -139,7 +139,7 @@ place_drop : {t : ℕ} (m : ℕ) {now d l c : ℕ} (body : NoteBody) → now ∷
 place_drop m (kinds.Dropped device link cause reason) e = (device, link, cause, reason, refl, cc, cc, cc)
 place_drop m other e = absurd (grind arith)
 
-pub same_place : {s : Scenario} {js : List Happening} {t : ℕ} {device : DeviceId} {link : LinkId} {cause : ℕ} {a b : Pcf}
+same_place : {s : Scenario} {js : List Happening} {t : ℕ} {device : DeviceId} {link : LinkId} {cause : ℕ} {a b : Pcf}
     {p q : Units} → IsPermanent s js device t link cause a p → IsPermanent s js device t link cause b q
     → (a ≡ b) × (p ≡ q)
 same_place x y = grind (arith, some_same)
@@ -298,7 +298,7 @@ frame_is {hs} front {e} r =
     r.it.awaited.of_frame
 
 module _ {s : Scenario} {hs coming : List Happening} {now : ℕ} {e : Waiting} where
-  pub few_cause : IsRipe s hs coming now e → e.cause ≤ length hs
+  few_cause : IsRipe s hs coming now e → e.cause ≤ length hs
   few_cause r = let lt = numbered_within hs e.cause r.it.arrival r.it.there in omega arith
 
   permanent_in : (r : IsRipe s hs coming now e) (f : List Happening)
@@ -323,7 +323,7 @@ role_by false judgements.Integrates kind last = absurd cc
 role_by false judgements.Ignored kind last = tt
 role_by by_cm verdict kind last = absurd kind
 
-pub last_by : (device : DeviceId) (link : LinkId) (cause : ℕ) (point : Units) (verdict : Judgement)
+last_by : (device : DeviceId) (link : LinkId) (cause : ℕ) (point : Units) (verdict : Judgement)
     → is_last (kinds.Permanent (record { 0 = 0 }) (record { 0 = 0 }) 0 (record { 0 = pos 0 }) verdict) ≡ true
     → is_last (kinds.Permanent device link cause point verdict) ≡ true
 last_by device link cause point judgements.Integrates e = absurd cc

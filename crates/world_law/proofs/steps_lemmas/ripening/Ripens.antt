@@ -208,7 +208,7 @@ IsByRole false judgements.Outside = Unit {0}
 IsByRole false judgements.Ignored = Unit {0}
 IsByRole cm other = ⊥
 
-pub heard_so : (network : Network) (device : DeviceId) (link : LinkId) (cause : ℕ) (point : Units) (w : Happening) (frame : Pcf) (within : Bool)
+heard_so : (network : Network) (device : DeviceId) (link : LinkId) (cause : ℕ) (point : Units) (w : Happening) (frame : Pcf) (within : Bool)
     → w.frame ≡ Some frame → hearings (channel_of_link network link) frame.cycle frame.members point within
     ≡ option_to_list (if device.0 == device.0 then option_map (λ channel. heard_by channel w point within) (channel_of_link network link) else None)
 heard_so network device link cause point w frame within of_frame =

@@ -163,7 +163,7 @@ module _ (network : Network) (device : DeviceId) (node : Node) where
   pub itself : HasNoMore network device node node
   itself = grind arith
 
-  pub no_deed : (deed : ClockTask) → IsDeedOf network device (node_turned_on node) deed
+  no_deed : (deed : ClockTask) → IsDeedOf network device (node_turned_on node) deed
       → IsDeedOf network device node deed
   no_deed (sending cycle) own = absurd (let bad = own.1 in cc)
   no_deed (correcting cycle) own = absurd (let bad = own in cc)
@@ -593,7 +593,7 @@ no_coming hs (z ∷ coming) s frontier now are early =
 -- ---- the step
 
 -- octets are sent by an end system
-pub sent_by : (s : Scenario) (hs : List Happening) (now : ℕ) (what : What) (link : LinkId) (octets : List ℕ) → FitsWorld s hs now what
+sent_by : (s : Scenario) (hs : List Happening) (now : ℕ) (what : What) (link : LinkId) (octets : List ℕ) → FitsWorld s hs now what
     → what ≡ events.Send link octets → IsFromEnd s.network link
 sent_by s hs now what link octets may is = subst (FitsWorld s hs now) is may
 

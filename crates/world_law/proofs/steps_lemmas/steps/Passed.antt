@@ -29,7 +29,7 @@ use Rattle.run_law.specs.declared.note.NoteBody.TheVariants as kinds
 -- ---- a fresh world stands for the run of no records under no events
 
 -- nothing of the run is before the first source
-pub low_rank : (t k : ℕ) (ws : List ℕ) → 1 ≤ k → IsBefore (t ∷ k ∷ ws) (0 ∷ 1 ∷ []) → ⊥
+low_rank : (t k : ℕ) (ws : List ℕ) → 1 ≤ k → IsBefore (t ∷ k ∷ ws) (0 ∷ 1 ∷ []) → ⊥
 low_rank t k ws one (inl lt) = absurd (omega arith)
 low_rank t k ws one (inr (e, inl lt)) = absurd (omega arith)
 low_rank t k ws one (inr (e, inr (f, b))) = b
@@ -46,7 +46,7 @@ left_fresh : (network : Network) (f : DeviceId → ℕ → ℕ) (device : Device
     → IsLeft (scenario network f []) [] device t (begun_node network device)
 left_fresh network f device t zero_first = grind (arith, begins_at)
 
-pub in_time : {r : ℕ} (v a precision : ℤ) → r ≡ 0 → a <ℤ v → pos 0 ≤ℤ precision → pos r <ℤ ((v -ℤ a) +ℤ precision)
+in_time : {r : ℕ} (v a precision : ℤ) → r ≡ 0 → a <ℤ v → pos 0 ≤ℤ precision → pos r <ℤ ((v -ℤ a) +ℤ precision)
 in_time v a precision e lt le = omega (arith, ints)
 
 ahead_time : {r : ℕ} (network : Network) (device : DeviceId) (task : Task) → r ≡ 0 → pos 0 ≤ℤ network.precision.0

@@ -76,7 +76,7 @@ reach_most n m a le = amount_least n (pos m +ℤ a) (omega (arith, ints))
 
 -- ---- causes
 
-pub part : {X : Type 0} (ms more : List X) (n : ℕ) (x : X) → slice_get (ms ++ more) n ≡ Some x → (IsIn x ms × (n < length ms)) ⊎ IsIn x more
+part : {X : Type 0} (ms more : List X) (n : ℕ) (x : X) → slice_get (ms ++ more) n ≡ Some x → (IsIn x ms × (n < length ms)) ⊎ IsIn x more
 part [] more n x e = inr (in_at more n x e)
 part (m ∷ ms) more zero x e = (inl (inl cc, omega arith))
 part (m ∷ ms) more (suc n) x e = grind (arith, (part ms more n x e))
@@ -286,7 +286,7 @@ module _ (s : Scenario) (t r : ℕ) (ms more : List Happening) (recent : (x : Ha
       let heavy = in_total (weight s) ms d.giving old.0 in
       (omega (arith, by.device_is), (omega (arith, by.link_in), (omega (arith, old.1), tt)))
 
-  pub arrives : (device : DeviceId) (link : LinkId) (cause : ℕ) (is : Arrival) → (r ≡ 1 → ⊥) → (r ≡ 8 → ⊥) → (r ≡ 10 → ⊥)
+  arrives : (device : DeviceId) (link : LinkId) (cause : ℕ) (is : Arrival) → (r ≡ 1 → ⊥) → (r ≡ 8 → ⊥) → (r ≡ 10 → ⊥)
       → ArrivesAs s (ms ++ more) device t link cause is → IsSized 3 limit (device.0 ∷ link.0 ∷ cause ∷ [])
   unfolding bound
   arrives device link cause is one eight ten a =

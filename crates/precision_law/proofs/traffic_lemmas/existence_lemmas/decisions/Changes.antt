@@ -151,7 +151,7 @@ is_end other = inr (λ e. cc)
 end_at : (t : ℕ) → Event
 end_at t = record { time = units_of t; what = End }
 
-pub same_end : (t : ℕ) (event : Event) → IsDecided (event ≡ end_at t)
+same_end : (t : ℕ) (event : Event) → IsDecided (event ≡ end_at t)
 unfolding end_at
 same_end t event = grind (arith, decided_by, decided_and, same_int, is_end)
 

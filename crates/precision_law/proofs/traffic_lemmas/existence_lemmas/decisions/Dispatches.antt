@@ -294,7 +294,7 @@ tt_sent_decided s hs t ks =
 abbrev SendsOn : LinkId → NoteBody → Type 0
 SendsOn link body = (line : ℕ) × (octets : List ℕ) × (body ≡ notes.Event line (Send link octets))
 
-pub sends_on : (link : LinkId) (body : NoteBody) → IsDecided (SendsOn link body)
+sends_on : (link : LinkId) (body : NoteBody) → IsDecided (SendsOn link body)
 sends_on link (notes.Event line (Send other octets)) =
     decided_by (λ e. (line, octets, rw e)) (λ h. cc) (same_link other link)
 sends_on link other = inr (λ h. cc)
@@ -358,7 +358,7 @@ module _ (s : Scenario) (hs : List Happening) (device : DeviceId) (t : ℕ) (lin
           → (vl : VlId) × (cycle : ℕ) × Dispatches s hs device t link cause vl cycle × (is_cut s link (way_from s.network device link) t ≡ true)
       there h = (h.0.0, h.0.1, h.0.2, h.1)
 
-abbrev pub HasLost : Scenario → List Happening → ℕ → ℕ → ℕ → ℕ → Type 0
+abbrev HasLost : Scenario → List Happening → ℕ → ℕ → ℕ → ℕ → Type 0
 HasLost s hs t d l cause = IsLost s hs (record { 0 = d }) t (record { 0 = l }) cause
 
 pub lost_decided : (s : Scenario) → 1 ≤ amount s.network.cycle → (hs : List Happening) (t : ℕ) (ks : List ℕ) → IsDecided (HasCaused s hs t 9 ks)

@@ -137,7 +137,7 @@ caused s hs t body is = (body, record { caused = is; ranked = refl; keyed = refl
 
 -- ---- from bodies to records, and back
 
-pub due_there : {s : Scenario} {hs : List Happening} {t r : ℕ} {ks : List ℕ} → HasCaused s hs t r ks
+due_there : {s : Scenario} {hs : List Happening} {t r : ℕ} {ks : List ℕ} → HasCaused s hs t r ks
     → HasDue place_of (IsDue s) hs (t ∷ r ∷ ks)
 due_there {s} {hs} {t} {r} has =
     let body = has.0 in
@@ -563,7 +563,7 @@ point_from : Scenario → Happening → DeviceId → ℕ → Units
 point_from s g device clock = record { 0 = point_of (pos (s.reading device (time_of g))) clock s.network.dmax.0 }
 
 -- the device waits for the frame, and its reading is first at least the frame's point
-abbrev pub IsReady : Scenario → Happening → DeviceId → ℕ → LinkId → ℕ → Type 0
+abbrev IsReady : Scenario → Happening → DeviceId → ℕ → LinkId → ℕ → Type 0
 IsReady s g device t link clock =
     (waits_for s.network device link ≡ true)
     × (IsReach (s.reading device) (pos (time_of g)) (point_from s g device clock).0 (pos t) × (is_broken s device t ≡ false))

@@ -103,7 +103,7 @@ the_vl = record {
 only_vl : (P : ℕ → VirtualLink → Type 0) → P 0 the_vl → (place : ℕ) (vl : VirtualLink) → slice_get worked.vl place ≡ Some vl → P place vl
 only_vl P own place vl at = at_place P worked.vl (own, tt) place vl at
 
-pub one_vl : (k place : ℕ) (earlier vl : VirtualLink) → k < place → slice_get worked.vl place ≡ Some vl → ⊥
+one_vl : (k place : ℕ) (earlier vl : VirtualLink) → k < place → slice_get worked.vl place ≡ Some vl → ⊥
 one_vl k place earlier vl lt at = only_vl (λ n v. k < n → ⊥) (λ lt. omega arith) place vl at lt
 
 pub vl_names_differ : (place : ℕ) → VlNameIsNew worked place
@@ -382,7 +382,7 @@ precision_fits = record { errors = λ beta is. precise beta (low_beta beta is); 
 pub correction_fits : CorrectionFits worked
 correction_fits = leb-true 17104896000 18350080000 refl
 
-pub begins : 26261585920 ≤ 26542080000
+begins : 26261585920 ≤ 26542080000
 begins = leb-true 26261585920 26542080000 refl
 
 pub schedule_fits : ScheduleFits worked
@@ -434,7 +434,7 @@ abbrev pub relay_of : Channel → ℕ
 relay_of A = 5
 relay_of B = 7
 
-pub cm_is : (c : Channel) (n : ℕ) → IsCmOf worked c (record { 0 = n }) → n ≡ cm_of c
+cm_is : (c : Channel) (n : ℕ) → IsCmOf worked c (record { 0 = n }) → n ≡ cm_of c
 cm_is A n it = grind (arith, some_place)
 cm_is B n it = grind (arith, some_place)
 
@@ -445,7 +445,7 @@ cm_there : (c : Channel) → IsCmOf worked c (record { 0 = cm_of c })
 cm_there A = (refl, refl)
 cm_there B = (refl, refl)
 
-pub one_cm : (c : Channel) → ExactlyOne (IsCmOf worked c)
+one_cm : (c : Channel) → ExactlyOne (IsCmOf worked c)
 one_cm c = (record { 0 = cm_of c }, cm_there c, λ y has. device_is y (cm_of c) (cm_is c y.0 has))
 
 pub cms_kept : (part : ℕ) → HasOneCm worked part
@@ -657,11 +657,11 @@ within low high n least most = grind (arith, leb-true, ints)
 name_of : (text : List ℕ) → nat_le 1 (length text) ≡ true → nat_le (length text) 16 ≡ true → list_all is_name_character text ≡ true → IsNameText text
 name_of text some short plain = record { some = leb-true 1 (length text) some; short = leb-true (length text) 16 short; plain = plain }
 
-pub device_in : (d : Device) → IsNameText d.name → is_some d.member ≡ is_master d.role → IfSome d.member (λ m. m ≤ 31)
+device_in : (d : Device) → IsNameText d.name → is_some d.member ≡ is_master d.role → IfSome d.member (λ m. m ≤ 31)
     → is_some d.channel ≡ not (is_end_system d.role) → d.start ≡ Some (units_of 0) → IsDeviceInRange d
 device_in d name masters member switches start = grind (arith, within)
 
-pub link_in : {text : List ℕ} (child parent : ℕ) → IsNameText text → nat_le (child + 1) 9 ≡ true
+link_in : {text : List ℕ} (child parent : ℕ) → IsNameText text → nat_le (child + 1) 9 ≡ true
     → nat_le (parent + 1) 9 ≡ true → IsLinkInRange worked (link_of text child parent)
 link_in child parent name few_child few_parent = grind (arith, leb-true, within)
 
