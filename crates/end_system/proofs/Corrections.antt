@@ -112,7 +112,7 @@ module _ (network : Network) (device : DeviceId) (s : Standing) (changed : ℤ) 
 
 -- ---- a sending
 
-pub cycle_whole : {network : Network} {device : DeviceId} {own : Own} → IsOwnOf network device own
+cycle_whole : {network : Network} {device : DeviceId} {own : Own} → IsOwnOf network device own
     → own.plan.cycle_length.0 ≡ pos (amount network.cycle)
 cycle_whole {network} is =
     ap (λ (p : _). p.cycle_length.0) is.plan ∙ from_zero _ network.cycle.0 is.in_range.cycle.least
@@ -277,7 +277,7 @@ module _ (network : Network) (device : DeviceId) (own : Own) (s : Standing) wher
       (expected_is s.plan s.number is plan) (expected_is s.plan frame.cycle is plan) h.from h.to h.low h.high in
       record { difference = near.0; deviation = near.1 }
 
-  pub best_near : (o : Option HeardFrame) → IsOwnOf network device own → s.plan ≡ end_plan network
+  best_near : (o : Option HeardFrame) → IsOwnOf network device own → s.plan ≡ end_plan network
       → s.number ≤ 2 ^ 20 + 2 ^ 17 + 2 → IfSome o (IsHeardSo network s) → IfSome o (IsNear s)
   best_near None is plan bound h = tt
   best_near (Some frame) is plan bound h = heard_near is plan bound h
@@ -323,7 +323,7 @@ correction_back p None (Some b) by e ha hb = subst (λ (u : Units). pos 0 ≤ℤ
 correction_back p (Some a) (Some b) by e ha hb =
     subst (λ (u : Units). pos 0 ≤ℤ (u.0 +ℤ pos p)) (same_Some _ _ e) (mean_back p (mean_of-floor a.0 b.0) ha hb)
 
-pub corrected_back : {network : Network} {device : DeviceId} {own : Own} {s : Standing} {heard : Summary}
+corrected_back : {network : Network} {device : DeviceId} {own : Own} {s : Standing} {heard : Summary}
     (by : Units) → IsOwnOf network device own → s.plan ≡ end_plan network → 2 ^ 20 + 2 ^ 17 ≤ s.number
     → AreHeardSo network s heard → HasVerdict s heard (Corrected by)
     → pos 0 ≤ℤ (by.0 +ℤ pos (amount network.precision))
@@ -332,7 +332,7 @@ corrected_back {network} {s} {heard} by is plan late h verdict =
     (deviation_back s heard.best_a is plan late h.a) (deviation_back s heard.best_b is plan late h.b)
 
 -- nothing qualifies where nothing was heard
-pub none_qualifies : (s : Standing) (heard : Summary) (by : Units) → heard.best_a ≡ None → heard.best_b ≡ None → HasVerdict s heard (Corrected by) → ⊥
+none_qualifies : (s : Standing) (heard : Summary) (by : Units) → heard.best_a ≡ None → heard.best_b ≡ None → HasVerdict s heard (Corrected by) → ⊥
 none_qualifies s heard by a b verdict = grind arith
 
 -- ---- a correction point of an end system: what the correction may rely on

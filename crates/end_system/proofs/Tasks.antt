@@ -30,7 +30,7 @@ module _ (network : Network) (device : DeviceId) (node : Node) where
       → Leaves network device row cycle
   leaves_by end h = grind (arith, not_both)
 
-  pub ahead_task : {own : Own} (task : Task) → IsOwnOf network device own → IsPending network device node task
+  ahead_task : {own : Own} (task : Task) → IsOwnOf network device own → IsPending network device node task
       → IsAheadTask network device node task
   ahead_task (emitting sent) is p = absurd (not_both _ p.1.cm is.no_cm)
   ahead_task {own} (doing (sending cycle)) is p = record { own = p.1.own; ahead = p.1.ahead; not_yet = p.1.not_yet }
@@ -253,14 +253,14 @@ NoSendingDue agenda reading = IfSome agenda.sending (λ next. reading <ℤ next.
 
 module _ {network : Network} {device : DeviceId} (node : Node) {agenda : Agenda} (reading : ℤ) (cycle : ℕ)
     (a : IsAgenda network device node.standing node.changed node.done agenda) where
-  pub no_sending : NoSendingDue agenda reading → IsAhead network device node.standing node.changed node.done
+  no_sending : NoSendingDue agenda reading → IsAhead network device node.standing node.changed node.done
       (sending cycle) → (value_of network (sending cycle) -ℤ node.standing.adjustment.0) ≤ℤ reading → ⊥
   no_sending none h here =
       let t = some_and agenda.sending _ _ (sending_some network device node.standing node.changed node.done
       agenda.sending cycle a.sending h) none in
       le_lt_trans reading _ _ reading t.1.1 t.1.0 here
 
-  pub no_correction : IfSome agenda.correction (λ next. reading <ℤ next.at.0)
+  no_correction : IfSome agenda.correction (λ next. reading <ℤ next.at.0)
       → IsAhead network device node.standing node.changed node.done (correcting cycle)
       → (value_of network (correcting cycle) -ℤ node.standing.adjustment.0) ≤ℤ reading → ⊥
   no_correction none h here =

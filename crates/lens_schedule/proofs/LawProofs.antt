@@ -143,7 +143,7 @@ module _ (network : Network) (channel : Channel) where
   twigs_at_once n ts us unique tree (inr (not, same)) (inr (other, there)) = same ∙ sym there
 
   -- a channel has one tree
-  pub twigs_once : (n : ℕ) (ts us : List Twig) → PathsAreUnique → IsTree network → AreTwigsBelow network channel n ts
+  twigs_once : (n : ℕ) (ts us : List Twig) → PathsAreUnique → IsTree network → AreTwigsBelow network channel n ts
       → AreTwigsBelow network channel n us → ts ≡ us
   twigs_once zero ts us unique tree none empty = none ∙ sym empty
   twigs_once (suc n) ts us unique tree (before, last, are, is, same) (front, rest, have, its, there) =

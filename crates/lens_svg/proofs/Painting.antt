@@ -92,13 +92,13 @@ module _ (view : View) (note : Note) where
   abbrev its_side : Side
   its_side = side_of view.span (moment note)
 
-  pub drawn_before : side_in view note ≡ Before → moment note < view.span.from
+  drawn_before : side_in view note ≡ Before → moment note < view.span.from
   drawn_before e = before_from view.span (moment note) (kept_before is_one its_side e)
 
   pub drawn_within : side_in view note ≡ Within → (view.span.from ≤ moment note) × (moment note ≤ view.span.to)
   drawn_within e = within_both view.span (moment note) (kept_within is_one its_side e).0
 
-  pub drawn_kept : side_in view note ≡ Within → is_kept view.kept note.number ≡ true
+  drawn_kept : side_in view note ≡ Within → is_kept view.kept note.number ≡ true
   drawn_kept e = (kept_within is_one its_side e).1
 
   pub drawn_behind : side_in view note ≡ Behind → view.span.to < moment note
@@ -110,7 +110,7 @@ module _ (view : View) (note : Note) where
   passed_by (inl both) = ((within_both view.span (moment note) both.0).0, both.1)
   passed_by (inr e) = absurd (never_passed (nat_lt (moment note) view.span.from) (nat_lt view.span.to (moment note)) e)
 
-  pub passed_over : side_in view note ≡ Passed → (view.span.from ≤ moment note) × (is_kept view.kept note.number ≡ false)
+  passed_over : side_in view note ≡ Passed → (view.span.from ≤ moment note) × (is_kept view.kept note.number ≡ false)
   passed_over e = passed_by (kept_passed is_one its_side e)
 
 -- ---- marks are records

@@ -205,7 +205,7 @@ value_is {network} {of} cycle is =
     ap (λ n. pos (cycle * amount network.cycle + n)) offset
 
 -- what is held of a taking
-pub held_so : (length : ℕ) (of : SwitchRow) (cycle : ℕ) (at : ℤ) (h : Held) → held_by length of cycle at ≡ Some h
+held_so : (length : ℕ) (of : SwitchRow) (cycle : ℕ) (at : ℤ) (h : Held) → held_by length of cycle at ≡ Some h
     → (h ≡ held_in length of cycle) × (is_dispatch_in of cycle ≡ true) × (at <ℤ value_in length of cycle)
 held_so length of cycle at h e = elim (cases_Bool (is_dispatch_in of cycle && int_lt at (value_in length of cycle))) [
   | inl y ↦
@@ -215,7 +215,7 @@ held_so length of cycle at h e = elim (cases_Bool (is_dispatch_in of cycle && in
   | inr n ↦ absurd (let f : None ≡ Some h = rw n at e in cc)
 ]
 
-pub held_of : (length : ℕ) (of : SwitchRow) (cycle : ℕ) (at : ℤ) → is_dispatch_in of cycle ≡ true → at <ℤ value_in length of cycle
+held_of : (length : ℕ) (of : SwitchRow) (cycle : ℕ) (at : ℤ) → is_dispatch_in of cycle ≡ true → at <ℤ value_in length of cycle
     → held_by length of cycle at ≡ Some (held_in length of cycle)
 held_of length of cycle at occurs lt =
     let y : (is_dispatch_in of cycle && int_lt at (value_in length of cycle)) ≡ true = and_from _ _ occurs (int_lt-from _ _ lt) in rw y refl
@@ -252,7 +252,7 @@ departure_kept {network} {taken} t changed {d} false e fits is = record {
   fit = is.fit;
 }
 
-pub departs_taken : {network : Network} {device : DeviceId} {old new : Departures} {taken : List TakenFrame}
+departs_taken : {network : Network} {device : DeviceId} {old new : Departures} {taken : List TakenFrame}
     (t : TakenFrame) (changed : ℤ) → t.cycle * amount network.cycle ≤ 2 ^ 62
     → Changes (taken_as (amount network.cycle) changed t) old new → HasDepartures network device old taken
     → HasDepartures network device new (taken ++ t ∷ [])
@@ -285,7 +285,7 @@ awaits_kept {network} t changed x done d true passed le is h held =
       λ f. opened_by changed o held f.is f.ahead,
     )
 
-pub awaits_taken : (state : State) {network : Network} {device : DeviceId} {old new : Departures}
+awaits_taken : (state : State) {network : Network} {device : DeviceId} {old new : Departures}
     {taken : List TakenFrame} (t : TakenFrame) (adjustment changed x : ℤ) (done : List ClockTask)
     → state ≡ Synchronised → HasDepartures network device old taken
     → Changes (taken_as (amount network.cycle) changed t) old new → KnowsNext adjustment new

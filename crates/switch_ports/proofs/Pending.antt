@@ -68,7 +68,7 @@ opened_before ow (o ∷ ps) (k ∷ done) rest d c some are before at = elim (in_
 ]
 
 -- a cluster that was not sent waits
-pub waits : {v : Collecting} {points : List Point} {emitted : List Compressed} (clusters : List Cluster)
+waits : {v : Collecting} {points : List Point} {emitted : List Compressed} (clusters : List Cluster)
     (c : Cluster) → StandsForPoints v points emitted → AreClusters v.ow points clusters → Contains clusters c
     → (Contains emitted (compressed v.ow v.calc c) → ⊥) → Contains v.waiting c
 waits {v} {points} clusters c st are at not_yet =
@@ -84,7 +84,7 @@ not_less : (x : ℤ) → x <ℤ x → ⊥
 not_less x h = omega (arith, ints, h)
 
 -- what waits was not sent
-pub unsent : {v : Collecting} {points : List Point} {emitted : List Compressed} (c : Cluster) → pos 0 ≤ℤ v.ow
+unsent : {v : Collecting} {points : List Point} {emitted : List Compressed} (c : Cluster) → pos 0 ≤ℤ v.ow
     → StandsForPoints v points emitted → Contains v.waiting c → Contains emitted (compressed v.ow v.calc c) → ⊥
 unsent {v} {points} c some st at sent =
     let was = in_map (compressed v.ow v.calc) st.done (compressed v.ow v.calc c)
@@ -204,7 +204,7 @@ correction_pending {network} {node} at st e =
       d.1,
     )
 
-pub pending_correction : {s : Switch} {network : Network} {device : DeviceId} {node : Node} (cycle : ℕ)
+pending_correction : {s : Switch} {network : Network} {device : DeviceId} {node : Node} (cycle : ℕ)
     → StandsAs s network device node → IsPending network device node (doing (correcting cycle))
     → (next_point node.standing ≡ Some cycle) × (s.corrects_at
     ≡ Some (record { 0 = correction_value network cycle -ℤ node.standing.adjustment.0 }))
@@ -256,7 +256,7 @@ correction_is network device node (doing (dispatching row cycle)) p = absurd p
 
 -- ---- collections by their readings
 
-pub emission_at : (s : Switch) (c : Cluster) → Contains s.collector.waiting c → Contains (emissions s.collector) (emission s.collector.ow s.collector.calc c)
+emission_at : (s : Switch) (c : Cluster) → Contains s.collector.waiting c → Contains (emissions s.collector) (emission s.collector.ow s.collector.calc c)
 emission_at s c at = to_map (emission s.collector.ow s.collector.calc) s.collector.waiting c at
 
 no_emission : (s : Switch) (task : Task) → s.collector.waiting ≡ [] → IsEmission s task → ⊥
@@ -272,14 +272,14 @@ module _ (s : Switch) (network : Network) where
       (All-contains (λ x. at.0 ≤ℤ x) (emissions s.collector) (emission s.collector.ow s.collector.calc c)
       least.bound (emission_at s c there))
 
-  pub no_correction : {device : DeviceId} {node : Node} (task : Task) → StandsAs s network device node
+  no_correction : {device : DeviceId} {node : Node} (task : Task) → StandsAs s network device node
       → s.corrects_at ≡ None → IsCorrection network device node task → ⊥
   no_correction (doing (correcting cycle)) st e p = let f = sym e ∙ (pending_correction cycle st p).1 in cc
   no_correction (emitting sent) st e p = p
   no_correction (doing (sending cycle)) st e p = p
   no_correction (doing (dispatching row cycle)) st e p = p
 
-  pub correction_bound : {device : DeviceId} {node : Node} (task : Task) (at : Units)
+  correction_bound : {device : DeviceId} {node : Node} (task : Task) (at : Units)
       → StandsAs s network device node → s.corrects_at ≡ Some at → IsCorrection network device node task
       → at.0 ≤ℤ reading_for network node task
   correction_bound (doing (correcting cycle)) at st e p =

@@ -44,7 +44,7 @@ best_same : (P : HeardFrame → Type 0) (old new : Summary) (ch : Channel) → n
 best_same P old new ch e h = subst (λ s. IfSome (best_on ch s) P) (sym e) h
 
 -- what holds of the best frames holds after one more frame, of which it holds where it was within
-pub kept : (P : HeardFrame → Type 0) (old new : Summary) (channel : Option Channel) (frame : Pcf) (point : Units) (within : Bool)
+kept : (P : HeardFrame → Type 0) (old new : Summary) (channel : Option Channel) (frame : Pcf) (point : Units) (within : Bool)
     → IsHeardSo old channel frame point within new
     → (within ≡ true → P (record { cycle = frame.cycle; members = frame.members; point = point })) → ((ch : Channel) → IfSome (best_on ch old) P)
     → (ch : Channel) → IfSome (best_on ch new) P
@@ -61,7 +61,7 @@ kept P old new (Some B) frame point true (best, is, e) new_is all B = best_same 
 all_three : (n l : ℕ) (x y z : ℤ) → (nat_le n l && (int_le x y && int_le y z)) ≡ true → (n ≤ l) × (x ≤ℤ y) × (y ≤ℤ z)
 all_three n l x y z e = (grind (arith, ints, e), grind (arith, ints, e), grind (arith, ints, e))
 
-pub within_in : (plan : SyncPlan) (precision : ℤ) (state : State) (adjustment point : ℤ) (cycle : ℕ) (members : Members)
+within_in : (plan : SyncPlan) (precision : ℤ) (state : State) (adjustment point : ℤ) (cycle : ℕ) (members : Members)
     → ripe_as (heard_as plan precision state adjustment point cycle members) ≡ ripe.Within
     → (is_timed state ≡ true) × ((cycle ≤ last_cycle) × ((expected_at plan cycle -ℤ precision) ≤ℤ (point +ℤ adjustment))
     × ((point +ℤ adjustment) ≤ℤ (expected_at plan cycle +ℤ precision)))
@@ -107,7 +107,7 @@ module _ {n c r e k p : ℕ} {point adjustment reading changed : ℤ}
         absurd (omega (arith, ints, more, a, b, d, f, g, i))
   ]
 
-  pub not_earlier : n ≤ c + 1
+  not_earlier : n ≤ c + 1
   not_earlier = elim (decide n (c + 1)) [
     | inl y ↦ y
     | inr n1 ↦
@@ -118,7 +118,7 @@ module _ {n c r e k p : ℕ} {point adjustment reading changed : ℤ}
 
 module _ {n c r e k p : ℕ} {point adjustment reading changed : ℤ}
     (h : IsHeardBefore n c r e k p point adjustment reading changed) where
-  pub behind : (point +ℤ adjustment) ≤ℤ ((pos (n * r) +ℤ pos e) +ℤ pos p)
+  behind : (point +ℤ adjustment) ≤ℤ ((pos (n * r) +ℤ pos e) +ℤ pos p)
   behind = grind (arith, mul-le-mul_right, not_later, ints)
 
   pub ahead : (pos (n * r) +ℤ pos e) ≤ℤ ((point +ℤ adjustment) +ℤ pos (2 * r))
@@ -153,7 +153,7 @@ some_link {network} accepted =
     let l = some_there (link_at network up.0) _ up.1 in
     (up.0, l.0, l.1)
 
-pub small_expected : (b : Bool) (d p q k : ℕ) → 2 * d + q + 10 * p ≤ k → (if b then d + (2 * p + q) else 2 * d + (2 * p + q)) + 8 * p ≤ k
+small_expected : (b : Bool) (d p q k : ℕ) → 2 * d + q + 10 * p ≤ k → (if b then d + (2 * p + q) else 2 * d + (2 * p + q)) + 8 * p ≤ k
 small_expected true d p q k h = omega (arith, h)
 small_expected false d p q k h = omega (arith, h)
 
@@ -167,7 +167,7 @@ from_units x n h e = omega (arith, ints, h, e)
 in_cycle : (k d p t s r : ℕ) → k + d + 4 * p + t ≤ s → s + 4 * p ≤ r → k ≤ r
 in_cycle k d p t s r a b = omega (arith, a, b)
 
-pub room : {network : Network} (device : DeviceId) → IsAccepted network
+room : {network : Network} (device : DeviceId) → IsAccepted network
     → HasRoom (amount network.cycle) (expected_by network device) (amount network.correction)
     (amount network.precision)
 room {network} device accepted =
@@ -222,10 +222,10 @@ timed_point Integrating number e = absurd cc
 timed_point Joining number e = refl
 timed_point Synchronised number e = refl
 
-pub times_three : (p : ℕ) (prec : ℤ) → prec ≡ pos p → (pos 3 *ℤ prec) ≡ pos (3 * p)
+times_three : (p : ℕ) (prec : ℤ) → prec ≡ pos p → (pos 3 *ℤ prec) ≡ pos (3 * p)
 times_three p prec e = omega (arith, ints, e)
 
-pub times_two : (p : ℕ) (prec : ℤ) → prec ≡ pos p → (pos 2 *ℤ prec) ≡ pos (2 * p)
+times_two : (p : ℕ) (prec : ℤ) → prec ≡ pos p → (pos 2 *ℤ prec) ≡ pos (2 * p)
 times_two p prec e = omega (arith, ints, e)
 
 -- a frame that is heard within its time before a correction point is fair
@@ -349,23 +349,23 @@ join_lower : (x p r : ℕ) (x' reading point adjustment changed p3 r2 : ℤ) →
     → changed ≡ (reading +ℤ adjustment) → p3 ≡ pos (3 * p) → r2 ≡ pos (2 * r) → 8 * p ≤ r → ((x' +ℤ p3) ≤ℤ (changed +ℤ r2)) × (x' ≤ℤ changed)
 join_lower x p r x' reading point adjustment changed p3 r2 a b c d e f g = (omega (arith, ints, a, b, c, d, e, f, g), omega (arith, ints, a, b, c, d, e, f, g))
 
-pub silent : (P : HeardFrame → Type 0) (heard : Summary) (ch : Channel) → heard ≡ silence → IfSome (best_on ch heard) P
+silent : (P : HeardFrame → Type 0) (heard : Summary) (ch : Channel) → heard ≡ silence → IfSome (best_on ch heard) P
 silent P heard A e = subst (λ s. IfSome (best_on A s) P) (sym e) tt
 silent P heard B e = subst (λ s. IfSome (best_on B s) P) (sym e) tt
 
-pub nothing_done : (cycle number : ℕ) → Contains {X = ClockTask} [] (correcting cycle) → cycle < number
+nothing_done : (cycle number : ℕ) → Contains {X = ClockTask} [] (correcting cycle) → cycle < number
 nothing_done cycle number (k, lt, at) = absurd (omega arith)
 
 -- a collector that has no points
-pub fresh_stands : (ow calc : ℤ) → StandsForPoints (fresh ow calc) [] []
+fresh_stands : (ow calc : ℤ) → StandsForPoints (fresh ow calc) [] []
 fresh_stands ow calc = record { done = []; clusters = tt; given = refl; past = λ k d lt. absurd (omega (arith, lt)) }
 
-pub fresh_collects : {old : Collecting} (collector : Collecting) {network : Network} {device : DeviceId}
+fresh_collects : {old : Collecting} (collector : Collecting) {network : Network} {device : DeviceId}
     {points : List Point} {emitted : List Compressed} → HasCollected old network device points emitted
     → collector ≡ fresh old.ow old.calc → HasCollected collector network device [] []
 fresh_collects collector h e = grind (arith, fresh_stands)
 
-pub site_due : {s : Switch} {network : Network} {device : DeviceId} {node : Node} (cycle : ℕ)
+site_due : {s : Switch} {network : Network} {device : DeviceId} {node : Node} (cycle : ℕ)
     (adjustment changed : ℤ) → StandsAs s network device node
     → correction_at s.site cycle adjustment changed ≡ reading_of (correction_value network cycle) adjustment changed
 site_due {s} {network} cycle adjustment changed st =
@@ -421,7 +421,7 @@ joins_stands {new} {network} {device} {node} {moment} {frame} {point} st may is 
 
 -- ---- where a correction point leaves a device
 
-pub next_small : (s new : Standing) (heard : Summary) (v : Verdict) → new ≡ after s (reached_point heard v) → IsSmall s.adjustment.0
+next_small : (s new : Standing) (heard : Summary) (v : Verdict) → new ≡ after s (reached_point heard v) → IsSmall s.adjustment.0
     → IfCorrected v (λ by. IsSmall new.adjustment.0) → IsSmall new.adjustment.0
 next_small s new heard (Corrected by) e small corrected = corrected
 next_small s new heard other e small corrected = subst (λ (t : Standing). IsSmall t.adjustment.0) (sym e) small
@@ -458,7 +458,7 @@ correction_low (Some a) (Some b) by low h k e = subst (λ z. low ≤ℤ z) (numb
 
 -- ---- parts
 
-pub and_then_same : {X Y : Type 0} (f g : X → Option Y) (o : Option X) → ((x : X) → f x ≡ g x) → option_and_then f o ≡ option_and_then g o
+and_then_same : {X Y : Type 0} (f g : X → Option Y) (o : Option X) → ((x : X) → f x ≡ g x) → option_and_then f o ≡ option_and_then g o
 and_then_same f g None h = refl
 and_then_same f g (Some x) h = h x
 
@@ -486,7 +486,7 @@ module _ {s new : Switch} {network : Network} {device : DeviceId} {node : Node} 
       subst (λ (x : Standing). IsSmall x.adjustment.0) same
       (next_small node.standing new.sync s.heard v same st.small h.small)
 
-pub silent_now : (heard : Summary) → heard ≡ silence → Summarizes heard []
+silent_now : (heard : Summary) → heard ≡ silence → Summarizes heard []
 silent_now heard e = subst (λ x. Summarizes x []) (sym e) silence_summarizes
 
 not_timed : is_timed Integrating ≡ true → ⊥

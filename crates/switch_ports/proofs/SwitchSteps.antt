@@ -357,7 +357,7 @@ both : (t c n l : ℕ) → (nat_le t c && nat_le n l) ≡ true → (t ≤ c) × 
 both t c n l e = grind (arith, e)
 
 -- what integrates a device in this state
-pub integrates_in : (plan : SyncPlan) (precision : ℤ) (state : State) (adjustment point : ℤ) (cycle : ℕ) (members : Members)
+integrates_in : (plan : SyncPlan) (precision : ℤ) (state : State) (adjustment point : ℤ) (cycle : ℕ) (members : Members)
     → ripe_as (heard_as plan precision state adjustment point cycle members) ≡ ripe.Integrates → (state ≡ Integrating)
     × ((plan.threshold ≤ count_of members) × (cycle ≤ last_cycle))
 integrates_in plan precision Off adjustment point cycle members e = absurd cc

@@ -94,7 +94,7 @@ PutsLines-still {lines} {a} c p none = record {
 }
 
 -- all of these lines are the first ones of them
-pub PutsSome-all : {lines : List (List ℕ)} {a b : Shown} → PutsLines lines a b → PutsSome lines a b
+PutsSome-all : {lines : List (List ℕ)} {a b : Shown} → PutsLines lines a b → PutsSome lines a b
 PutsSome-all {lines} p = record { done = lines; left = []; order = sym (append-nil lines); puts = p }
 
 -- lines were put, and then all was passed on, or that failed
