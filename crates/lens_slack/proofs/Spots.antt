@@ -153,7 +153,7 @@ tightest_as Has Other into back None none = λ n f other. none n f (back n f oth
 tightest_as Has Other into back (Some f) (n, is, first) = (n, into n f is, λ k g other. first k g (back k g other))
 
 -- the only one is the tightest
-only_one : (Has : ℕ → Finding → Type 0) (f : Finding) → Has 0 f → ((n : ℕ) (g : Finding) → Has n g → g ≡ f) → IsFirstTightest Has (Some f)
+pub only_one : (Has : ℕ → Finding → Type 0) (f : Finding) → Has 0 f → ((n : ℕ) (g : Finding) → Has n g → g ≡ f) → IsFirstTightest Has (Some f)
 only_one Has f is one = (0, is, λ k g has. before_itself 0 k f g (one k g has) (omega arith))
 
 -- ---- the one bound of a number at a spot with several, or none
@@ -320,7 +320,7 @@ module _ (network : Network) (tree : IsTree network) where
   pub one_at : (spot : BoundedNumber) (o p : Option Finding) → IsTightestAt network spot o → IsTightestAt network spot p → o ≡ p
   one_at spot o p is other = one_first (IsBoundAt network spot) (bound_one spot) o p is other
 
-  some_at : (spot : BoundedNumber) → ((o : Option Finding) → IsTightestAt network spot o → ⊥) → ⊥
+  pub some_at : (spot : BoundedNumber) → ((o : Option Finding) → IsTightestAt network spot o → ⊥) → ⊥
   some_at spot deny = some_first (IsBoundAt network spot) (bound_one spot) (bounds_of spot) (bound_within spot) deny
 
   pub found_one : (measure : Measure) → IsOneEach (IsFoundAt network measure)
@@ -330,7 +330,7 @@ module _ (network : Network) (tree : IsTree network) where
   pub one_of : (measure : Measure) (o p : Option Finding) → IsTightestOf network measure o → IsTightestOf network measure p → o ≡ p
   one_of measure o p is other = one_first (IsFoundAt network measure) (found_one measure) o p is other
 
-  some_of : (measure : Measure) → ((o : Option Finding) → IsTightestOf network measure o → ⊥) → ⊥
+  pub some_of : (measure : Measure) → ((o : Option Finding) → IsTightestOf network measure o → ⊥) → ⊥
   some_of measure deny = some_first (IsFoundAt network measure) (found_one measure) (spots_of measure network) (λ n f is. is.0) deny
 
   -- what is found at the spot of a number

@@ -24,10 +24,9 @@ use Rattle.schedule_checker.specs.{Judging.{BreaksAt, plan_rule}}
 use Rattle.schedule_checker.specs.{declared.{parts.PlanRule.PlanRule, refusal.RuleBroken.RuleBroken}}
 use Rattle.schedule_tables.specs.{Numbers.number_of, Rules.{IsFirstBroken, IsKept, IsKeptAt, KeepsBelow, KeepsRules}}
 use Rattle.schedule_tables.specs.declared.rule.Rule.{Rule}
-use Rattle.schedule_tables.specs.declared.rule.Rule.TheVariants
-use TheVariants.{BothChannels, CompressionMasters, Connections, Correction, Delays, DevicesDiffer, Forwarding, Joints}
-use TheVariants.{Limits, LinksDiffer, LinksOnce, Masters, Periods, Precision, RowsOfDevice, ScheduleStart, Senders}
-use TheVariants.{Settling, Sources, Spacing, Targets, VlIdsDiffer, VlNamesDiffer, WindowEnds}
+use rules.{BothChannels, CompressionMasters, Connections, Correction, Delays, DevicesDiffer, Forwarding, Joints}
+use rules.{Limits, LinksDiffer, LinksOnce, Masters, Periods, Precision, RowsOfDevice, ScheduleStart, Senders}
+use rules.{Settling, Sources, Spacing, Targets, VlIdsDiffer, VlNamesDiffer, WindowEnds}
 use Rattle.tte_forms.specs.{Answering.Answer, declared.status.Status.TheVariants.{Done, NetworkRefused}}
 use Rattle.tte_forms.specs.{networks.{Accepting.refused_answer, NetworkLine.file_reason}}
 use Rattle.tte_units.specs.declared.frames.channel.Channel.TheVariants.{A, B}
@@ -71,7 +70,7 @@ AllHold network [] = Unit {0}
 AllHold network (step ∷ steps) = Holds network step × AllHold network steps
 
 module _ (network : Network) (tree : IsTree network) where
-  measure_holds : (measure : Measure) (o : Option Finding) → IsTightestOf network measure o → IsMet o → Holds network (Measured measure)
+  pub measure_holds : (measure : Measure) (o : Option Finding) → IsTightestOf network measure o → IsMet o → Holds network (Measured measure)
   measure_holds measure o is met f tightest = subst IsMet (one_of network tree measure o (Some f) is tightest) met
 
   steps_hold : (steps : List Step) (fs : List Finding) → AreOf network steps fs Whole → shorts_of fs ≡ 0 → AllHold network steps
@@ -87,7 +86,7 @@ module _ (network : Network) (tree : IsTree network) where
       (tt, steps_hold steps others rest (omega (arith, both, whole)))
 
   -- a rule is kept where the tightest of each of its measures is enough
-  met_kept : (rule : Rule) (place : ℕ) → IsInequality rule
+  pub met_kept : (rule : Rule) (place : ℕ) → IsInequality rule
       → ((measure : Measure) → rule_of measure ≡ rule → (f : Finding) → IsTightestOf network measure (Some f) → IsEnough f) → IsKeptAt rule network place
   met_kept rule place is met =
       (bounds_decide network rule place is).1
@@ -136,7 +135,7 @@ module _ (network : Network) (shape : KeepsBelow 8 network) (h : AllHold network
   each RowsOfDevice = h.1.1.1.1.1.1.1.1.1.1.1.1.1.1.1.1.1.0
 
 -- all rules are kept where those of the shape are, and all steps hold
-rules_kept : (network : Network) → KeepsBelow 8 network → AllHold network all_steps → KeepsRules network
+pub rules_kept : (network : Network) → KeepsBelow 8 network → AllHold network all_steps → KeepsRules network
 rules_kept network shape h =
     let tree = tree_of rules_give_trees network shape in
     let met : (rule : Rule) → IsInequality rule → IsKept rule network =
@@ -145,18 +144,18 @@ rules_kept network shape h =
 
 -- ---- what is found where all rules are kept
 
-rule_inequality : (measure : Measure) → IsInequality (rule_of measure)
+pub rule_inequality : (measure : Measure) → IsInequality (rule_of measure)
 rule_inequality measures.Paths = tt
 rule_inequality measure = tt
 
 -- a bound of a measure's spot is enough where its rule is kept there
-kept_enough : (network : Network) (measure : Measure) (n : ℕ) (f : Finding) → IsKeptAt (rule_of measure) network (spot_index (spot_at measure n))
+pub kept_enough : (network : Network) (measure : Measure) (n : ℕ) (f : Finding) → IsKeptAt (rule_of measure) network (spot_index (spot_at measure n))
     → IsTightestAt network (spot_at measure n) (Some f) → IsEnough f
 kept_enough network measure n f kept tightest =
     let spot = spot_at measure n in
     (bounds_decide network (rule_of measure) (spot_index spot) (rule_inequality measure)).0 kept spot tightest.0 f (number_spot network measure n) tightest.1
 
-tightest_enough : (network : Network) (measure : Measure) (f : Finding) → IsKept (rule_of measure) network → IsTightestOf network measure (Some f)
+pub tightest_enough : (network : Network) (measure : Measure) (f : Finding) → IsKept (rule_of measure) network → IsTightestOf network measure (Some f)
     → IsEnough f
 tightest_enough network measure f kept (n, is, first) = kept_enough network measure n f (kept (spot_index (spot_at measure n))) is.1
 
@@ -332,7 +331,7 @@ module _ (network : Network) (tree : IsTree network) (others : KeepsOthers netwo
   }
 
   -- a measure is short, or all steps hold
-  short_or : (n : ℕ) (steps : List Step) (fs : List Finding) (end : Ending) → Rises n steps → AreOf network steps fs end
+  pub short_or : (n : ℕ) (steps : List Step) (fs : List Finding) (end : Ending) → Rises n steps → AreOf network steps fs end
       → ShortMeasure network steps fs ⊎ AllHold network steps
   short_or n [] fs end rises are = inr tt
   short_or n (Judged rule ∷ steps) fs end rises (inl (kept, rest)) = elim (short_or n steps fs end rises.1 rest) [
@@ -349,7 +348,7 @@ module _ (network : Network) (tree : IsTree network) (others : KeepsOthers netwo
   ]
   short_or n (Listed measure ∷ steps) fs end rises are = absurd rises
 
-all_in : (measure : Measure) → IsIn measure all_steps
+pub all_in : (measure : Measure) → IsIn measure all_steps
 all_in measures.Paths = inl refl
 all_in measures.Settled = inr (inl refl)
 all_in measures.Precision = inr (inr (inl refl))
@@ -364,7 +363,7 @@ all_in measures.Comings = inr (inr (inr (inr (inr (inr (inr (inr (inl refl))))))
 no : ⊥ → ⊥
 no is = is
 
-all_rise : Rises 0 all_steps
+pub all_rise : Rises 0 all_steps
 all_rise = grind (arith, no)
 
 -- ---- by each place of a rule: the spot that is short, where those before it are not
@@ -454,7 +453,7 @@ module _ (network : Network) (tree : IsTree network) where
   later_listed measure steps f short = record { measure = short.measure; listed = inr short.listed; spot = short.spot }
 
   -- a spot of what the steps list is short, or all are enough
-  listed_or : (steps : List Step) (fs : List Finding) (end : Ending) → KeepsOthers network → NoneMeasured steps → AreOf network steps fs end
+  pub listed_or : (steps : List Step) (fs : List Finding) (end : Ending) → KeepsOthers network → NoneMeasured steps → AreOf network steps fs end
       → FoundShort (ShortListed network steps) fs
       ⊎ ((measure : Measure) → IsListedIn measure steps → AreMet network measure 0 (spots_of measure network))
   listed_or [] fs end others none are = inr (λ measure is. absurd is)
@@ -491,12 +490,12 @@ module _ (network : Network) (tree : IsTree network) where
       ]
 
 -- a rule's steps list each of its measures
-lists_own : (measure : Measure) → IsListedIn measure (rule_steps (rule_of measure))
+pub lists_own : (measure : Measure) → IsListedIn measure (rule_steps (rule_of measure))
 lists_own measures.End = inr (inl refl)
 lists_own measure = inl refl
 
 -- and no other
-lists_only : (rule : Rule) (measure : Measure) → IsInequality rule → IsListedIn measure (rule_steps rule) → rule_of measure ≡ rule
+pub lists_only : (rule : Rule) (measure : Measure) → IsInequality rule → IsListedIn measure (rule_steps rule) → rule_of measure ≡ rule
 lists_only Delays measure is (inl same) = ap rule_of same
 lists_only Settling measure is (inl same) = ap rule_of same
 lists_only rules.Precision measure is (inl same) = ap rule_of same
@@ -516,7 +515,7 @@ lists_only Spacing measure is (inr none) = absurd none
 lists_only Forwarding measure is (inr none) = absurd none
 lists_only other measure is listed = absurd is
 
-none_measured : (rule : Rule) → IsInequality rule → NoneMeasured (rule_steps rule)
+pub none_measured : (rule : Rule) → IsInequality rule → NoneMeasured (rule_steps rule)
 none_measured Delays is = tt
 none_measured Settling is = tt
 none_measured rules.Precision is = tt
