@@ -311,7 +311,7 @@ abbrev third_of : List ℕ → ℕ
 third_of (a ∷ b ∷ d ∷ rest) = d
 third_of other = 0
 
-abbrev first_of : List ℕ → ℕ
+abbrev pub first_of : List ℕ → ℕ
 first_of (a ∷ rest) = a
 first_of other = 0
 

@@ -225,7 +225,7 @@ abbrev pub IsByRow : Scenario → List Happening → LinkId → List LeavingRow 
 IsByRow s hs link rows i o = (i < length rows) × IsBy s hs link (slice_index_or rows i no_row) o
 
 module _ (s : Scenario) (hs : List Happening) (until n : ℕ) (link : LinkId) (rows : List LeavingRow) where
-  by_some : AreRowsOn s.network link rows → length rows ≤ n → (o : Debt) → IsDispatchDebtOn link o → IsOwed s hs until o
+  pub by_some : AreRowsOn s.network link rows → length rows ≤ n → (o : Debt) → IsDispatchDebtOn link o → IsOwed s hs until o
       → IsOfFirst (IsByRow s hs link rows) n o
   by_some are all (debts.dispatch o) on owed =
       let does = owed.dispatches in

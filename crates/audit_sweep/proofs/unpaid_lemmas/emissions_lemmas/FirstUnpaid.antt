@@ -318,7 +318,7 @@ emission_within s hs until device (debts.emission other sent) is owed =
 emission_within s hs until device other is owed = absurd is
 
 -- what is owed of a device by its debts
-owed_by : {s : Scenario} {hs : List Happening} {until : ℕ} {device other : DeviceId} {sent : Compressed}
+pub owed_by : {s : Scenario} {hs : List Happening} {until : ℕ} {device other : DeviceId} {sent : Compressed}
     → other ≡ device → (owed : OwesEmission s hs until other sent) → OwesAt s hs until device sent owed.time
 owed_by {s} {hs} {until} {sent} is owed =
     subst (λ (d : DeviceId). OwesAt s hs until d sent owed.time) is
@@ -444,7 +444,7 @@ has_parts : (s : Scenario) (hs : List Happening) (until : ℕ) (d : DeviceId) (c
     → HasParts (OwesBehind s hs until d collections e k) (OwesBehind s hs until d collections e (k + 1)) (OwesHere s hs until d collections e k a)
 has_parts s hs until d collections e k a is = grind (arith, cases_lt, slice_get, same_sent, further)
 
-none_more : (r : Option ℕ) → earlier_of r None ≡ r
+pub none_more : (r : Option ℕ) → earlier_of r None ≡ r
 none_more None = refl
 none_more (Some t) = refl
 
@@ -534,7 +534,7 @@ module _ (s : Scenario) (hs : List Happening) (until : ℕ) (d : DeviceId) (coll
           let reached = reach.reached in
           omega (arith, ints, before, reached, low)
 
-past : {X : Type 0} (xs : List X) (i : ℕ) (x : X) → length xs ≤ i → slice_get xs i ≡ Some x → ⊥
+pub past : {X : Type 0} (xs : List X) (i : ℕ) (x : X) → length xs ≤ i → slice_get xs i ≡ Some x → ⊥
 past [] i x le e = cc
 past (y ∷ ys) zero x le e = omega (arith, le)
 past (y ∷ ys) (suc i) x le e = past ys i x (omega (arith, le)) e

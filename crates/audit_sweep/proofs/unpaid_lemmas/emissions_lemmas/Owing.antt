@@ -153,7 +153,7 @@ same_units : (a b : Units) → amount a ≡ amount b → sign a.0 ≡ sign b.0 �
 same_units a b amounts signs = grind (arith, unsigned_abs)
 
 -- what stands at the place of an emission tells of it
-told_at : (u m t : ℕ) (d : DeviceId) (sent : Compressed) (body : NoteBody) → place_at u m body ≡ emission_place t d sent → TellsEmission d sent body
+pub told_at : (u m t : ℕ) (d : DeviceId) (sent : Compressed) (body : NoteBody) → place_at u m body ≡ emission_place t d sent → TellsEmission d sent body
 told_at u m t d sent (notes.Event line what) e = absurd cc
 told_at u m t d sent (notes.Arrived device link cause clock) e = absurd cc
 told_at u m t d sent (notes.Permanent device link cause point verdict) e = absurd cc
