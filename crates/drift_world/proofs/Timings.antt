@@ -574,17 +574,17 @@ module _ {C M : Type 0} {reading : C → ℕ → ℕ} {stands : Meaning M} {netw
   pub set_both : device.0 < length network.device → IsRipeTimed reading mid.timers mid device → SetsOnly (λ slot. slot ≡ device.0) old mid
       → IsActTimed reading stands network new.timers new device → SetsOnly (λ slot. slot ≡ length network.device + device.0) mid new
       → IsRekeyed reading stands network device old new
-  set_both there ripe first act then = record {
+  set_both there ripe first act second = record {
     sets = record {
-      same = then.same ∙ ap (λ s. let k : State C M = record s { timers = new.timers } in k) first.same;
-      sized = then.sized ∙ first.sized;
-      others = λ slot apart. then.others slot (λ e. apart (inr e)) ∙ first.others slot (λ e. apart (inl e));
-      later = λ all. then.later (first.later all);
+      same = second.same ∙ ap (λ s. let k : State C M = record s { timers = new.timers } in k) first.same;
+      sized = second.sized ∙ first.sized;
+      others = λ slot apart. second.others slot (λ e. apart (inr e)) ∙ first.others slot (λ e. apart (inl e));
+      later = λ all. second.later (first.later all);
     };
     timed = record {
-      ripe = ripe_stays stands network mid new ripe (ap State.clocks then.same) (ap State.time then.same)
-          (λ w at. waits_as mid new (ap State.waiting then.same) w)
-          (then.others device.0 (λ e. omega arith));
+      ripe = ripe_stays stands network mid new ripe (ap State.clocks second.same) (ap State.time second.same)
+          (λ w at. waits_as mid new (ap State.waiting second.same) w)
+          (second.others device.0 (λ e. omega arith));
       act = act;
     };
   }

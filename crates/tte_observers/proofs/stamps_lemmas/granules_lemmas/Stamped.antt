@@ -285,32 +285,32 @@ near granule s mark ns line later d e in_run of too one other le =
   where
     by : (t u : ℕ) → line.time ≡ t → later.time ≡ u
         → shown_at s.network line d ≤ℤ (shown_at s.network later e +ℤ (s.network.precision.0 +ℤ s.network.precision.0))
-    by zero zero now then =
+    by zero zero now behind =
         let hs = happenings s.network ns in
         let least = in_run.lawful.range.precision.least in
         let small = (has_sizes in_run.lawful).small in
         let first = (at_start s mark hs line d in_run.lawful of one now).1 in
-        let second = (at_start s mark hs later e in_run.lawful too other then).0 in
+        let second = (at_start s mark hs later e in_run.lawful too other behind).0 in
         omega (arith, ints, first, second, small.start, least)
-    by zero (suc u) now then =
+    by zero (suc u) now behind =
         let hs = happenings s.network ns in
         let sizes = has_sizes in_run.lawful in
         let small = sizes.small in
-        let next : later.time ≡ u + 1 = omega (arith, then) in
+        let next : later.time ≡ u + 1 = omega (arith, behind) in
         let first = (at_start s mark hs line d in_run.lawful of one now).1 in
         let second = just_before s mark hs later e in_run.lawful too other u next in
         let up = run_before ns u in_run.lawful in_run.run too next in
         let above = not_behind sizes.path up sizes.beta second.in_step in
         omega (arith, ints, first, second.least, above, small.start, small.error)
-    by (suc w) zero now then = absurd (omega (arith, now, then, le))
-    by (suc w) (suc u) now then =
+    by (suc w) zero now behind = absurd (omega (arith, now, behind, le))
+    by (suc w) (suc u) now behind =
         let hs = happenings s.network ns in
         let small = (has_sizes in_run.lawful).small in
-        let next : later.time ≡ u + 1 = omega (arith, then) in
+        let next : later.time ≡ u + 1 = omega (arith, behind) in
         let first = just_before s mark hs line d in_run.lawful of one w (omega (arith, now)) in
         let second = just_before s mark hs later e in_run.lawful too other u next in
         let up = run_before ns u in_run.lawful in_run.run too next in
-        let fall = never_fall s mark ns u up w u d e (local s hs d w) (local s hs e u) (omega (arith, now, then, le)) (omega arith)
+        let fall = never_fall s mark ns u up w u d e (local s hs d w) (local s hs e u) (omega (arith, now, behind, le)) (omega arith)
         (inl (first.in_step, refl)) (inl (second.in_step, refl)) in
         omega (arith, ints, first.most, second.least, fall, small.step)
 

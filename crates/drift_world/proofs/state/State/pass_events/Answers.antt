@@ -1,4 +1,4 @@
-use Rattle.drift_world.proofs.{BefallenLaws.befallen_behind, Fits.sound_same, Turning.plain_step}
+use Rattle.drift_world.proofs.{BefallenLaws.befallen_behind, Signals.sound_same, Turning.plain_step}
 use Rattle.drift_world.proofs.Words.{◌≡◌, ap, arith, eqb-true, length, refl, subst, sym}
 use Rattle.drift_world.proofs.state.State.pass_events.Goals as goal
 use Rattle.std.proofs.lemmas.List.{nil_from_length}
